@@ -1,0 +1,185 @@
+-- Each number of document 01's "The memory" and its ranges, once. An offset is the one before it plus that field's width, so a field more, or a
+-- wider one, moves what follows it.
+use Prim.Native.Nat.{ℕ, _+_, _*_, _-_}
+use Rattle.model.specs.Word.{wordLimit}
+use Rattle.model.specs.State.{Sizes, laneCount}
+
+-- ---- ranges
+
+abbrev pub maxCabinets : ℕ
+maxCabinets = 8
+
+abbrev pub maxPlaces : ℕ
+maxPlaces = 8
+
+abbrev pub maxSlots : ℕ
+maxSlots = 1024
+
+abbrev pub maxCode : ℕ
+maxCode = 9999999999999
+
+abbrev pub maxDeposit : ℕ
+maxDeposit = 100000
+
+abbrev pub maxMaterial : ℕ
+maxMaterial = 7
+
+-- the kinds of quiescent states: 0 idle, 1 bottle dropped, 2 door open, 3 changed over
+abbrev pub kinds : ℕ
+kinds = 4
+
+-- one more than the largest quiescent count
+abbrev pub countLimit : ℕ
+countLimit = wordLimit
+
+-- the number of chains
+abbrev pub chainCount : ℕ
+chainCount = 64
+
+-- ---- contents, 12 words: addresses in the memory
+
+abbrev pub version : ℕ
+version = 1
+
+abbrev pub versionAt : ℕ
+versionAt = 0
+
+abbrev pub cabinetsAt : ℕ
+cabinetsAt = versionAt + 1
+
+abbrev pub placesAt : ℕ
+placesAt = cabinetsAt + 1
+
+abbrev pub slotsAt : ℕ
+slotsAt = placesAt + 1
+
+-- first word and length of the four bodies
+abbrev pub bodiesAt : ℕ
+bodiesAt = slotsAt + 1
+
+abbrev pub contentsLength : ℕ
+contentsLength = bodiesAt + 2 * 4
+
+-- ---- queues in a record: a queue keeps its first and its last; next, current and done follow each other
+
+abbrev pub lastOffset : ℕ
+lastOffset = 1
+
+abbrev pub queueWidth : ℕ
+queueWidth = lastOffset + 1
+
+abbrev pub currentOffset : ℕ
+currentOffset = queueWidth
+
+abbrev pub doneOffset : ℕ
+doneOffset = currentOffset + queueWidth
+
+abbrev pub queuesWidth : ℕ
+queuesWidth = doneOffset + queueWidth
+
+-- ---- the global body ("house"), 76 words: addresses in the memory
+
+abbrev pub globalBody : ℕ
+globalBody = contentsLength
+
+abbrev pub currentGenerationAt : ℕ
+currentGenerationAt = globalBody
+
+-- the largest generation requested
+abbrev pub largestGenerationAt : ℕ
+largestGenerationAt = currentGenerationAt + 1
+
+abbrev pub cabinetMaskAt : ℕ
+cabinetMaskAt = largestGenerationAt + 1
+
+abbrev pub headsAt : ℕ
+headsAt = cabinetMaskAt + 1
+
+-- the ends of the free queue
+abbrev pub freeAt : ℕ
+freeAt = headsAt + chainCount
+
+-- the ends of the global next, current and done queues
+abbrev pub globalQueuesAt : ℕ
+globalQueuesAt = freeAt + queueWidth
+
+abbrev pub globalGenerationAt : ℕ
+globalGenerationAt = globalQueuesAt + queuesWidth
+
+abbrev pub globalLength : ℕ
+globalLength = globalGenerationAt + 1 - globalBody
+
+-- ---- the cabinets' body: a lane mask each
+
+abbrev pub masksAt : ℕ
+masksAt = globalBody + globalLength
+
+-- ---- a lane's record, 19 words: offsets
+
+-- bit 0 on, 1 section open, 2 lookup running, 3 snapshot held
+abbrev pub flagsAt : ℕ
+flagsAt = 0
+
+abbrev pub quiescentAt : ℕ
+quiescentAt = flagsAt + 1
+
+abbrev pub snapshotAt : ℕ
+snapshotAt = quiescentAt + kinds
+
+abbrev pub generationAt : ℕ
+generationAt = snapshotAt + kinds
+
+-- the ends of the lane's next, current and done queues
+abbrev pub queuesAt : ℕ
+queuesAt = generationAt + 1
+
+-- the lookup's code, low word and high word, and its position
+abbrev pub lookupAt : ℕ
+lookupAt = queuesAt + queuesWidth
+
+abbrev pub positionAt : ℕ
+positionAt = lookupAt + 2
+
+abbrev pub laneLength : ℕ
+laneLength = positionAt + 1
+
+-- ---- a slot's record, 6 words: offsets
+
+-- the code, low word and high word
+abbrev pub codeAt : ℕ
+codeAt = 0
+
+abbrev pub depositAt : ℕ
+depositAt = codeAt + 2
+
+abbrev pub materialAt : ℕ
+materialAt = depositAt + 1
+
+-- the chain link
+abbrev pub chainLinkAt : ℕ
+chainLinkAt = materialAt + 1
+
+-- the queue link ("line link")
+abbrev pub queueLinkAt : ℕ
+queueLinkAt = chainLinkAt + 1
+
+abbrev pub slotLength : ℕ
+slotLength = queueLinkAt + 1
+
+-- ---- the bodies, one after another
+
+abbrev pub lanesBody : Sizes → ℕ
+lanesBody z = masksAt + z .cabinets
+
+abbrev pub laneAddress : Sizes → ℕ → ℕ
+laneAddress z i = lanesBody z + laneLength * i
+
+abbrev pub slotsBody : Sizes → ℕ
+slotsBody z = lanesBody z + laneLength * laneCount z
+
+abbrev pub slotAddress : Sizes → ℕ → ℕ
+slotAddress z i = slotsBody z + slotLength * i
+
+-- the number of words of a table
+abbrev pub total : Sizes → ℕ
+total z = slotsBody z + slotLength * z .slots

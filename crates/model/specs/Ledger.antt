@@ -1,0 +1,209 @@
+-- Document 01, "The ledger of demand 3": the ledger, fed with calls and their answers and nothing from the memory, and the demand.
+use Prim.Native.Nat.{ℕ, suc, _+_, _≤_}
+use mathlib.Core.Path.{_≡_}
+use mathlib.Core.Bool.{Bool, true, false, cond, _&&_, _||_}
+use mathlib.Core.List.{List, [], _∷_, _++_, List·Memᴰ}
+use lib.ListN.{length, take}
+use lib.Dec.{eqb}
+use Rattle.model.specs.Lists.{drops}
+use Rattle.model.specs.Layout.{codeAt, depositAt, materialAt, slotAddress}
+use Rattle.model.specs.Memory.{at, wide, sizes}
+use Rattle.model.specs.Rules.{Op, add, replace, delete, begin, end, start, step, pass, clock, on, off, hand-back, awaited, Answer, accepted}
+use Rattle.model.specs.Calls.{Call, set-up, on-state, reply, left, leftAll}
+
+-- ---- the ledger
+
+-- a read-side section, by its lane and the instant at which it was opened
+pub record Section : Type 0 where
+  pub lane : ℕ
+  pub opened : ℕ
+
+-- a code of the table, with its slot and values
+pub record Entry : Type 0 where
+  pub code : ℕ
+  pub slot : ℕ
+  pub deposit : ℕ
+  pub material : ℕ
+
+-- a lane's lookup that has no answer yet: code and instant of its start
+pub record Search : Type 0 where
+  pub lane : ℕ
+  pub code : ℕ
+  pub started : ℕ
+
+-- a slot that is out, with every section open at its removal
+pub record Out : Type 0 where
+  pub slot : ℕ
+  pub sections : List Section
+
+-- at most one entry a code, the open sections, the lookups without an answer, and the slots that are out
+pub record Ledger : Type 0 where
+  pub entries : List Entry
+  pub sections : List Section
+  pub searches : List Search
+  pub outs : List Out
+
+-- the ledger at instant 0, the end of the set-up
+abbrev pub empty : Ledger
+empty = record { entries = []; sections = []; searches = []; outs = [] }
+
+abbrev pub ofCode : ℕ → Entry → Bool
+ofCode c e = eqb (e .code) c
+
+abbrev pub sectionOf : ℕ → Section → Bool
+sectionOf i x = eqb (x .lane) i
+
+abbrev pub searchOf : ℕ → Search → Bool
+searchOf i q = eqb (q .lane) i
+
+abbrev pub ofSlot : ℕ → Out → Bool
+ofSlot x o = eqb (o .slot) x
+
+-- the entry is made, in place of the code's earlier one
+abbrev pub entryMade : Entry → Ledger → Ledger
+entryMade e g = record { entries = e ∷ drops (ofCode (e .code)) (g .entries); sections = g .sections; searches = g .searches; outs = g .outs }
+
+-- the code's entry is struck
+abbrev pub entryStruck : ℕ → Ledger → Ledger
+entryStruck c g = record { entries = drops (ofCode c) (g .entries); sections = g .sections; searches = g .searches; outs = g .outs }
+
+-- the slot is out, with every section open now, of any lane
+abbrev pub slotOut : ℕ → Ledger → Ledger
+slotOut x g = record { entries = g .entries; sections = g .sections; searches = g .searches; outs = record { slot = x; sections = g .sections } ∷ drops (ofSlot x) (g .outs) }
+
+-- the slot is out no longer
+abbrev pub slotBack : ℕ → Ledger → Ledger
+slotBack x g = record { entries = g .entries; sections = g .sections; searches = g .searches; outs = drops (ofSlot x) (g .outs) }
+
+-- a new section of lane i is opened at instant k
+abbrev pub sectionOpened : ℕ → ℕ → Ledger → Ledger
+sectionOpened i k g = record { entries = g .entries; sections = record { lane = i; opened = k } ∷ g .sections; searches = g .searches; outs = g .outs }
+
+-- lane i's open section is ended
+abbrev pub sectionEnded : ℕ → Ledger → Ledger
+sectionEnded i g = record { entries = g .entries; sections = drops (sectionOf i) (g .sections); searches = g .searches; outs = g .outs }
+
+-- q becomes the lookup of its lane
+abbrev pub searchNoted : Search → Ledger → Ledger
+searchNoted q g = record { entries = g .entries; sections = g .sections; searches = q ∷ drops (searchOf (q .lane)) (g .searches); outs = g .outs }
+
+-- lane i's lookup is answered
+abbrev pub searchAnswered : ℕ → Ledger → Ledger
+searchAnswered i g = record { entries = g .entries; sections = g .sections; searches = drops (searchOf i) (g .searches); outs = g .outs }
+
+-- a step's answer with outcome 1 or 2
+abbrev pub isAnswer : Answer → Bool
+isAnswer r = eqb (r .status) 0 && (eqb (r .a) 1 || eqb (r .a) 2)
+
+abbrev pub entryOf : ℕ → ℕ → ℕ → ℕ → Entry
+entryOf c x d m = record { code = c; slot = x; deposit = d; material = m }
+
+-- what a call of status 0 and answer r does to the ledger; k is its instant
+unfoldable pub fed : ℕ → Op → Answer → Ledger → Ledger
+fed k (add i c d m) r g = entryMade (entryOf c (r .a) d m) g
+fed k (replace i c d m) r g = slotOut (r .b) (entryMade (entryOf c (r .a) d m) g)
+fed k (delete i c) r g = slotOut (r .a) (entryStruck c g)
+fed k (begin i) r g = sectionOpened i k g
+fed k (end i) r g = sectionEnded i g
+fed k (start i c) r g = searchNoted (record { lane = i; code = c; started = k }) g
+fed k (step i) r g = cond (isAnswer r) (searchAnswered i g) g
+fed k (hand-back i) r g = slotBack (r .a) g
+fed k (pass i n) r g = g
+fed k (clock i) r g = g
+fed k (on i) r g = g
+fed k (off i) r g = g
+fed k awaited r g = g
+
+-- a call of status other than 0 changes nothing
+unfoldable pub fedCall : ℕ → Call → Answer → Ledger → Ledger
+fedCall k (set-up c p n) r g = g
+fedCall k (on-state o) r g = cond (eqb (r .status) 0) (fed k o r g) g
+
+-- a call of the list, with its answer
+pub record Event : Type 0 where
+  pub call : Call
+  pub answer : Answer
+
+-- the ledger g of instant k, fed with the events that follow
+unfoldable pub ledgerFrom : ℕ → Ledger → List Event → Ledger
+ledgerFrom k g [] = g
+ledgerFrom k g (e ∷ es) = ledgerFrom (suc k) (fedCall (suc k) (e .call) (e .answer) g) es
+
+-- the ledger after a list's events; instant k is the end of the k-th
+abbrev pub ledger : List Event → Ledger
+ledger es = ledgerFrom 0 empty es
+
+-- a whole search for a code among the entries
+unfoldable pub searchIn : ℕ → List Entry → Answer
+searchIn c [] = accepted 2 0 0 0
+searchIn c (e ∷ es) = cond (ofCode c e) (accepted 1 (e .slot) (e .deposit) (e .material)) (searchIn c es)
+
+abbrev pub search : Ledger → ℕ → Answer
+search g c = searchIn c (g .entries)
+
+-- the events of a list of calls on a memory
+unfoldable pub events : List ℕ → List Call → List Event
+events m [] = []
+events m (k ∷ ks) = record { call = k; answer = reply m k } ∷ events (left m k) ks
+
+-- ---- the demand
+
+-- event e of the list h came after the events `before`
+pub record Came (h : List Event) (e : Event) : Type 0 where
+  pub before : List Event
+  pub rest : List Event
+  pub all : h ≡ before ++ e ∷ rest
+
+-- the answered lookup: what its lane had noted, and an instant, from the start's to the one before the answering step, whose whole search is the answer
+pub record Explained (h : List Event) (i : ℕ) (r : Answer) (before : List Event) : Type 0 where
+  pub noted : Search
+  pub isNoted : List·Memᴰ noted (ledger before .searches)
+  pub ofLane : noted .lane ≡ i
+  pub instant : ℕ
+  pub notBefore : noted .started ≤ instant
+  pub notAfter : instant ≤ length before
+  pub whole : r ≡ search (ledger (take instant h)) (noted .code)
+
+-- slot x of the memory m holds code c and these values
+pub record Holds (m : List ℕ) (x c d k : ℕ) : Type 0 where
+  pub code : wide m (slotAddress (sizes m) x + codeAt) ≡ c
+  pub deposit : at m (slotAddress (sizes m) x + depositAt) ≡ d
+  pub material : at m (slotAddress (sizes m) x + materialAt) ≡ k
+
+-- while the finder's section has not ended, the found slot holds the code looked for, and the deposit and material answered; m is the memory after h
+pub record Kept (h : List Event) (m : List ℕ) (i : ℕ) (r : Answer) (before : List Event) : Type 0 where
+  pub finder : Section
+  pub isOpen : List·Memᴰ finder (ledger before .sections)
+  pub ofLane : finder .lane ≡ i
+  pub holds : (q : Search) → List·Memᴰ q (ledger before .searches) → q .lane ≡ i → List·Memᴰ finder (ledger h .sections) → Holds m (r .b) (q .code) (r .c) (r .d)
+
+-- the slot handed back was out, and each section open at its removal had ended
+pub record Returned (r : Answer) (before : List Event) : Type 0 where
+  pub out : Out
+  pub isOut : List·Memᴰ out (ledger before .outs)
+  pub ofSlot : out .slot ≡ r .a
+  pub over : (x : Section) → List·Memᴰ x (out .sections) → List·Memᴰ x (ledger before .sections) → ⊥
+
+abbrev pub stepEvent : ℕ → Answer → Event
+stepEvent i r = record { call = on-state (step i); answer = r }
+
+abbrev pub handBackEvent : ℕ → Answer → Event
+handBackEvent i r = record { call = on-state (hand-back i); answer = r }
+
+-- the demand on one list of calls, with the events h and the memory m after it
+pub record Demand (h : List Event) (m : List ℕ) : Type 0 where
+  pub explained : (i : ℕ) (r : Answer) (c : Came h (stepEvent i r)) → isAnswer r ≡ true → Explained h i r (c .before)
+  pub kept : (i : ℕ) (r : Answer) (c : Came h (stepEvent i r)) → r .status ≡ 0 → r .a ≡ 1 → Kept h m i r (c .before)
+  pub returned : (i : ℕ) (r : Answer) (c : Came h (handBackEvent i r)) → r .status ≡ 0 → Returned r (c .before)
+
+-- each set-up of the list is refused: an accepted one ends the list
+unfoldable pub RefusesSetUps : List ℕ → List Call → Type 0
+RefusesSetUps m [] = Unit {0}
+RefusesSetUps m (set-up c p n ∷ ks) = (reply m (set-up c p n) .status ≡ 0 → ⊥) × RefusesSetUps (left m (set-up c p n)) ks
+RefusesSetUps m (on-state o ∷ ks) = RefusesSetUps (left m (on-state o)) ks
+
+-- demand 3, whole: over every accepted set-up of any memory, and every list of calls after it
+abbrev pub Demand3 : Type 0
+Demand3 =
+    (m : List ℕ) (c p n : ℕ) → reply m (set-up c p n) .status ≡ 0
+    → (ks : List Call) → let m₀ = left m (set-up c p n) in RefusesSetUps m₀ ks → Demand (events m₀ ks) (leftAll m₀ ks)

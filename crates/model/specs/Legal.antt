@@ -1,0 +1,223 @@
+-- When a memory is legal: document 01, "The memory", last paragraph, a definition a sentence in its order. Sentences that speak of chains,
+-- queues and lanes are about the state that the memory reads as; the others are about its words.
+use Prim.Native.Nat.{ℕ, _+_, _*_, _%_, _^_}
+use mathlib.Core.Bool.{Bool, true, false, not, cond, _&&_, _||_}
+use mathlib.Core.List.{List, [], _∷_, _++_, map}
+use lib.ListN.{length, getD, take}
+use lib.Dec.{leb, ltb, eqb}
+use Rattle.model.specs.Word.{none, up, down, later}
+use Rattle.model.specs.Lists.{all, every, isEmpty, from, last, concat, count, member, same, distinct}
+use Rattle.model.specs.State.{Sizes, laneCount, isRunning, isHeld, Queues, Lane, Engine, Product, Table, State}
+use Rattle.model.specs.Layout.{maxCabinets, maxPlaces, maxSlots, kinds, chainCount, contentsLength, lastOffset, queueWidth, queuesWidth, currentOffset, doneOffset, cabinetMaskAt, headsAt, freeAt, globalQueuesAt, flagsAt, snapshotAt, queuesAt, lookupAt, positionAt, codeAt, depositAt, materialAt, chainLinkAt, queueLinkAt, laneAddress, slotAddress, total}
+use Rattle.model.specs.Engine.{laneAt}
+use Rattle.model.specs.Table.{productAt, chainNumber}
+use Rattle.model.specs.Rules.{wrongCode, wrongProduct}
+use Rattle.model.specs.Memory.{at, wide, sizes, laneWord, slotWord, maskWord, state, contents, allQueues, flag}
+
+-- cabinets 1 to 8, lanes per cabinet 1 to 8, slots 1 to 1,024
+unfoldable pub sizesFit : Sizes → Bool
+sizesFit z =
+    every (leb 1 (z .cabinets) ∷ leb (z .cabinets) maxCabinets ∷ leb 1 (z .places) ∷ leb (z .places) maxPlaces ∷ leb 1 (z .slots) ∷ leb (z .slots) maxSlots ∷ [])
+
+abbrev pub implies : Bool → Bool → Bool
+implies a b = not a || b
+
+-- ---- the words
+
+module _ (m : List ℕ) where
+  abbrev pub laneNumbers : List ℕ
+  laneNumbers = from 0 (laneCount (sizes m))
+
+  abbrev pub slotNumbers : List ℕ
+  slotNumbers = from 0 (sizes m .slots)
+
+  abbrev pub cabinetNumbers : List ℕ
+  cabinetNumbers = from 0 (sizes m .cabinets)
+
+  -- contents agree with the sizes, and the total is not above the length
+  unfoldable pub contentsAgree : Bool
+  contentsAgree =
+      every
+      (leb contentsLength (length m)
+      ∷ sizesFit (sizes m)
+      ∷ same (take contentsLength m) (contents (sizes m))
+      ∷ leb (total (sizes m)) (length m)
+      ∷ [])
+
+  -- flags are in range
+  unfoldable pub flagsInRange : Bool
+  flagsInRange = all (λ (i : ℕ). ltb (laneWord m i flagsAt) 16) laneNumbers
+
+  -- masks are in range
+  unfoldable pub masksInRange : Bool
+  masksInRange = ltb (at m cabinetMaskAt) (2 ^ sizes m .cabinets) && all (λ (c : ℕ). ltb (maskWord m c) (2 ^ sizes m .places)) cabinetNumbers
+
+  -- a slot's number or none
+  abbrev pub slotOrNone : ℕ → Bool
+  slotOrNone x = ltb x (sizes m .slots) || eqb x none
+
+  abbrev pub laneLinksInRange : ℕ → Bool
+  laneLinksInRange i = all (λ (k : ℕ). slotOrNone (laneWord m i k)) (from queuesAt queuesWidth) && slotOrNone (laneWord m i positionAt)
+
+  -- links are in range: chain heads and the global ends; the lanes' ends and lookup positions; the slots' links
+  unfoldable pub linksInRange : Bool
+  linksInRange =
+      every
+      (all (λ (a : ℕ). slotOrNone (at m a)) (from headsAt (chainCount + queueWidth + queuesWidth))
+      ∷ all laneLinksInRange laneNumbers
+      ∷ all (λ (i : ℕ). slotOrNone (slotWord m chainLinkAt i)) slotNumbers
+      ∷ all (λ (i : ℕ). slotOrNone (slotWord m queueLinkAt i)) slotNumbers
+      ∷ [])
+
+  -- fields are in range: codes, deposits and materials of all slots, and lookup codes
+  unfoldable pub fieldsInRange : Bool
+  fieldsInRange =
+      all (λ (i : ℕ). let b = slotAddress (sizes m) i in not (wrongProduct (wide m b) (at m (b + depositAt)) (at m (b + materialAt)))) slotNumbers
+      && all (λ (i : ℕ). not (wrongCode (wide m (laneAddress (sizes m) i + lookupAt)))) laneNumbers
+
+-- ---- chains and queues
+
+-- each slot stands in exactly one chain or queue
+unfoldable pub standsOnce : State → Bool
+standsOnce s =
+    let xs = concat (s .table .chains) ++ concat (allQueues s) in
+    all (λ (i : ℕ). eqb (count i xs) 1) (from 0 (s .sizes .slots))
+
+module _ (m : List ℕ) where
+  -- the lasts of queues whose ends stand from a on; a queue's first is where its walk began
+  abbrev pub lastsAt : ℕ → Queues → Bool
+  lastsAt a q =
+      every
+      (eqb (last (q .next)) (at m (a + lastOffset))
+      ∷ eqb (last (q .current)) (at m (a + currentOffset + lastOffset))
+      ∷ eqb (last (q .done)) (at m (a + doneOffset + lastOffset))
+      ∷ [])
+
+  -- queues agree with first and last
+  unfoldable pub lastsAgree : State → Bool
+  lastsAgree s =
+      every
+      (eqb (last (s .table .free)) (at m (freeAt + lastOffset))
+      ∷ lastsAt globalQueuesAt (s .engine .global)
+      ∷ all (λ (i : ℕ). lastsAt (laneAddress (sizes m) i + queuesAt) (laneAt (s .engine) i .queues)) (laneNumbers m)
+      ∷ [])
+
+abbrev pub codeOf : State → ℕ → ℕ
+codeOf s i = productAt (s .table .products) i .code
+
+-- chained slots are on chain (code mod 64)
+unfoldable pub onTheirChains : State → Bool
+onTheirChains s = all (λ (k : ℕ). all (λ (i : ℕ). eqb (chainNumber (codeOf s i)) k) (getD (s .table .chains) k [])) (from 0 chainCount)
+
+-- no code twice
+unfoldable pub noCodeTwice : State → Bool
+noCodeTwice s = distinct (map (codeOf s) (concat (s .table .chains)))
+
+-- ---- unused words hold their rest value
+
+module _ (m : List ℕ) where
+  -- snapshot counts without a snapshot: 0
+  unfoldable pub snapshotsAtRest : Bool
+  snapshotsAtRest = all (λ (i : ℕ). flag 3 (laneWord m i flagsAt) || all (λ (k : ℕ). eqb (laneWord m i k) 0) (from snapshotAt kinds)) (laneNumbers m)
+
+  -- lookup words without a lookup: 0, and none for the position
+  unfoldable pub lookupsAtRest : Bool
+  lookupsAtRest =
+      all
+      (λ (i : ℕ). flag 2 (laneWord m i flagsAt)
+      || every (eqb (laneWord m i lookupAt) 0 ∷ eqb (laneWord m i (lookupAt + 1)) 0 ∷ eqb (laneWord m i positionAt) none ∷ []))
+      (laneNumbers m)
+
+-- a generation is 0 while its current queue is empty
+abbrev pub generationAtRest : Queues → Bool
+generationAtRest q = not (isEmpty (q .current)) || eqb (q .generation) 0
+
+unfoldable pub generationsAtRest : State → Bool
+generationsAtRest s = generationAtRest (s .engine .global) && all (λ (l : Lane). generationAtRest (l .queues)) (s .engine .lanes)
+
+module _ (m : List ℕ) where
+  -- a slot outside every queue has queue link none
+  unfoldable pub queueLinksAtRest : State → Bool
+  queueLinksAtRest s =
+      let xs = concat (allQueues s) in
+      all (λ (i : ℕ). member i xs || eqb (slotWord m queueLinkAt i) none) (slotNumbers m)
+
+-- ---- lanes
+
+abbrev pub noneQueued : Queues → Bool
+noneQueued q = isEmpty (q .next) && isEmpty (q .current) && isEmpty (q .done)
+
+-- an off lane has no section, no queues and no mask bit
+unfoldable pub offLanes : State → Bool
+offLanes s = all (λ (l : Lane). l .online || (not (l .reading) && noneQueued (l .queues) && not (l .pending))) (s .engine .lanes)
+
+-- a lookup runs only in an open section
+unfoldable pub lookupsInSections : State → Bool
+lookupsInSections s = all (λ (l : Lane). implies (isRunning (l .lookup)) (l .reading)) (s .engine .lanes)
+
+-- a snapshot is held only with the mask bit set
+unfoldable pub snapshotsPending : State → Bool
+snapshotsPending s = all (λ (l : Lane). implies (isHeld (l .snapshot)) (l .pending)) (s .engine .lanes)
+
+module _ (m : List ℕ) where
+  -- a cabinet's bit is set exactly when its lane mask is not 0
+  unfoldable pub cabinetBits : Bool
+  cabinetBits = all (λ (c : ℕ). cond (flag c (at m cabinetMaskAt)) (ltb 0 (maskWord m c)) (eqb (maskWord m c) 0)) (cabinetNumbers m)
+
+  -- free slots hold code, deposit and material 0 and chain link none
+  unfoldable pub freeBlank : State → Bool
+  freeBlank s =
+      all
+      (λ (i : ℕ). let b = slotAddress (sizes m) i in
+      eqb (wide m b) 0 && eqb (at m (b + depositAt)) 0 && eqb (at m (b + materialAt)) 0 && eqb (at m (b + chainLinkAt)) none)
+      (s .table .free)
+
+-- ---- generations: of the current one, the largest requested, and whether a period runs
+
+-- with no period running the largest is the current less 1; otherwise it is the current or one more
+abbrev pub largestFits : ℕ → ℕ → Bool → Bool
+largestFits current largest runs = cond runs (eqb largest current || eqb largest (up current)) (eqb largest (down current))
+
+-- a lane's current queue has a generation one before, at, or one after the current, not later than the largest requested, and one before under a
+-- running period only with its bit set
+abbrev pub laneGenerationFits : ℕ → ℕ → Bool → Lane → Bool
+laneGenerationFits current largest runs l =
+    let g = l .queues .generation in
+    isEmpty (l .queues .current)
+    || ((eqb g (down current) || eqb g current || eqb g (up current)) && not (later g largest) && implies (eqb g (down current) && runs) (l .pending))
+
+-- the global one's is at or one after, again not later than the largest requested
+abbrev pub globalGenerationFits : ℕ → ℕ → Queues → Bool
+globalGenerationFits current largest q =
+    let g = q .generation in
+    isEmpty (q .current) || ((eqb g current || eqb g (up current)) && not (later g largest))
+
+module _ (m : List ℕ) where
+  -- a period runs while the cabinet mask is not 0
+  abbrev pub periodRuns : Bool
+  periodRuns = not (eqb (at m cabinetMaskAt) 0)
+
+  unfoldable pub largestAgrees : State → Bool
+  largestAgrees s = largestFits (s .engine .current) (s .engine .largest) periodRuns
+
+  unfoldable pub laneGenerations : State → Bool
+  laneGenerations s = all (laneGenerationFits (s .engine .current) (s .engine .largest) periodRuns) (s .engine .lanes)
+
+unfoldable pub globalGeneration : State → Bool
+globalGeneration s = globalGenerationFits (s .engine .current) (s .engine .largest) (s .engine .global)
+
+-- ---- a legal memory
+
+module _ (m : List ℕ) where
+  -- the sentences of a memory m that reads as the state s
+  abbrev pub sentences : State → List Bool
+  sentences s =
+      flagsInRange m ∷ masksInRange m ∷ linksInRange m ∷ fieldsInRange m
+      ∷ standsOnce s ∷ lastsAgree m s ∷ onTheirChains s ∷ noCodeTwice s
+      ∷ snapshotsAtRest m ∷ lookupsAtRest m ∷ generationsAtRest s ∷ queueLinksAtRest m s
+      ∷ offLanes s ∷ lookupsInSections s ∷ snapshotsPending s ∷ cabinetBits m ∷ freeBlank m s
+      ∷ largestAgrees m s ∷ laneGenerations m s ∷ globalGeneration s ∷ []
+
+  -- the state is read only where the contents agree
+  unfoldable pub legal : Bool
+  legal = cond (contentsAgree m) (every (sentences (state m))) false
