@@ -35,14 +35,16 @@ module _ (m : List ℕ) where
   cabinetNumbers = from 0 (sizes m .cabinets)
 
   -- contents agree with the sizes, and the total is not above the length
-  unfoldable pub contentsAgree : Bool
-  contentsAgree =
-      every
-      (leb contentsLength (length m)
+  abbrev pub contentsSentences : List Bool
+  contentsSentences =
+      leb contentsLength (length m)
       ∷ sizesFit (sizes m)
       ∷ same (take contentsLength m) (contents (sizes m))
       ∷ leb (total (sizes m)) (length m)
-      ∷ [])
+      ∷ []
+
+  unfoldable pub contentsAgree : Bool
+  contentsAgree = every contentsSentences
 
   -- flags are in range
   unfoldable pub flagsInRange : Bool
@@ -60,14 +62,16 @@ module _ (m : List ℕ) where
   laneLinksInRange i = all (λ (k : ℕ). slotOrNone (laneWord m i k)) (from queuesAt queuesWidth) && slotOrNone (laneWord m i positionAt)
 
   -- links are in range: chain heads and the global ends; the lanes' ends and lookup positions; the slots' links
-  unfoldable pub linksInRange : Bool
-  linksInRange =
-      every
-      (all (λ (a : ℕ). slotOrNone (at m a)) (from headsAt (chainCount + queueWidth + queuesWidth))
+  abbrev pub linkSentences : List Bool
+  linkSentences =
+      all (λ (a : ℕ). slotOrNone (at m a)) (from headsAt (chainCount + queueWidth + queuesWidth))
       ∷ all laneLinksInRange laneNumbers
       ∷ all (λ (i : ℕ). slotOrNone (slotWord m chainLinkAt i)) slotNumbers
       ∷ all (λ (i : ℕ). slotOrNone (slotWord m queueLinkAt i)) slotNumbers
-      ∷ [])
+      ∷ []
+
+  unfoldable pub linksInRange : Bool
+  linksInRange = every linkSentences
 
   -- fields are in range: codes, deposits and materials of all slots, and lookup codes
   unfoldable pub fieldsInRange : Bool

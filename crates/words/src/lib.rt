@@ -1,0 +1,138 @@
+// The lent words as the code meets them: where each word stands (the numbers of the model's Layout), and
+// 64-bit numbers in two words. The other crates cite these constants and no number of their own.
+ghost use mathlib.Core.Path.{_≡_};
+ghost use Prim.Native.Nat.{_+_, _<_};
+ghost use lib.ListN.{length};
+ghost use Rattle.model.specs.Memory.{wide, wholeOf, low as lowWord, high as highWord};
+
+// no slot, no lane
+pub const NONE: u32 = 4294967295;
+
+// ---- ranges
+pub const MAX_CABINETS: u32 = 8;
+
+pub const MAX_PLACES: u32 = 8;
+
+pub const MAX_SLOTS: u32 = 1024;
+
+pub const MAX_CODE: u64 = 9999999999999;
+
+pub const MAX_DEPOSIT: u32 = 100000;
+
+pub const MAX_MATERIAL: u32 = 7;
+
+pub const KINDS: usize = 4;
+
+pub const CHAIN_COUNT: usize = 64;
+
+// ---- contents: addresses
+pub const VERSION: u32 = 1;
+
+pub const VERSION_AT: usize = 0;
+
+pub const CABINETS_AT: usize = VERSION_AT + 1;
+
+pub const PLACES_AT: usize = CABINETS_AT + 1;
+
+pub const SLOTS_AT: usize = PLACES_AT + 1;
+
+pub const BODIES_AT: usize = SLOTS_AT + 1;
+
+pub const CONTENTS_LENGTH: usize = BODIES_AT + 2 * 4;
+
+// ---- queues in a record: first and last of next, current and done
+pub const LAST_OFFSET: usize = 1;
+
+pub const QUEUE_WIDTH: usize = LAST_OFFSET + 1;
+
+pub const CURRENT_OFFSET: usize = QUEUE_WIDTH;
+
+pub const DONE_OFFSET: usize = CURRENT_OFFSET + QUEUE_WIDTH;
+
+pub const QUEUES_WIDTH: usize = DONE_OFFSET + QUEUE_WIDTH;
+
+// ---- the global body: addresses
+pub const CURRENT_GENERATION_AT: usize = CONTENTS_LENGTH;
+
+pub const LARGEST_GENERATION_AT: usize = CURRENT_GENERATION_AT + 1;
+
+pub const CABINET_MASK_AT: usize = LARGEST_GENERATION_AT + 1;
+
+pub const HEADS_AT: usize = CABINET_MASK_AT + 1;
+
+pub const FREE_AT: usize = HEADS_AT + CHAIN_COUNT;
+
+pub const GLOBAL_QUEUES_AT: usize = FREE_AT + QUEUE_WIDTH;
+
+pub const GLOBAL_GENERATION_AT: usize = GLOBAL_QUEUES_AT + QUEUES_WIDTH;
+
+// ---- the cabinets' lane masks: address of the first
+pub const MASKS_AT: usize = GLOBAL_GENERATION_AT + 1;
+
+// ---- a lane's record: offsets
+pub const FLAGS_AT: usize = 0;
+
+pub const QUIESCENT_AT: usize = FLAGS_AT + 1;
+
+pub const SNAPSHOT_AT: usize = QUIESCENT_AT + KINDS;
+
+pub const GENERATION_AT: usize = SNAPSHOT_AT + KINDS;
+
+pub const QUEUES_AT: usize = GENERATION_AT + 1;
+
+pub const LOOKUP_AT: usize = QUEUES_AT + QUEUES_WIDTH;
+
+pub const POSITION_AT: usize = LOOKUP_AT + 2;
+
+pub const LANE_LENGTH: usize = POSITION_AT + 1;
+
+// ---- a slot's record: offsets
+pub const CODE_AT: usize = 0;
+
+pub const DEPOSIT_AT: usize = CODE_AT + 2;
+
+pub const MATERIAL_AT: usize = DEPOSIT_AT + 1;
+
+pub const CHAIN_LINK_AT: usize = MATERIAL_AT + 1;
+
+pub const QUEUE_LINK_AT: usize = CHAIN_LINK_AT + 1;
+
+pub const SLOT_LENGTH: usize = QUEUE_LINK_AT + 1;
+
+// ---- numbers
+
+// A word as an index.
+pub fn index(x: u32) -> usize
+    ensures { λ r. ⌜ r ≡ x ⌝ }
+{
+    x as usize
+}
+
+// The 64-bit number with these words.
+pub fn whole(low: u32, high: u32) -> u64
+    ensures { λ r. ⌜ r ≡ wholeOf low high ⌝ }
+{
+    (low as u64) + 4294967296 * (high as u64)
+}
+
+// The 64-bit number whose low word stands at i.
+pub fn code_at(m: &[u32], i: usize) -> u64
+    requires { ⌜ i + 1 < length (now m) ⌝ }
+    ensures { λ r. ⌜ r ≡ wide (now (m .entry)) i ⌝ }
+{
+    whole(m[i], m[i + 1])
+}
+
+// The low word of a 64-bit number.
+pub fn low(x: u64) -> u32
+    ensures { λ r. ⌜ r ≡ lowWord x ⌝ }
+{
+    (x % 4294967296) as u32
+}
+
+// The high word of a 64-bit number.
+pub fn high(x: u64) -> u32
+    ensures { λ r. ⌜ r ≡ highWord x ⌝ }
+{
+    (x / 4294967296) as u32
+}
