@@ -1,0 +1,42 @@
+/*
+ * header_c.c - product_table.h as C: every function with its type, every number of
+ * document 01. Compiled and not run.
+ */
+#include "product_table.h"
+
+#define LENT uint32_t *, size_t, uint32_t *, size_t
+
+/* One function of each type in each list. */
+uint32_t (*const header_setup)(LENT, uint32_t, uint32_t, uint32_t) = pt_setup;
+uint32_t (*const header_record[])(LENT, uint32_t, uint64_t, uint32_t, uint32_t) = {
+	pt_add, pt_replace,
+};
+uint32_t (*const header_code[])(LENT, uint32_t, uint64_t) = {
+	pt_delete, pt_start,
+};
+uint32_t (*const header_lane[])(LENT, uint32_t) = {
+	pt_begin, pt_end, pt_step, pt_clock, pt_on, pt_off, pt_hand_back,
+};
+uint32_t (*const header_pass)(LENT, uint32_t, uint32_t) = pt_pass;
+uint32_t (*const header_awaited)(LENT) = pt_awaited;
+
+/* A table may be lent as an array of its total. */
+uint32_t header_memory[PT_WORDS(PT_MAX_CABINETS, PT_MAX_LANES, PT_MAX_SLOTS)];
+uint32_t header_answer[PT_ANSWER_WORDS];
+
+_Static_assert(sizeof header_memory / sizeof header_memory[0] == 7456, "full size");
+_Static_assert(PT_WORDS(1, 2, 3) == 145 && PT_WORDS(1, 1 + 1, 2 + 1) == 145, "total");
+_Static_assert(sizeof header_answer / sizeof header_answer[0] == 5, "answer");
+
+_Static_assert(PT_OK == 0 && PT_BAD_SIZE == 1 && PT_SHORT_MEMORY == 2 && PT_NOT_LEGAL == 3 &&
+	PT_NO_LANE == 4 && PT_OFFLINE == 5 && PT_ONLINE == 6 && PT_IN_SECTION == 7 &&
+	PT_NO_SECTION == 8 && PT_IN_LOOKUP == 9 && PT_NO_LOOKUP == 10 && PT_OUT_OF_RANGE == 11 &&
+	PT_CODE_PRESENT == 12 && PT_CODE_MISSING == 13 && PT_NO_FREE_SLOT == 14 &&
+	PT_LAST_LANE == 15 && PT_NOTHING_DONE == 16, "refusals");
+_Static_assert(PT_SHORT_ANSWER == UINT32_MAX && PT_NONE == UINT32_MAX, "none");
+_Static_assert(PT_GOING == 0 && PT_FOUND == 1 && PT_ABSENT == 2, "outcomes");
+_Static_assert(PT_IDLE == 0 && PT_BOTTLE_DROPPED == 1 && PT_DOOR_OPEN == 2 &&
+	PT_CHANGED_OVER == 3 && PT_MAX_KIND == 3, "kinds");
+_Static_assert(PT_MAX_CABINETS == 8 && PT_MAX_LANES == 8 && PT_MAX_SLOTS == 1024, "sizes");
+_Static_assert(PT_MAX_CODE == 9999999999999 && PT_MAX_DEPOSIT == 100000 &&
+	PT_MAX_MATERIAL == 7, "fields");

@@ -1,0 +1,87 @@
+/*
+ * layout.h - where the words of a table's memory stand (document 01, "The memory").
+ * Each record is the list of its words in their order; lengths and totals follow.
+ */
+#ifndef REFERENCE_LAYOUT_H
+#define REFERENCE_LAYOUT_H
+
+#include <stdint.h>
+
+enum { LAYOUT_VERSION = 1, CHAINS = 64, KINDS = 4 };
+
+/* Words of a queue's two ends, and of a code. */
+enum { END_FIRST, END_LAST, END_WORDS };
+enum { CODE_LOW, CODE_HIGH, CODE_WORDS };
+
+/* The bodies after the contents, in their order. */
+enum { BODY_GLOBAL, BODY_CABINETS, BODY_LANES, BODY_SLOTS, BODIES };
+
+enum contents_word {
+	CONTENTS_VERSION,
+	CONTENTS_CABINETS,
+	CONTENTS_LANES, /* in each cabinet */
+	CONTENTS_SLOTS,
+	CONTENTS_BODIES, /* first word and length of each */
+	CONTENTS_WORDS = CONTENTS_BODIES + 2 * BODIES
+};
+
+enum global_word {
+	GLOBAL_CURRENT_GENERATION,
+	GLOBAL_LARGEST_GENERATION,
+	GLOBAL_PENDING, /* mask of cabinets */
+	GLOBAL_CHAINS,
+	GLOBAL_FREE = GLOBAL_CHAINS + CHAINS,
+	GLOBAL_NEXT = GLOBAL_FREE + END_WORDS,
+	GLOBAL_CURRENT = GLOBAL_NEXT + END_WORDS,
+	GLOBAL_DONE = GLOBAL_CURRENT + END_WORDS,
+	GLOBAL_GENERATION = GLOBAL_DONE + END_WORDS, /* of the current queue */
+	GLOBAL_WORDS
+};
+
+enum cabinet_word {
+	CABINET_PENDING, /* mask of lanes */
+	CABINET_WORDS
+};
+
+enum lane_word {
+	LANE_FLAGS,
+	LANE_COUNTS,
+	LANE_SNAPSHOT = LANE_COUNTS + KINDS,
+	LANE_GENERATION = LANE_SNAPSHOT + KINDS, /* of the current queue */
+	LANE_NEXT,
+	LANE_CURRENT = LANE_NEXT + END_WORDS,
+	LANE_DONE = LANE_CURRENT + END_WORDS,
+	LANE_CODE = LANE_DONE + END_WORDS, /* of the lookup */
+	LANE_POSITION = LANE_CODE + CODE_WORDS,
+	LANE_WORDS
+};
+
+/* Bits of a lane's flags. */
+enum lane_flag {
+	FLAG_ONLINE = 1,
+	FLAG_READING = 2,
+	FLAG_LOOKUP = 4,
+	FLAG_SNAPSHOT = 8,
+	FLAGS = 16 /* flags are below this */
+};
+
+enum slot_word {
+	SLOT_CODE,
+	SLOT_DEPOSIT = SLOT_CODE + CODE_WORDS,
+	SLOT_MATERIAL,
+	SLOT_CHAIN_LINK,
+	SLOT_QUEUE_LINK,
+	SLOT_WORDS
+};
+
+/* First word and length of each body of a table, and the total. */
+struct layout {
+	uint32_t first[BODIES];
+	uint32_t length[BODIES];
+	uint32_t total;
+};
+
+/* The layout for sizes in range. */
+struct layout layout_of(uint32_t cabinets, uint32_t lanes, uint32_t slots);
+
+#endif /* REFERENCE_LAYOUT_H */

@@ -1,0 +1,254 @@
+/*
+ * ledger.c - the ledger of demand 3. An entry is kept at its slot. Of a lookup's
+ * instants only the whole searches there are kept: a slot that left the table during
+ * the lookup is out with the lookup's section, so each slot explains at most once.
+ */
+#include "ledger.h"
+
+#include <stdbool.h>
+#include <stddef.h>
+#include <string.h>
+
+#include "layout.h"
+#include "product_table.h"
+
+_Static_assert(LEDGER_LANES <= 64, "sections are bits of a 64-bit word");
+_Static_assert(sizeof(struct ledger_search) == 24, "no padding");
+_Static_assert(sizeof(struct ledger_slot) == 32, "no padding");
+_Static_assert(sizeof(struct ledger_lane) == 24 + 24 * (2 * LEDGER_SLOTS + 1), "no padding");
+
+static const char BEYOND[] = "a lane or slot is beyond the ledger's capacity";
+
+void ledger_reset(struct ledger *ledger)
+{
+	memset(ledger, 0, sizeof *ledger);
+}
+
+static bool search_same(const struct ledger_search *a, const struct ledger_search *b)
+{
+	return a->code == b->code && a->outcome == b->outcome && a->slot == b->slot &&
+		a->deposit == b->deposit && a->material == b->material;
+}
+
+static bool search_listed(const struct ledger_search *list, uint32_t length,
+		const struct ledger_search *search)
+{
+	for (uint32_t n = 0; n < length; n++)
+		if (search_same(&list[n], search))
+			return true;
+	return false;
+}
+
+/* The slot of the code's entry, or LEDGER_SLOTS. */
+static uint32_t entry_of(const struct ledger *ledger, uint64_t code)
+{
+	uint32_t slot = 0;
+
+	while (slot < LEDGER_SLOTS &&
+			!(ledger->slot[slot].entered && ledger->slot[slot].code == code))
+		slot++;
+	return slot;
+}
+
+/* A whole search for the code at this instant. */
+static struct ledger_search whole_search(const struct ledger *ledger, uint64_t code)
+{
+	uint32_t slot = entry_of(ledger, code);
+
+	if (slot == LEDGER_SLOTS)
+		return (struct ledger_search){ .code = code, .outcome = PT_ABSENT };
+	return (struct ledger_search){
+		.code = code,
+		.outcome = PT_FOUND,
+		.slot = slot,
+		.deposit = ledger->slot[slot].deposit,
+		.material = ledger->slot[slot].material,
+	};
+}
+
+/* Notes this instant for a lane's lookup. */
+static const char *note_instant(struct ledger *ledger, struct ledger_lane *lane)
+{
+	struct ledger_search search = whole_search(ledger, lane->code);
+
+	if (search_listed(lane->search, lane->searches, &search))
+		return NULL;
+	if (lane->searches == LEDGER_SLOTS + 1)
+		return "a slot came back into the table during a lookup";
+	lane->search[lane->searches++] = search;
+	return NULL;
+}
+
+/* Notes the instant of a change of the code's entry for all lookups of the code. */
+static const char *note_change(struct ledger *ledger, uint64_t code)
+{
+	const char *fault = NULL;
+
+	for (uint32_t l = 0; l < LEDGER_LANES && fault == NULL; l++)
+		if (ledger->lane[l].lookup && ledger->lane[l].code == code)
+			fault = note_instant(ledger, &ledger->lane[l]);
+	return fault;
+}
+
+static const char *enter(struct ledger *ledger, const struct call *call, uint32_t slot)
+{
+	if (slot >= LEDGER_SLOTS)
+		return BEYOND;
+	if (ledger->slot[slot].entered || ledger->slot[slot].out)
+		return "a slot in use was given to a record";
+	ledger->slot[slot] = (struct ledger_slot){
+		.code = call->argument[1],
+		.deposit = (uint32_t)call->argument[2],
+		.material = (uint32_t)call->argument[3],
+		.entered = 1,
+	};
+	return NULL;
+}
+
+/* Strikes the code's entry; its slot is then out, with every section open now. */
+static const char *strike(struct ledger *ledger, uint64_t code, uint32_t slot)
+{
+	if (slot >= LEDGER_SLOTS)
+		return BEYOND;
+	if (entry_of(ledger, code) != slot)
+		return "the removed slot is not that of the code's entry";
+	ledger->slot[slot] = (struct ledger_slot){ .out = 1 };
+	for (uint32_t l = 0; l < LEDGER_LANES; l++)
+		ledger->slot[slot].sections |= (uint64_t)ledger->lane[l].reading << l;
+	return NULL;
+}
+
+static const char *feed_add(struct ledger *ledger, const struct call *call, const uint32_t *answer)
+{
+	const char *fault;
+
+	if (entry_of(ledger, call->argument[1]) != LEDGER_SLOTS)
+		return "a code was added that has an entry";
+	fault = enter(ledger, call, answer[1]);
+	return fault != NULL ? fault : note_change(ledger, call->argument[1]);
+}
+
+static const char *feed_replace(struct ledger *ledger, const struct call *call,
+		const uint32_t *answer)
+{
+	const char *fault = strike(ledger, call->argument[1], answer[2]);
+
+	if (fault == NULL)
+		fault = enter(ledger, call, answer[1]);
+	/* One instant for both: no search finds the code absent between them. */
+	return fault != NULL ? fault : note_change(ledger, call->argument[1]);
+}
+
+static const char *feed_delete(struct ledger *ledger, const struct call *call,
+		const uint32_t *answer)
+{
+	const char *fault = strike(ledger, call->argument[1], answer[1]);
+
+	return fault != NULL ? fault : note_change(ledger, call->argument[1]);
+}
+
+static void feed_end(struct ledger *ledger, uint32_t l)
+{
+	struct ledger_lane *lane = &ledger->lane[l];
+
+	lane->reading = 0;
+	memset(lane->find, 0, lane->finds * sizeof lane->find[0]);
+	lane->finds = 0;
+	for (uint32_t slot = 0; slot < LEDGER_SLOTS; slot++)
+		ledger->slot[slot].sections &= ~(UINT64_C(1) << l);
+}
+
+static const char *feed_start(struct ledger *ledger, struct ledger_lane *lane, uint64_t code)
+{
+	lane->lookup = 1;
+	lane->code = code;
+	return note_instant(ledger, lane);
+}
+
+static const char *feed_step(struct ledger_lane *lane, const uint32_t *answer)
+{
+	struct ledger_search search = { lane->code, answer[1], answer[2], answer[3], answer[4] };
+	bool explained = search_listed(lane->search, lane->searches, &search);
+
+	if (search.outcome == PT_GOING)
+		return NULL;
+	if (!lane->lookup || !explained)
+		return "no instant of the lookup explains its answer";
+	memset(lane->search, 0, lane->searches * sizeof lane->search[0]);
+	lane->searches = 0;
+	lane->lookup = 0;
+	lane->code = 0;
+	if (search.outcome != PT_FOUND || search_listed(lane->find, lane->finds, &search))
+		return NULL;
+	if (lane->finds == LEDGER_SLOTS)
+		return "a slot came back into the table during a section";
+	lane->find[lane->finds++] = search;
+	return NULL;
+}
+
+static const char *feed_hand_back(struct ledger *ledger, uint32_t slot)
+{
+	if (slot >= LEDGER_SLOTS)
+		return BEYOND;
+	if (!ledger->slot[slot].out)
+		return "a slot was handed back that is not out";
+	if (ledger->slot[slot].sections != 0)
+		return "a slot was handed back before a section of its removal ended";
+	ledger->slot[slot].out = 0;
+	return NULL;
+}
+
+const char *ledger_feed(struct ledger *ledger, const struct call *call, const uint32_t *answer)
+{
+	uint32_t lane = (uint32_t)call->argument[0];
+
+	if (answer[0] != PT_OK)
+		return NULL;
+	if (call->name == CALL_SETUP) {
+		ledger_reset(ledger);
+		return NULL;
+	}
+	if (lane >= LEDGER_LANES)
+		return BEYOND;
+	switch (call->name) {
+	case CALL_ADD: return feed_add(ledger, call, answer);
+	case CALL_REPLACE: return feed_replace(ledger, call, answer);
+	case CALL_DELETE: return feed_delete(ledger, call, answer);
+	case CALL_START: return feed_start(ledger, &ledger->lane[lane], call->argument[1]);
+	case CALL_STEP: return feed_step(&ledger->lane[lane], answer);
+	case CALL_HAND_BACK: return feed_hand_back(ledger, answer[1]);
+	case CALL_BEGIN:
+		ledger->lane[lane].reading = 1;
+		return NULL;
+	case CALL_END:
+		feed_end(ledger, lane);
+		return NULL;
+	default:
+		return NULL;
+	}
+}
+
+/* Whether the words of a slot hold what was found there. */
+static bool slot_holds(const uint32_t *slot, const struct ledger_search *find)
+{
+	return slot[SLOT_CODE + CODE_LOW] == (uint32_t)find->code &&
+		slot[SLOT_CODE + CODE_HIGH] == (uint32_t)(find->code >> 32) &&
+		slot[SLOT_DEPOSIT] == find->deposit && slot[SLOT_MATERIAL] == find->material;
+}
+
+const char *ledger_kept(const struct ledger *ledger, const uint32_t *memory)
+{
+	struct layout layout = layout_of(memory[CONTENTS_CABINETS], memory[CONTENTS_LANES],
+			memory[CONTENTS_SLOTS]);
+	const uint32_t *slots = memory + layout.first[BODY_SLOTS];
+
+	for (uint32_t l = 0; l < LEDGER_LANES; l++)
+		for (uint32_t n = 0; n < ledger->lane[l].finds; n++) {
+			const struct ledger_search *find = &ledger->lane[l].find[n];
+
+			if (find->slot >= memory[CONTENTS_SLOTS] ||
+					!slot_holds(slots + SLOT_WORDS * find->slot, find))
+				return "a found slot lost its record in the finder's section";
+		}
+	return NULL;
+}

@@ -1,0 +1,74 @@
+/*
+ * ledger.h - the ledger of demand 3 (document 01), kept beside a list of calls. It is
+ * fed each call with its answer and sees nothing of the memory. It finds fault when
+ *   a lookup's answer is that of a whole search at no instant from the lookup's start
+ *     to the one before the answering step;
+ *   a slot is handed back that is not out, or while a section that was open when it
+ *     was removed has not ended;
+ *   a found slot does not hold what was found while the finder's section is open.
+ * The last is asked of the memory, by ledger_kept(). A ledger is a plain value with
+ * no pointers, no padding and 0 in its unused parts: assign it to copy it, compare
+ * its bytes. Its capacity may be set where it is compiled.
+ */
+#ifndef REFERENCE_LEDGER_H
+#define REFERENCE_LEDGER_H
+
+#include <stdint.h>
+
+#include "calls.h"
+
+#ifndef LEDGER_LANES
+#define LEDGER_LANES 64 /* at most 64: sections are bits of a word */
+#endif
+#ifndef LEDGER_SLOTS
+#define LEDGER_SLOTS 1024
+#endif
+
+/* What a whole search for a code gives: the words of an answering step. */
+struct ledger_search {
+	uint64_t code;
+	uint32_t outcome;
+	uint32_t slot;
+	uint32_t deposit;
+	uint32_t material;
+};
+
+struct ledger_slot {
+	uint64_t code; /* of its entry */
+	uint32_t deposit;
+	uint32_t material;
+	uint32_t entered; /* 1: the slot of an entry */
+	uint32_t out;     /* 1: removed and not handed back */
+	uint64_t sections; /* of an out slot, those of its removal that are still open */
+};
+
+struct ledger_lane {
+	uint64_t code;    /* of its lookup */
+	uint32_t reading; /* 1: a section is open */
+	uint32_t lookup;  /* 1: a lookup is running */
+	uint32_t searches;
+	uint32_t finds;
+	/* Whole searches for the lookup's code at its instants so far, each once. */
+	struct ledger_search search[LEDGER_SLOTS + 1];
+	/* What was found in the open section, each once. */
+	struct ledger_search find[LEDGER_SLOTS];
+};
+
+struct ledger {
+	struct ledger_slot slot[LEDGER_SLOTS];
+	struct ledger_lane lane[LEDGER_LANES];
+};
+
+/* The ledger at instant 0, the end of a set-up. */
+void ledger_reset(struct ledger *ledger);
+
+/*
+ * Feeds a call and the five words of its answer. An accepted set-up begins another
+ * list. Returns NULL, or the fault in words; the ledger is then of no more use.
+ */
+const char *ledger_feed(struct ledger *ledger, const struct call *call, const uint32_t *answer);
+
+/* Whether the memory's slots hold what was found in the sections open now, as above. */
+const char *ledger_kept(const struct ledger *ledger, const uint32_t *memory);
+
+#endif /* REFERENCE_LEDGER_H */

@@ -1,0 +1,201 @@
+/*
+ * ledger_test.c - lists of calls and answers on which the ledger of demand 3 finds a
+ * fault, each beside one on which it finds none.
+ */
+#include <stdio.h>
+#include <stdlib.h>
+#include <string.h>
+
+#include "ledger.h"
+#include "trial.h"
+
+static struct ledger ledger;
+
+/* Feeds the steps; returns the fault of the last one. The others have none. */
+static const char *feed(const struct trial_step *steps, size_t count)
+{
+	const char *fault = NULL;
+
+	ledger_reset(&ledger);
+	for (size_t n = 0; n < count; n++) {
+		struct call call = trial_call(steps[n].call);
+		uint32_t answer[PT_ANSWER_WORDS];
+		char *text = (char *)steps[n].answer;
+
+		CHECK(fault == NULL);
+		for (size_t word = 0; word < PT_ANSWER_WORDS; word++)
+			answer[word] = (uint32_t)strtoul(text, &text, 10);
+		fault = ledger_feed(&ledger, &call, answer);
+	}
+	return fault;
+}
+
+#define FEED(steps) feed(steps, sizeof(steps) / sizeof((steps)[0]))
+/* The list with another last answer. */
+#define FAULT(steps, last) fault(steps, sizeof(steps) / sizeof((steps)[0]), last)
+
+static const char *fault(const struct trial_step *steps, size_t count, const char *last)
+{
+	struct trial_step changed[32];
+
+	CHECK(count <= 32);
+	memcpy(changed, steps, count * sizeof changed[0]);
+	changed[count - 1].answer = last;
+	return feed(changed, count);
+}
+
+static bool says(const char *fault, const char *part)
+{
+	return fault != NULL && strstr(fault, part) != NULL;
+}
+
+static void test_whole_search(void)
+{
+	static const struct trial_step present[] = {
+		{ "setup 1 2 3", "0 145 0 0 0" }, { "add 0 17 25 1", "0 0 0 0 0" },
+		{ "begin 1", "0 0 0 0 0" }, { "start 1 17", "0 0 0 0 0" },
+		{ "step 1", "0 1 0 25 1" },
+	};
+	static const struct trial_step absent[] = {
+		{ "setup 1 2 3", "0 145 0 0 0" }, { "add 0 17 25 1", "0 0 0 0 0" },
+		{ "begin 1", "0 0 0 0 0" }, { "start 1 18", "0 0 0 0 0" },
+		{ "step 1", "0 0 0 0 0" }, { "step 1", "0 2 0 0 0" },
+	};
+
+	CHECK(FEED(present) == NULL);
+	CHECK(says(FAULT(present, "0 2 0 0 0"), "explains"));
+	CHECK(says(FAULT(present, "0 1 1 25 1"), "explains"));
+	CHECK(says(FAULT(present, "0 1 0 26 1"), "explains"));
+	CHECK(says(FAULT(present, "0 1 0 25 0"), "explains"));
+	CHECK(FEED(absent) == NULL);
+	CHECK(says(FAULT(absent, "0 1 0 25 1"), "explains"));
+	CHECK(says(FAULT(absent, "0 2 1 0 0"), "explains"));
+}
+
+/* Instants before the start explain nothing, those from it on do. */
+static void test_instants(void)
+{
+	static const struct trial_step during[] = {
+		{ "setup 1 2 3", "0 145 0 0 0" }, { "add 0 17 25 1", "0 0 0 0 0" },
+		{ "begin 1", "0 0 0 0 0" }, { "start 1 17", "0 0 0 0 0" },
+		{ "rep 0 17 26 2", "0 1 0 0 0" }, { "del 0 17", "0 1 0 0 0" },
+		{ "add 0 17 27 3", "0 2 0 0 0" }, { "step 1", "0 1 1 26 2" },
+	};
+	static const struct trial_step before[] = {
+		{ "setup 1 2 3", "0 145 0 0 0" }, { "add 0 17 25 1", "0 0 0 0 0" },
+		{ "begin 1", "0 0 0 0 0" }, { "rep 0 17 26 2", "0 1 0 0 0" },
+		{ "start 1 17", "0 0 0 0 0" }, { "step 1", "0 1 1 26 2" },
+	};
+	static const struct trial_step replaced[] = {
+		{ "setup 1 2 3", "0 145 0 0 0" }, { "add 0 17 25 1", "0 0 0 0 0" },
+		{ "begin 1", "0 0 0 0 0" }, { "start 1 17", "0 0 0 0 0" },
+		{ "rep 0 17 26 2", "0 1 0 0 0" }, { "step 1", "0 1 0 25 1" },
+	};
+
+	CHECK(FEED(during) == NULL);
+	CHECK(FAULT(during, "0 1 0 25 1") == NULL);
+	CHECK(FAULT(during, "0 1 2 27 3") == NULL);
+	CHECK(FAULT(during, "0 2 0 0 0") == NULL);
+	CHECK(says(FAULT(during, "0 1 1 25 1"), "explains"));
+	CHECK(FEED(before) == NULL);
+	CHECK(says(FAULT(before, "0 1 0 25 1"), "explains"));
+	/* At no instant is a replaced code absent. */
+	CHECK(FEED(replaced) == NULL);
+	CHECK(says(FAULT(replaced, "0 2 0 0 0"), "explains"));
+}
+
+static void test_hand_back(void)
+{
+	static const struct trial_step open[] = {
+		{ "setup 1 3 3", "0 164 0 0 0" }, { "add 0 17 25 1", "0 0 0 0 0" },
+		{ "begin 2", "0 0 0 0 0" }, { "del 0 17", "0 0 0 0 0" },
+		{ "begin 1", "0 0 0 0 0" }, { "back 0", "16 0 0 0 0" },
+	};
+	static const struct trial_step ended[] = {
+		{ "setup 1 3 3", "0 164 0 0 0" }, { "add 0 17 25 1", "0 0 0 0 0" },
+		{ "begin 2", "0 0 0 0 0" }, { "del 0 17", "0 0 0 0 0" },
+		{ "begin 1", "0 0 0 0 0" }, { "end 2", "0 0 0 0 0" },
+		{ "begin 2", "0 0 0 0 0" }, { "back 0", "0 0 0 0 0" },
+	};
+	static const struct trial_step twice[] = {
+		{ "setup 1 3 3", "0 164 0 0 0" }, { "add 0 17 25 1", "0 0 0 0 0" },
+		{ "del 0 17", "0 0 0 0 0" }, { "back 0", "0 0 0 0 0" },
+		{ "back 0", "16 0 0 0 0" },
+	};
+	static const struct trial_step setup_anew[] = {
+		{ "setup 1 3 3", "0 164 0 0 0" }, { "add 0 17 25 1", "0 0 0 0 0" },
+		{ "del 0 17", "0 0 0 0 0" }, { "setup 1 3 0", "1 0 0 0 0" },
+		{ "setup 1 3 3", "0 164 0 0 0" }, { "back 0", "16 0 0 0 0" },
+	};
+
+	CHECK(FEED(open) == NULL);
+	CHECK(says(FAULT(open, "0 0 0 0 0"), "before a section"));
+	CHECK(says(FAULT(open, "0 1 0 0 0"), "not out"));
+	CHECK(FEED(ended) == NULL); /* a section that began later does not count */
+	CHECK(FEED(twice) == NULL);
+	CHECK(says(FAULT(twice, "0 0 0 0 0"), "not out"));
+	CHECK(FEED(setup_anew) == NULL);
+	CHECK(says(FAULT(setup_anew, "0 0 0 0 0"), "not out"));
+}
+
+static void test_slots(void)
+{
+	static const struct trial_step adds[] = {
+		{ "setup 1 2 3", "0 145 0 0 0" }, { "add 0 17 25 1", "0 0 0 0 0" },
+		{ "add 0 18 25 1", "0 1 0 0 0" },
+	};
+	static const struct trial_step removed[] = {
+		{ "setup 1 2 3", "0 145 0 0 0" }, { "add 0 17 25 1", "0 0 0 0 0" },
+		{ "add 0 18 25 1", "0 1 0 0 0" }, { "del 0 17", "0 0 0 0 0" },
+	};
+
+	CHECK(FEED(adds) == NULL);
+	CHECK(says(FAULT(adds, "0 0 0 0 0"), "in use"));
+	CHECK(FAULT(adds, "14 0 0 0 0") == NULL);
+	CHECK(FEED(removed) == NULL);
+	CHECK(says(FAULT(removed, "0 1 0 0 0"), "removed slot"));
+	CHECK(says(FAULT(removed, "0 2 0 0 0"), "removed slot"));
+}
+
+/* While the finder's section is open the slot holds what was found. */
+static void test_kept(void)
+{
+	static const char *const lines[] = {
+		"setup 1 2 3", "add 0 4294967313 25 1", "begin 1", "start 1 4294967313", "step 1",
+		"del 0 4294967313",
+	};
+	static struct trial trial;
+	struct call end = { CALL_END, { 1 } };
+	uint32_t *slot;
+
+	trial_start(&trial);
+	for (size_t n = 0; n < sizeof lines / sizeof lines[0]; n++) {
+		struct call call = trial_call(lines[n]);
+
+		CHECK(trial_make(&trial, &call) == PT_OK);
+		CHECK(ledger_feed(&ledger, &call, trial.answer) == NULL);
+		CHECK(ledger_kept(&ledger, trial.memory) == NULL);
+	}
+	slot = trial_slot(trial.memory, 0);
+	for (int word = SLOT_CODE; word <= SLOT_MATERIAL; word++) {
+		slot[word]++;
+		CHECK(says(ledger_kept(&ledger, trial.memory), "lost its record"));
+		slot[word]--;
+	}
+	CHECK(ledger_kept(&ledger, trial.memory) == NULL);
+	slot[SLOT_DEPOSIT] = 0;
+	CHECK(trial_make(&trial, &end) == PT_OK);
+	CHECK(ledger_feed(&ledger, &end, trial.answer) == NULL);
+	CHECK(ledger_kept(&ledger, trial.memory) == NULL);
+}
+
+int main(void)
+{
+	test_whole_search();
+	test_instants();
+	test_hand_back();
+	test_slots();
+	test_kept();
+	puts("ledger: true lists pass, false ones are found");
+	return 0;
+}

@@ -1,0 +1,325 @@
+/*
+ * legal.c - which memories are legal (document 01, "The memory"): one function for
+ * each sentence. Any words of any length are safe to judge: no link is followed
+ * before its range is known, and a walk ends at the first slot it meets twice.
+ */
+#include "reference.h"
+#include "table.h"
+
+/* Contents agree with the sizes, and the total is not above the length. */
+static bool contents_agree(const uint32_t *memory, size_t words)
+{
+	struct layout layout;
+
+	if (words < CONTENTS_WORDS || memory[CONTENTS_VERSION] != LAYOUT_VERSION)
+		return false;
+	if (!sizes_in_range(memory[CONTENTS_CABINETS], memory[CONTENTS_LANES],
+			memory[CONTENTS_SLOTS]))
+		return false;
+	layout = layout_of(memory[CONTENTS_CABINETS], memory[CONTENTS_LANES],
+			memory[CONTENTS_SLOTS]);
+	for (int body = 0; body < BODIES; body++)
+		if (memory[CONTENTS_BODIES + 2 * body] != layout.first[body] ||
+				memory[CONTENTS_BODIES + 2 * body + 1] != layout.length[body])
+			return false;
+	return layout.total <= words;
+}
+
+/* Flags and masks are in range. */
+static bool bits_in_range(const struct table *t)
+{
+	if (t->pending_cabinets >> t->cabinets != 0)
+		return false;
+	for (uint32_t c = 0; c < t->cabinets; c++)
+		if (t->pending_lanes[c] >> t->lanes != 0)
+			return false;
+	for (uint32_t l = 0; l < table_lanes(t); l++)
+		if (t->lane[l].flags >= FLAGS)
+			return false;
+	return true;
+}
+
+static bool link_in_range(const struct table *t, uint32_t link)
+{
+	return link == PT_NONE || link < t->slots;
+}
+
+static bool ends_in_range(const struct table *t, struct queue queue)
+{
+	return link_in_range(t, queue.first) && link_in_range(t, queue.last);
+}
+
+static bool retired_in_range(const struct table *t, const struct retired *retired)
+{
+	return ends_in_range(t, retired->next) && ends_in_range(t, retired->current) &&
+		ends_in_range(t, retired->done);
+}
+
+/* Links are in range: chain heads, ends of queues, links of slots, positions. */
+static bool links_in_range(const struct table *t)
+{
+	for (int chain = 0; chain < CHAINS; chain++)
+		if (!link_in_range(t, t->heads[chain]))
+			return false;
+	if (!ends_in_range(t, t->free) || !retired_in_range(t, &t->global))
+		return false;
+	for (uint32_t l = 0; l < table_lanes(t); l++)
+		if (!retired_in_range(t, &t->lane[l].retired) ||
+				!link_in_range(t, t->lane[l].position))
+			return false;
+	for (uint32_t s = 0; s < t->slots; s++)
+		if (!link_in_range(t, t->slot[s].chain_link) ||
+				!link_in_range(t, t->slot[s].queue_link))
+			return false;
+	return true;
+}
+
+/* Fields are in range: those of every slot, and the code of every lookup. */
+static bool fields_in_range(const struct table *t)
+{
+	for (uint32_t s = 0; s < t->slots; s++)
+		if (t->slot[s].code > PT_MAX_CODE || t->slot[s].deposit > PT_MAX_DEPOSIT ||
+				t->slot[s].material > PT_MAX_MATERIAL)
+			return false;
+	for (uint32_t l = 0; l < table_lanes(t); l++)
+		if (t->lane[l].code > PT_MAX_CODE)
+			return false;
+	return true;
+}
+
+/* Marks the slots of a chain; false if one was marked before. */
+static bool mark_chain(const struct table *t, uint32_t head, bool marked[])
+{
+	for (uint32_t s = head; s != PT_NONE; s = t->slot[s].chain_link) {
+		if (marked[s])
+			return false;
+		marked[s] = true;
+	}
+	return true;
+}
+
+/* Marks the slots of a queue; false if one was marked before or its end is another. */
+static bool mark_queue(const struct table *t, struct queue queue, bool marked[])
+{
+	uint32_t last = PT_NONE;
+
+	for (uint32_t s = queue.first; s != PT_NONE; s = t->slot[s].queue_link) {
+		if (marked[s])
+			return false;
+		marked[s] = true;
+		last = s;
+	}
+	return last == queue.last;
+}
+
+static bool mark_retired(const struct table *t, const struct retired *retired, bool marked[])
+{
+	return mark_queue(t, retired->next, marked) &&
+		mark_queue(t, retired->current, marked) &&
+		mark_queue(t, retired->done, marked);
+}
+
+/* Each slot stands in exactly one chain or queue, queues agree with first and last. */
+static bool each_slot_once(const struct table *t)
+{
+	bool marked[PT_MAX_SLOTS] = { false };
+
+	for (int chain = 0; chain < CHAINS; chain++)
+		if (!mark_chain(t, t->heads[chain], marked))
+			return false;
+	if (!mark_queue(t, t->free, marked) || !mark_retired(t, &t->global, marked))
+		return false;
+	for (uint32_t l = 0; l < table_lanes(t); l++)
+		if (!mark_retired(t, &t->lane[l].retired, marked))
+			return false;
+	for (uint32_t s = 0; s < t->slots; s++)
+		if (!marked[s])
+			return false;
+	return true;
+}
+
+/* Whether no slot of a chain after @slot holds its code. */
+static bool code_once(const struct table *t, uint32_t slot)
+{
+	uint32_t s = t->slot[slot].chain_link;
+
+	while (s != PT_NONE && t->slot[s].code != t->slot[slot].code)
+		s = t->slot[s].chain_link;
+	return s == PT_NONE;
+}
+
+/* Chained slots are on chain (code mod 64), no code twice. */
+static bool codes_chained(const struct table *t)
+{
+	for (uint32_t chain = 0; chain < CHAINS; chain++)
+		for (uint32_t s = t->heads[chain]; s != PT_NONE; s = t->slot[s].chain_link)
+			if (t->slot[s].code % CHAINS != chain || !code_once(t, s))
+				return false;
+	return true;
+}
+
+/* Snapshot counts without a snapshot are 0. */
+static bool snapshots_at_rest(const struct table *t)
+{
+	for (uint32_t l = 0; l < table_lanes(t); l++)
+		for (int kind = 0; kind < KINDS; kind++)
+			if (!(t->lane[l].flags & FLAG_SNAPSHOT) && t->lane[l].snapshot[kind] != 0)
+				return false;
+	return true;
+}
+
+/* Without a lookup its code is 0 and its position none. */
+static bool lookups_at_rest(const struct table *t)
+{
+	for (uint32_t l = 0; l < table_lanes(t); l++)
+		if (!(t->lane[l].flags & FLAG_LOOKUP) &&
+				(t->lane[l].code != 0 || t->lane[l].position != PT_NONE))
+			return false;
+	return true;
+}
+
+static bool generation_at_rest(const struct retired *retired)
+{
+	return retired->current.first != PT_NONE || retired->generation == 0;
+}
+
+/* A generation is 0 while its current queue is empty. */
+static bool generations_at_rest(const struct table *t)
+{
+	for (uint32_t l = 0; l < table_lanes(t); l++)
+		if (!generation_at_rest(&t->lane[l].retired))
+			return false;
+	return generation_at_rest(&t->global);
+}
+
+/* A slot outside every queue, so a chained one, has queue link none. */
+static bool queue_links_at_rest(const struct table *t)
+{
+	for (int chain = 0; chain < CHAINS; chain++)
+		for (uint32_t s = t->heads[chain]; s != PT_NONE; s = t->slot[s].chain_link)
+			if (t->slot[s].queue_link != PT_NONE)
+				return false;
+	return true;
+}
+
+/* An offline lane has no section, no queues and no mask bit. */
+static bool offline_at_rest(const struct table *t)
+{
+	for (uint32_t l = 0; l < table_lanes(t); l++) {
+		const struct retired *retired = &t->lane[l].retired;
+
+		if (t->lane[l].flags & FLAG_ONLINE)
+			continue;
+		if (t->lane[l].flags & FLAG_READING || table_pending(t, l))
+			return false;
+		if (retired->next.first != PT_NONE || retired->current.first != PT_NONE ||
+				retired->done.first != PT_NONE)
+			return false;
+	}
+	return true;
+}
+
+/* A lookup runs only in an open section. */
+static bool lookups_in_sections(const struct table *t)
+{
+	for (uint32_t l = 0; l < table_lanes(t); l++)
+		if (t->lane[l].flags & FLAG_LOOKUP && !(t->lane[l].flags & FLAG_READING))
+			return false;
+	return true;
+}
+
+/* A snapshot is held only with the mask bit set. */
+static bool snapshots_pending(const struct table *t)
+{
+	for (uint32_t l = 0; l < table_lanes(t); l++)
+		if (t->lane[l].flags & FLAG_SNAPSHOT && !table_pending(t, l))
+			return false;
+	return true;
+}
+
+/* A cabinet's bit is set exactly when its lane mask is not 0. */
+static bool cabinets_agree(const struct table *t)
+{
+	for (uint32_t c = 0; c < t->cabinets; c++)
+		if ((t->pending_cabinets >> c & 1u) != (t->pending_lanes[c] != 0))
+			return false;
+	return true;
+}
+
+/* Free slots hold code, deposit and material 0 and chain link none. */
+static bool free_slots_clear(const struct table *t)
+{
+	for (uint32_t s = t->free.first; s != PT_NONE; s = t->slot[s].queue_link)
+		if (t->slot[s].code != 0 || t->slot[s].deposit != 0 ||
+				t->slot[s].material != 0 || t->slot[s].chain_link != PT_NONE)
+			return false;
+	return true;
+}
+
+/*
+ * With the cabinet mask 0, the largest requested is the current less 1; otherwise
+ * it is the current or one more.
+ */
+static bool largest_agrees(const struct table *t)
+{
+	if (t->pending_cabinets == 0)
+		return t->largest == t->current - 1u;
+	return t->largest == t->current || t->largest == t->current + 1u;
+}
+
+/*
+ * A lane's current queue has a generation one before, at, or one after the current,
+ * not later than the largest requested, and one before under a running grace period
+ * only with its bit set.
+ */
+static bool lane_generations_agree(const struct table *t)
+{
+	for (uint32_t l = 0; l < table_lanes(t); l++) {
+		uint32_t generation = t->lane[l].retired.generation;
+		bool before = generation == t->current - 1u;
+
+		if (t->lane[l].retired.current.first == PT_NONE)
+			continue;
+		if (!before && generation != t->current && generation != t->current + 1u)
+			return false;
+		if (generation_later(generation, t->largest))
+			return false;
+		if (before && t->pending_cabinets != 0 && !table_pending(t, l))
+			return false;
+	}
+	return true;
+}
+
+/* The global one is at or one after, again not later than the largest requested. */
+static bool global_generation_agrees(const struct table *t)
+{
+	uint32_t generation = t->global.generation;
+
+	if (t->global.current.first == PT_NONE)
+		return true;
+	return (generation == t->current || generation == t->current + 1u) &&
+		!generation_later(generation, t->largest);
+}
+
+bool table_read_legal(struct table *table, const uint32_t *memory, size_t words)
+{
+	if (!contents_agree(memory, words))
+		return false;
+	table_read(table, memory);
+	/* The walks come after the tests that make them safe. */
+	return bits_in_range(table) && links_in_range(table) && fields_in_range(table) &&
+		each_slot_once(table) && codes_chained(table) &&
+		snapshots_at_rest(table) && lookups_at_rest(table) &&
+		generations_at_rest(table) && queue_links_at_rest(table) &&
+		offline_at_rest(table) && lookups_in_sections(table) &&
+		snapshots_pending(table) && cabinets_agree(table) &&
+		free_slots_clear(table) && largest_agrees(table) &&
+		lane_generations_agree(table) && global_generation_agrees(table);
+}
+
+bool ref_legal(const uint32_t *memory, size_t words)
+{
+	struct table table;
+
+	return table_read_legal(&table, memory, words);
+}

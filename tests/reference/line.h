@@ -1,0 +1,36 @@
+/*
+ * line.h - a line of a listing, read byte by byte, so that it may be of any length
+ * (document 01, "A listing, and edges"): a command and its arguments in decimal
+ * digits, parted by single spaces.
+ */
+#ifndef REFERENCE_LINE_H
+#define REFERENCE_LINE_H
+
+#include <stdbool.h>
+#include <stddef.h>
+#include <stdint.h>
+
+#include "calls.h"
+
+enum { LINE_COMMAND = 8 };
+
+/* What is known of the bytes so far. */
+struct line {
+	char command[LINE_COMMAND];
+	size_t command_bytes;
+	size_t numbers;
+	size_t digits; /* of the last number */
+	uint64_t number[CALL_ARGUMENTS];
+	bool bad;
+};
+
+/* A line with no byte. */
+void line_start(struct line *line);
+
+/* The line with one byte more, which is no newline. */
+void line_byte(struct line *line, unsigned char byte);
+
+/* The call that the line is; false if it is bad. */
+bool line_call(const struct line *line, struct call *call);
+
+#endif /* REFERENCE_LINE_H */

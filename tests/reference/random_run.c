@@ -1,0 +1,232 @@
+/*
+ * random_run.c - long lists of calls from fixed seeds on tables of many sizes. After
+ * each call: the memory is legal, a refused call changed nothing, the ledger of
+ * demand 3 finds no fault, and a second memory of exactly the total answered alike.
+ */
+#include <inttypes.h>
+#include <stdio.h>
+#include <stdlib.h>
+#include <string.h>
+
+#include "ledger.h"
+#include "trial.h"
+
+/* A list: sizes of the table, codes in use, calls, and the first generation. */
+struct list {
+	uint32_t cabinets, lanes, slots, codes, calls, generation;
+};
+
+static const struct list lists[] = {
+	{ 1, 1, 1, 2, 1000, 1 },
+	{ 1, 2, 3, 4, 4000, 4294967290u },
+	{ 2, 1, 2, 3, 2000, 1 },
+	{ 1, 3, 8, 9, 3000, 4294967290u },
+	{ 2, 2, 5, 6, 3000, 2147483640u },
+	{ 2, 4, 16, 14, 3000, 1 },
+	{ 3, 3, 12, 20, 2000, 4294967294u },
+	{ 8, 1, 20, 12, 2000, 1 },
+	{ 1, 8, 40, 44, 2000, 4294967280u },
+	{ 4, 4, 100, 60, 2000, 1 },
+	{ 8, 8, 1024, 400, 1500, 4294967295u },
+};
+
+static struct trial trial;
+static struct ledger ledger;
+static uint64_t seed;
+static uint32_t *exact; /* the second memory */
+
+/* What all lists reached. */
+static uint32_t accepted[CALLS], refused[PT_NOTHING_DONE + 1];
+static uint32_t found, absent, periods;
+
+static uint32_t draw(uint32_t below)
+{
+	return trial_random(&seed, below);
+}
+
+static void complain(const struct call *call, const char *fault)
+{
+	fprintf(stderr, "%s %" PRIu64 " %" PRIu64 " %" PRIu64 " %" PRIu64 ": %s\n",
+		call_forms[call->name].command, call->argument[0], call->argument[1],
+		call->argument[2], call->argument[3], fault);
+	exit(1);
+}
+
+static void count_answer(const struct call *call, uint32_t generation)
+{
+	if (trial.answer[0] != PT_OK) {
+		CHECK(trial.answer[0] <= PT_NOTHING_DONE);
+		refused[trial.answer[0]]++;
+		return;
+	}
+	accepted[call->name]++;
+	if (call->name == CALL_STEP && trial.answer[1] == PT_FOUND)
+		found++;
+	if (call->name == CALL_STEP && trial.answer[1] == PT_ABSENT)
+		absent++;
+	if (trial_global(trial.memory)[GLOBAL_CURRENT_GENERATION] == generation + 1)
+		periods++;
+}
+
+/* Makes the call with all checks; @lent is the length of the second memory. */
+static void make(const struct call *call, size_t lent)
+{
+	uint32_t generation = trial_global(trial.memory)[GLOBAL_CURRENT_GENERATION];
+	uint32_t answer[PT_ANSWER_WORDS];
+	const char *fault;
+
+	trial_make(&trial, call);
+	call_make(&tested, exact, lent, answer, PT_ANSWER_WORDS, call);
+	CHECK(memcmp(answer, trial.answer, sizeof answer) == 0);
+	CHECK(memcmp(exact, trial.memory, lent * sizeof *exact) == 0);
+	fault = ledger_feed(&ledger, call, trial.answer);
+	if (fault == NULL)
+		fault = ledger_kept(&ledger, trial.memory);
+	if (fault != NULL)
+		complain(call, fault);
+	count_answer(call, generation);
+}
+
+/* Makes the call with both memories a word short. */
+static void make_short(const struct call *call, size_t total)
+{
+	trial.words = total - 1;
+	make(call, total - 1);
+	trial.words = TRIAL_WORDS;
+}
+
+/* Half of the codes share a chain; the others use their high word. */
+static uint64_t draw_code(const struct list *list)
+{
+	uint64_t n = draw(list->codes);
+
+	if (draw(60) == 0)
+		return PT_MAX_CODE + draw(2);
+	return n % 2 == 0 ? 64 * n : (n << 32) + 5;
+}
+
+static enum call_name draw_name(void)
+{
+	static const uint32_t weights[CALLS] = {
+		1, 44, 14, 20, 32, 16, 40, 90, 24, 36, 24, 6, 30, 4
+	};
+	uint32_t sum = 0, at;
+	int name = 0;
+
+	for (int n = 0; n < CALLS; n++)
+		sum += weights[n];
+	at = draw(sum);
+	while (at >= weights[name])
+		at -= weights[name++];
+	return (enum call_name)name;
+}
+
+static struct call draw_call(const struct list *list)
+{
+	uint32_t lanes = list->cabinets * list->lanes;
+	enum call_name name = draw_name();
+	struct call call = { .name = name };
+
+	call.argument[0] = draw(50) == 0 ? lanes + draw(3) : draw(lanes);
+	call.argument[1] = name == CALL_PASS ? draw(draw(20) == 0 ? 6 : 4) : draw_code(list);
+	call.argument[2] = draw(60) == 0 ? PT_MAX_DEPOSIT + draw(2) : draw(PT_MAX_DEPOSIT);
+	call.argument[3] = draw(60) == 0 ? 8 : draw(8);
+	if (name == CALL_SETUP) {
+		call.argument[0] = list->cabinets;
+		call.argument[1] = draw(3) == 0 ? list->lanes : 9;
+		call.argument[2] = list->slots;
+	}
+	for (uint32_t n = call_forms[name].arguments; n < CALL_ARGUMENTS; n++)
+		call.argument[n] = 0;
+	return call;
+}
+
+/* A lane finishes its lookup and its section, passes, and reclaims a slot. */
+static void let_pass(uint32_t lane, size_t total)
+{
+	do
+		make(&(struct call){ CALL_STEP, { lane } }, total);
+	while (trial.answer[0] == PT_OK && trial.answer[1] == PT_GOING);
+	make(&(struct call){ CALL_END, { lane } }, total);
+	make(&(struct call){ CALL_CLOCK, { lane } }, total);
+	make(&(struct call){ CALL_PASS, { lane, draw(4) } }, total);
+	make(&(struct call){ CALL_CLOCK, { lane } }, total);
+	make(&(struct call){ CALL_HAND_BACK, { lane } }, total);
+	if (draw(2) == 0)
+		make(&(struct call){ CALL_BEGIN, { lane } }, total);
+}
+
+/* Many lanes pass, so that grace periods end; some may stay in their sections. */
+static void let_many_pass(uint32_t lanes, size_t total)
+{
+	uint32_t staying = draw(3);
+
+	for (uint32_t l = 0; l < lanes; l++)
+		if (staying == 0 || draw(4) != 0)
+			let_pass(l, total);
+}
+
+static void set_up(const struct list *list, size_t total)
+{
+	struct call setup = { CALL_SETUP, { list->cabinets, list->lanes, list->slots } };
+	uint32_t *global;
+
+	trial_start(&trial);
+	memcpy(exact, trial.memory, total * sizeof *exact);
+	ledger_reset(&ledger);
+	trial_make(&trial, &setup);
+	CHECK(trial.answer[1] == total);
+	/* The list may begin at any generation; the ledger does not see it. */
+	global = trial_global(trial.memory);
+	global[GLOBAL_CURRENT_GENERATION] = list->generation;
+	global[GLOBAL_LARGEST_GENERATION] = list->generation - 1u;
+	for (uint32_t l = 0; l < list->cabinets * list->lanes; l++)
+		for (int kind = 0; kind < KINDS; kind++)
+			trial_lane(trial.memory, l)[LANE_COUNTS + kind] = PT_NONE - draw(4);
+	memcpy(exact, trial.memory, total * sizeof *exact);
+	make_short(&setup, total);
+}
+
+static void run(const struct list *list)
+{
+	size_t total = PT_WORDS(list->cabinets, list->lanes, list->slots);
+	uint32_t lanes = list->cabinets * list->lanes;
+
+	exact = malloc(total * sizeof *exact);
+	CHECK(exact != NULL);
+	set_up(list, total);
+	for (uint32_t n = 0; n < list->calls; n++) {
+		struct call call = draw_call(list);
+
+		if (draw(300) == 0)
+			make_short(&call, total);
+		else
+			make(&call, total);
+		if (draw(20 + 10 * lanes) == 0)
+			let_many_pass(lanes, total);
+	}
+	free(exact);
+}
+
+int main(void)
+{
+	uint32_t calls = 0;
+
+	for (size_t n = 0; n < sizeof lists / sizeof lists[0]; n++) {
+		seed = 1000 + n;
+		run(&lists[n]);
+	}
+	for (int name = 0; name < CALLS; name++) {
+		CHECK(accepted[name] > 0);
+		calls += accepted[name];
+	}
+	for (uint32_t cause = PT_BAD_SIZE; cause <= PT_NOTHING_DONE; cause++) {
+		CHECK(refused[cause] > 0);
+		calls += refused[cause];
+	}
+	CHECK(found > 0 && absent > 0 && periods > 0);
+	printf("random run: %" PRIu32 " calls, %" PRIu32 " found, %" PRIu32 " absent, %" PRIu32
+		" grace periods, %" PRIu32 " slots handed back\n",
+		calls, found, absent, periods, accepted[CALL_HAND_BACK]);
+	return 0;
+}

@@ -1,0 +1,576 @@
+/*
+ * reference.c - the fourteen calls on a table of structs. Each call reads the memory,
+ * tests its causes in their order, does its work on the structs and writes them back,
+ * so that a refusal changes no word.
+ */
+#include "reference.h"
+
+#include <string.h>
+
+#include "table.h"
+
+static const struct queue EMPTY = { .first = PT_NONE, .last = PT_NONE };
+
+static bool queue_empty(struct queue queue)
+{
+	return queue.first == PT_NONE;
+}
+
+/* Moves all slots of a queue to the end of another. */
+static void queue_join(struct table *t, struct queue *to, struct queue *from)
+{
+	if (queue_empty(*from))
+		return;
+	if (queue_empty(*to))
+		to->first = from->first;
+	else
+		t->slot[to->last].queue_link = from->first;
+	to->last = from->last;
+	*from = EMPTY;
+}
+
+/* Appends a slot that stands in no queue. */
+static void queue_append(struct table *t, struct queue *queue, uint32_t slot)
+{
+	struct queue one = { .first = slot, .last = slot };
+
+	t->slot[slot].queue_link = PT_NONE;
+	queue_join(t, queue, &one);
+}
+
+/* Takes the first slot out of a queue that is not empty. */
+static uint32_t queue_take(struct table *t, struct queue *queue)
+{
+	uint32_t slot = queue->first;
+
+	queue->first = t->slot[slot].queue_link;
+	if (queue_empty(*queue))
+		queue->last = PT_NONE;
+	t->slot[slot].queue_link = PT_NONE;
+	return slot;
+}
+
+static uint32_t queue_length(const struct table *t, struct queue queue)
+{
+	uint32_t length = 0;
+
+	for (uint32_t s = queue.first; s != PT_NONE; s = t->slot[s].queue_link)
+		length++;
+	return length;
+}
+
+static uint32_t retired_length(const struct table *t, const struct retired *retired)
+{
+	return queue_length(t, retired->next) + queue_length(t, retired->current) +
+		queue_length(t, retired->done);
+}
+
+/* The head or link that leads to the code's slot, or the none at the chain's end. */
+static uint32_t *chain_place(struct table *t, uint64_t code)
+{
+	uint32_t *link = &t->heads[code % CHAINS];
+
+	while (*link != PT_NONE && t->slot[*link].code != code)
+		link = &t->slot[*link].chain_link;
+	return link;
+}
+
+bool ref_later(uint32_t a, uint32_t b)
+{
+	return generation_later(a, b);
+}
+
+static bool period_running(const struct table *t)
+{
+	return t->pending_cabinets != 0;
+}
+
+/* Begin period: sets the bits of all online lanes and their cabinets. */
+static void period_begin(struct table *t)
+{
+	for (uint32_t l = 0; l < table_lanes(t); l++) {
+		if (!(t->lane[l].flags & FLAG_ONLINE))
+			continue;
+		t->pending_lanes[l / t->lanes] |= 1u << l % t->lanes;
+		t->pending_cabinets |= 1u << l / t->lanes;
+	}
+}
+
+/* End period: the next generation, and its grace period if one is requested. */
+static void period_end(struct table *t)
+{
+	t->current++;
+	if (!generation_later(t->current, t->largest))
+		period_begin(t);
+}
+
+/* Advances an owner's queues. */
+static void retired_advance(struct table *t, struct retired *retired)
+{
+	bool running;
+
+	if (!queue_empty(retired->current) && generation_later(t->current, retired->generation)) {
+		queue_join(t, &retired->done, &retired->current);
+		retired->generation = 0;
+	}
+	if (!queue_empty(retired->current) || queue_empty(retired->next))
+		return;
+	running = period_running(t);
+	queue_join(t, &retired->current, &retired->next);
+	retired->generation = t->current + (running ? 1u : 0u);
+	if (generation_later(retired->generation, t->largest))
+		t->largest = retired->generation;
+	if (!running)
+		period_begin(t);
+}
+
+/* Drops the lane's snapshot and bit, and ends the grace period if none remain. */
+static void lane_passed(struct table *t, uint32_t lane)
+{
+	uint32_t cabinet = lane / t->lanes;
+	bool pending = table_pending(t, lane);
+
+	t->lane[lane].flags &= ~(uint32_t)FLAG_SNAPSHOT;
+	memset(t->lane[lane].snapshot, 0, sizeof t->lane[lane].snapshot);
+	t->pending_lanes[cabinet] &= ~(1u << lane % t->lanes);
+	if (t->pending_lanes[cabinet] == 0)
+		t->pending_cabinets &= ~(1u << cabinet);
+	if (pending && !period_running(t))
+		period_end(t);
+}
+
+static bool counts_differ(const struct lane *lane)
+{
+	for (int kind = 0; kind < KINDS; kind++)
+		if (lane->counts[kind] != lane->snapshot[kind])
+			return true;
+	return false;
+}
+
+static uint32_t lanes_online(const struct table *t)
+{
+	uint32_t online = 0;
+
+	for (uint32_t l = 0; l < table_lanes(t); l++)
+		online += t->lane[l].flags & FLAG_ONLINE ? 1u : 0u;
+	return online;
+}
+
+static void lane_at_rest(struct lane *lane)
+{
+	memset(lane, 0, sizeof *lane);
+	lane->retired = (struct retired){ .next = EMPTY, .current = EMPTY, .done = EMPTY };
+	lane->position = PT_NONE;
+}
+
+static void slot_at_rest(struct slot *slot)
+{
+	memset(slot, 0, sizeof *slot);
+	slot->chain_link = PT_NONE;
+	slot->queue_link = PT_NONE;
+}
+
+/* Writes the five words of an answer and returns the status. */
+static uint32_t reply(uint32_t *answer, uint32_t status,
+		uint32_t first, uint32_t second, uint32_t third, uint32_t fourth)
+{
+	answer[0] = status;
+	answer[1] = first;
+	answer[2] = second;
+	answer[3] = third;
+	answer[4] = fourth;
+	return status;
+}
+
+static uint32_t refuse(uint32_t *answer, uint32_t cause)
+{
+	return reply(answer, cause, 0, 0, 0, 0);
+}
+
+/* Writes the table back and answers status 0. */
+static uint32_t finish(const struct table *t, uint32_t *memory, uint32_t *answer,
+		uint32_t first, uint32_t second, uint32_t third)
+{
+	table_write(t, memory);
+	return reply(answer, PT_OK, first, second, third, 0);
+}
+
+/* Reads the table for a call that names a lane: causes 3 and 4. */
+static uint32_t open_lane(struct table *t, const uint32_t *memory, size_t words, uint32_t lane)
+{
+	if (!table_read_legal(t, memory, words))
+		return PT_NOT_LEGAL;
+	if (lane >= table_lanes(t))
+		return PT_NO_LANE;
+	return PT_OK;
+}
+
+/* Reads the table for a call of an online lane: causes 3, 4 and 5. */
+static uint32_t open_online(struct table *t, const uint32_t *memory, size_t words, uint32_t lane)
+{
+	uint32_t cause = open_lane(t, memory, words, lane);
+
+	if (cause == PT_OK && !(t->lane[lane].flags & FLAG_ONLINE))
+		return PT_OFFLINE;
+	return cause;
+}
+
+uint32_t ref_setup(uint32_t *memory, size_t words, uint32_t *answer, size_t answer_words,
+		uint32_t cabinets, uint32_t lanes, uint32_t slots)
+{
+	struct table t = { .cabinets = cabinets, .lanes = lanes, .slots = slots };
+	uint32_t total;
+
+	if (answer_words < PT_ANSWER_WORDS)
+		return PT_SHORT_ANSWER;
+	if (!sizes_in_range(cabinets, lanes, slots))
+		return refuse(answer, PT_BAD_SIZE);
+	total = layout_of(cabinets, lanes, slots).total;
+	if (words < total)
+		return refuse(answer, PT_SHORT_MEMORY);
+
+	t.current = 1;
+	t.largest = 0;
+	for (int chain = 0; chain < CHAINS; chain++)
+		t.heads[chain] = PT_NONE;
+	t.free = EMPTY;
+	t.global = (struct retired){ .next = EMPTY, .current = EMPTY, .done = EMPTY };
+	for (uint32_t l = 0; l < table_lanes(&t); l++) {
+		lane_at_rest(&t.lane[l]);
+		t.lane[l].flags = FLAG_ONLINE;
+	}
+	for (uint32_t s = 0; s < slots; s++) {
+		slot_at_rest(&t.slot[s]);
+		queue_append(&t, &t.free, s);
+	}
+	return finish(&t, memory, answer, total, 0, 0);
+}
+
+static bool record_in_range(uint64_t code, uint32_t deposit, uint32_t material)
+{
+	return code <= PT_MAX_CODE && deposit <= PT_MAX_DEPOSIT && material <= PT_MAX_MATERIAL;
+}
+
+/* Takes the first free slot for a record. */
+static uint32_t take_free(struct table *t, uint64_t code, uint32_t deposit, uint32_t material)
+{
+	uint32_t slot = queue_take(t, &t->free);
+
+	t->slot[slot].code = code;
+	t->slot[slot].deposit = deposit;
+	t->slot[slot].material = material;
+	return slot;
+}
+
+uint32_t ref_add(uint32_t *memory, size_t words, uint32_t *answer, size_t answer_words,
+		uint32_t lane, uint64_t code, uint32_t deposit, uint32_t material)
+{
+	struct table t;
+	uint32_t cause, slot;
+
+	if (answer_words < PT_ANSWER_WORDS)
+		return PT_SHORT_ANSWER;
+	cause = open_online(&t, memory, words, lane);
+	if (cause != PT_OK)
+		return refuse(answer, cause);
+	if (!record_in_range(code, deposit, material))
+		return refuse(answer, PT_OUT_OF_RANGE);
+	if (*chain_place(&t, code) != PT_NONE)
+		return refuse(answer, PT_CODE_PRESENT);
+	if (queue_empty(t.free))
+		return refuse(answer, PT_NO_FREE_SLOT);
+
+	slot = take_free(&t, code, deposit, material);
+	t.slot[slot].chain_link = t.heads[code % CHAINS];
+	t.heads[code % CHAINS] = slot;
+	return finish(&t, memory, answer, slot, 0, 0);
+}
+
+uint32_t ref_replace(uint32_t *memory, size_t words, uint32_t *answer, size_t answer_words,
+		uint32_t lane, uint64_t code, uint32_t deposit, uint32_t material)
+{
+	struct table t;
+	uint32_t cause, *place, old, slot;
+
+	if (answer_words < PT_ANSWER_WORDS)
+		return PT_SHORT_ANSWER;
+	cause = open_online(&t, memory, words, lane);
+	if (cause != PT_OK)
+		return refuse(answer, cause);
+	if (!record_in_range(code, deposit, material))
+		return refuse(answer, PT_OUT_OF_RANGE);
+	place = chain_place(&t, code);
+	if (*place == PT_NONE)
+		return refuse(answer, PT_CODE_MISSING);
+	if (queue_empty(t.free))
+		return refuse(answer, PT_NO_FREE_SLOT);
+
+	old = *place;
+	slot = take_free(&t, code, deposit, material);
+	t.slot[slot].chain_link = t.slot[old].chain_link;
+	*place = slot;
+	queue_append(&t, &t.lane[lane].retired.next, old);
+	return finish(&t, memory, answer, slot, old, 0);
+}
+
+uint32_t ref_delete(uint32_t *memory, size_t words, uint32_t *answer, size_t answer_words,
+		uint32_t lane, uint64_t code)
+{
+	struct table t;
+	uint32_t cause, *place, old;
+
+	if (answer_words < PT_ANSWER_WORDS)
+		return PT_SHORT_ANSWER;
+	cause = open_online(&t, memory, words, lane);
+	if (cause != PT_OK)
+		return refuse(answer, cause);
+	if (code > PT_MAX_CODE)
+		return refuse(answer, PT_OUT_OF_RANGE);
+	place = chain_place(&t, code);
+	if (*place == PT_NONE)
+		return refuse(answer, PT_CODE_MISSING);
+
+	old = *place;
+	*place = t.slot[old].chain_link;
+	queue_append(&t, &t.lane[lane].retired.next, old);
+	return finish(&t, memory, answer, old, 0, 0);
+}
+
+uint32_t ref_begin(uint32_t *memory, size_t words, uint32_t *answer, size_t answer_words,
+		uint32_t lane)
+{
+	struct table t;
+	uint32_t cause;
+
+	if (answer_words < PT_ANSWER_WORDS)
+		return PT_SHORT_ANSWER;
+	cause = open_online(&t, memory, words, lane);
+	if (cause != PT_OK)
+		return refuse(answer, cause);
+	if (t.lane[lane].flags & FLAG_READING)
+		return refuse(answer, PT_IN_SECTION);
+
+	t.lane[lane].flags |= FLAG_READING;
+	return finish(&t, memory, answer, 0, 0, 0);
+}
+
+uint32_t ref_end(uint32_t *memory, size_t words, uint32_t *answer, size_t answer_words,
+		uint32_t lane)
+{
+	struct table t;
+	uint32_t cause;
+
+	if (answer_words < PT_ANSWER_WORDS)
+		return PT_SHORT_ANSWER;
+	cause = open_online(&t, memory, words, lane);
+	if (cause != PT_OK)
+		return refuse(answer, cause);
+	if (!(t.lane[lane].flags & FLAG_READING))
+		return refuse(answer, PT_NO_SECTION);
+	if (t.lane[lane].flags & FLAG_LOOKUP)
+		return refuse(answer, PT_IN_LOOKUP);
+
+	t.lane[lane].flags &= ~(uint32_t)FLAG_READING;
+	return finish(&t, memory, answer, 0, 0, 0);
+}
+
+uint32_t ref_start(uint32_t *memory, size_t words, uint32_t *answer, size_t answer_words,
+		uint32_t lane, uint64_t code)
+{
+	struct table t;
+	uint32_t cause;
+
+	if (answer_words < PT_ANSWER_WORDS)
+		return PT_SHORT_ANSWER;
+	cause = open_online(&t, memory, words, lane);
+	if (cause != PT_OK)
+		return refuse(answer, cause);
+	if (!(t.lane[lane].flags & FLAG_READING))
+		return refuse(answer, PT_NO_SECTION);
+	if (t.lane[lane].flags & FLAG_LOOKUP)
+		return refuse(answer, PT_IN_LOOKUP);
+	if (code > PT_MAX_CODE)
+		return refuse(answer, PT_OUT_OF_RANGE);
+
+	t.lane[lane].flags |= FLAG_LOOKUP;
+	t.lane[lane].code = code;
+	t.lane[lane].position = t.heads[code % CHAINS];
+	return finish(&t, memory, answer, 0, 0, 0);
+}
+
+/* The outcome of a step; moves the position unless it is found or absent. */
+static uint32_t lookup_step(const struct table *t, struct lane *lane)
+{
+	if (lane->position == PT_NONE)
+		return PT_ABSENT;
+	if (t->slot[lane->position].code == lane->code)
+		return PT_FOUND;
+	lane->position = t->slot[lane->position].chain_link;
+	return PT_GOING;
+}
+
+uint32_t ref_step(uint32_t *memory, size_t words, uint32_t *answer, size_t answer_words,
+		uint32_t lane)
+{
+	struct table t;
+	uint32_t cause, outcome, slot;
+
+	if (answer_words < PT_ANSWER_WORDS)
+		return PT_SHORT_ANSWER;
+	cause = open_online(&t, memory, words, lane);
+	if (cause != PT_OK)
+		return refuse(answer, cause);
+	if (!(t.lane[lane].flags & FLAG_LOOKUP))
+		return refuse(answer, PT_NO_LOOKUP);
+
+	outcome = lookup_step(&t, &t.lane[lane]);
+	slot = t.lane[lane].position;
+	if (outcome != PT_GOING) {
+		t.lane[lane].flags &= ~(uint32_t)FLAG_LOOKUP;
+		t.lane[lane].code = 0;
+		t.lane[lane].position = PT_NONE;
+	}
+	table_write(&t, memory);
+	if (outcome != PT_FOUND)
+		return reply(answer, PT_OK, outcome, 0, 0, 0);
+	return reply(answer, PT_OK, outcome, slot, t.slot[slot].deposit, t.slot[slot].material);
+}
+
+uint32_t ref_pass(uint32_t *memory, size_t words, uint32_t *answer, size_t answer_words,
+		uint32_t lane, uint32_t kind)
+{
+	struct table t;
+	uint32_t cause;
+
+	if (answer_words < PT_ANSWER_WORDS)
+		return PT_SHORT_ANSWER;
+	cause = open_online(&t, memory, words, lane);
+	if (cause != PT_OK)
+		return refuse(answer, cause);
+	if (t.lane[lane].flags & FLAG_READING)
+		return refuse(answer, PT_IN_SECTION);
+	if (kind >= KINDS)
+		return refuse(answer, PT_OUT_OF_RANGE);
+
+	t.lane[lane].counts[kind]++;
+	return finish(&t, memory, answer, 0, 0, 0);
+}
+
+uint32_t ref_clock(uint32_t *memory, size_t words, uint32_t *answer, size_t answer_words,
+		uint32_t lane)
+{
+	struct table t;
+	struct lane *own;
+	uint32_t cause;
+
+	if (answer_words < PT_ANSWER_WORDS)
+		return PT_SHORT_ANSWER;
+	cause = open_online(&t, memory, words, lane);
+	if (cause != PT_OK)
+		return refuse(answer, cause);
+
+	own = &t.lane[lane];
+	if (own->flags & FLAG_SNAPSHOT && counts_differ(own))
+		lane_passed(&t, lane);
+	retired_advance(&t, &own->retired);
+	retired_advance(&t, &t.global);
+	if (table_pending(&t, lane) && !(own->flags & FLAG_SNAPSHOT)) {
+		own->flags |= FLAG_SNAPSHOT;
+		memcpy(own->snapshot, own->counts, sizeof own->snapshot);
+	}
+	return finish(&t, memory, answer, t.current, t.largest, period_running(&t) ? 1 : 0);
+}
+
+uint32_t ref_on(uint32_t *memory, size_t words, uint32_t *answer, size_t answer_words,
+		uint32_t lane)
+{
+	struct table t;
+	uint32_t cause;
+
+	if (answer_words < PT_ANSWER_WORDS)
+		return PT_SHORT_ANSWER;
+	cause = open_lane(&t, memory, words, lane);
+	if (cause != PT_OK)
+		return refuse(answer, cause);
+	if (t.lane[lane].flags & FLAG_ONLINE)
+		return refuse(answer, PT_ONLINE);
+
+	/* An offline lane has empty queues and no bit already; its counts are kept. */
+	t.lane[lane].flags |= FLAG_ONLINE;
+	return finish(&t, memory, answer, 0, 0, 0);
+}
+
+uint32_t ref_off(uint32_t *memory, size_t words, uint32_t *answer, size_t answer_words,
+		uint32_t lane)
+{
+	struct table t;
+	struct retired *own;
+	uint32_t cause;
+
+	if (answer_words < PT_ANSWER_WORDS)
+		return PT_SHORT_ANSWER;
+	cause = open_online(&t, memory, words, lane);
+	if (cause != PT_OK)
+		return refuse(answer, cause);
+	if (t.lane[lane].flags & FLAG_READING)
+		return refuse(answer, PT_IN_SECTION);
+	if (lanes_online(&t) == 1)
+		return refuse(answer, PT_LAST_LANE);
+
+	/* Offline first: a grace period that begins in this call leaves the lane out. */
+	t.lane[lane].flags &= ~(uint32_t)FLAG_ONLINE;
+	own = &t.lane[lane].retired;
+	queue_join(&t, &t.global.next, &own->current);
+	queue_join(&t, &t.global.next, &own->next);
+	queue_join(&t, &t.global.done, &own->done);
+	own->generation = 0;
+	lane_passed(&t, lane);
+	retired_advance(&t, &t.global);
+	return finish(&t, memory, answer, 0, 0, 0);
+}
+
+uint32_t ref_hand_back(uint32_t *memory, size_t words, uint32_t *answer, size_t answer_words,
+		uint32_t lane)
+{
+	struct table t;
+	struct queue *done;
+	uint32_t cause, slot;
+
+	if (answer_words < PT_ANSWER_WORDS)
+		return PT_SHORT_ANSWER;
+	cause = open_online(&t, memory, words, lane);
+	if (cause != PT_OK)
+		return refuse(answer, cause);
+	done = &t.lane[lane].retired.done;
+	if (queue_empty(*done))
+		done = &t.global.done;
+	if (queue_empty(*done))
+		return refuse(answer, PT_NOTHING_DONE);
+
+	slot = queue_take(&t, done);
+	slot_at_rest(&t.slot[slot]);
+	queue_append(&t, &t.free, slot);
+	return finish(&t, memory, answer, slot, 0, 0);
+}
+
+uint32_t ref_awaited(uint32_t *memory, size_t words, uint32_t *answer, size_t answer_words)
+{
+	struct table t;
+	uint32_t pending = 0, lowest = PT_NONE, retired;
+
+	if (answer_words < PT_ANSWER_WORDS)
+		return PT_SHORT_ANSWER;
+	if (!table_read_legal(&t, memory, words))
+		return refuse(answer, PT_NOT_LEGAL);
+
+	retired = retired_length(&t, &t.global);
+	for (uint32_t l = 0; l < table_lanes(&t); l++) {
+		retired += retired_length(&t, &t.lane[l].retired);
+		if (!table_pending(&t, l))
+			continue;
+		pending++;
+		if (lowest == PT_NONE)
+			lowest = l;
+	}
+	return reply(answer, PT_OK, pending, lowest, queue_length(&t, t.free), retired);
+}

@@ -1,0 +1,738 @@
+/*
+ * selftest.c - executed cases of the fourteen calls: the words of a set-up, every
+ * cause and the order of the causes, limits, wraps, chains, grace periods, lanes on
+ * and off, short answers, and the words past the total.
+ */
+#include <stdio.h>
+#include <stdlib.h>
+#include <string.h>
+
+#include "reference.h"
+#include "trial.h"
+
+static struct trial trial;
+
+/* Addresses here are document 01's numbers, and not those of layout.h. */
+static void test_words_of_setup(void)
+{
+	static const uint32_t contents[12] = { 1, 1, 1, 2, 12, 76, 88, 1, 89, 19, 108, 12 };
+	static const uint32_t lane[19] = {
+		1, 0, 0, 0, 0, 0, 0, 0, 0, 0,
+		PT_NONE, PT_NONE, PT_NONE, PT_NONE, PT_NONE, PT_NONE, 0, 0, PT_NONE
+	};
+	static const uint32_t slots[12] = {
+		0, 0, 0, 0, PT_NONE, 1, 0, 0, 0, 0, PT_NONE, PT_NONE
+	};
+	uint32_t expected[120];
+
+	for (int n = 0; n < 120; n++)
+		expected[n] = PT_NONE;
+	memcpy(expected, contents, sizeof contents);
+	expected[12] = 1; /* current generation */
+	expected[13] = 0; /* largest requested */
+	expected[14] = 0; /* cabinet mask */
+	expected[79] = 0; /* free queue */
+	expected[80] = 1;
+	expected[87] = 0; /* generation of the global current queue */
+	expected[88] = 0; /* lane mask */
+	memcpy(expected + 89, lane, sizeof lane);
+	memcpy(expected + 108, slots, sizeof slots);
+
+	trial_start(&trial);
+	trial_expect(&trial, "setup 1 1 2", "0 120 0 0 0");
+	CHECK(memcmp(trial.memory, expected, sizeof expected) == 0);
+}
+
+static void test_words_of_calls(void)
+{
+	static const struct trial_step steps[] = {
+		{ "setup 1 2 3", "0 145 0 0 0" },
+		{ "add 0 4294967313 25 1", "0 0 0 0 0" }, /* 2^32 + 17 */
+		{ "add 0 17 26 2", "0 1 0 0 0" },
+		{ "begin 1", "0 0 0 0 0" },
+		{ "start 1 4294967313", "0 0 0 0 0" },
+		{ "del 0 17", "0 1 0 0 0" },
+		{ "pass 0 3", "0 0 0 0 0" },
+		{ "clock 0", "0 1 1 1 0" },
+	};
+	static const uint32_t lane0[19] = {
+		9, 0, 0, 0, 1, 0, 0, 0, 1, 1,
+		PT_NONE, PT_NONE, 1, 1, PT_NONE, PT_NONE, 0, 0, PT_NONE
+	};
+	static const uint32_t lane1[19] = {
+		7, 0, 0, 0, 0, 0, 0, 0, 0, 0,
+		PT_NONE, PT_NONE, PT_NONE, PT_NONE, PT_NONE, PT_NONE, 17, 1, 1
+	};
+	static const uint32_t slots[18] = {
+		17, 1, 25, 1, PT_NONE, PT_NONE, 17, 0, 26, 2, 0, PT_NONE,
+		0, 0, 0, 0, PT_NONE, PT_NONE
+	};
+
+	trial_start(&trial);
+	TRIAL_PLAY(&trial, steps);
+	CHECK(trial.memory[12] == 1 && trial.memory[13] == 1 && trial.memory[14] == 1);
+	CHECK(trial.memory[15 + 17] == 0);
+	CHECK(trial.memory[79] == 2 && trial.memory[80] == 2);
+	CHECK(trial.memory[88] == 3);
+	CHECK(memcmp(trial.memory + 89, lane0, sizeof lane0) == 0);
+	CHECK(memcmp(trial.memory + 108, lane1, sizeof lane1) == 0);
+	CHECK(memcmp(trial.memory + 127, slots, sizeof slots) == 0);
+}
+
+static void test_totals(void)
+{
+	uint32_t *memory = trial.memory;
+	uint32_t answer[PT_ANSWER_WORDS];
+
+	trial_start(&trial);
+	for (uint32_t c = 1; c <= 8; c++)
+		for (uint32_t m = 1; m <= 8; m++)
+			for (uint32_t s = 1; s <= 1024; s += 93) {
+				size_t total = 88 + c + 19 * c * m + 6 * s;
+
+				CHECK(PT_WORDS(c, m, s) == total);
+				CHECK(tested.setup(memory, total, answer, 5, c, m, s) == 0);
+				CHECK(answer[1] == total && ref_legal(memory, total));
+				CHECK(tested.setup(memory, total - 1, answer, 5, c, m, s) == 2);
+			}
+}
+
+static void test_setup_refusals(void)
+{
+	static const struct trial_step sizes[] = {
+		{ "setup 0 1 1", "1 0 0 0 0" }, { "setup 9 1 1", "1 0 0 0 0" },
+		{ "setup 1 0 1", "1 0 0 0 0" }, { "setup 1 9 1", "1 0 0 0 0" },
+		{ "setup 1 1 0", "1 0 0 0 0" }, { "setup 1 1 1025", "1 0 0 0 0" },
+		{ "setup 8 8 0", "1 0 0 0 0" }, { "setup 8 8 1025", "1 0 0 0 0" },
+		{ "setup 4294967295 1 1", "1 0 0 0 0" }, { "setup 1 4294967295 1", "1 0 0 0 0" },
+		{ "setup 1 1 4294967295", "1 0 0 0 0" },
+		{ "setup 65536 65536 1", "1 0 0 0 0" },
+	};
+
+	trial_start(&trial);
+	TRIAL_PLAY(&trial, sizes);
+	trial.words = 0; /* the size is tested first */
+	TRIAL_PLAY(&trial, sizes);
+	trial_expect(&trial, "setup 1 1 1", "2 0 0 0 0");
+	trial.words = 7455;
+	trial_expect(&trial, "setup 8 8 1024", "2 0 0 0 0");
+	trial.words = 7456;
+	trial_expect(&trial, "setup 8 8 1024", "0 7456 0 0 0");
+	trial_expect(&trial, "awaited", "0 0 4294967295 1024 0");
+	/* A refused set-up leaves the table; an accepted one begins another. */
+	trial_expect(&trial, "setup 8 8 1025", "1 0 0 0 0");
+	trial_expect(&trial, "begin 63", "0 0 0 0 0");
+	trial_expect(&trial, "setup 1 1 1", "0 114 0 0 0");
+	trial_expect(&trial, "begin 0", "0 0 0 0 0");
+}
+
+/* Every call but set-up refuses a memory that is not legal, before any other cause. */
+static void test_not_legal(void)
+{
+	static const struct trial_step steps[] = {
+		{ "add 0 5 1 1", "3 0 0 0 0" }, { "rep 0 5 1 1", "3 0 0 0 0" },
+		{ "del 0 5", "3 0 0 0 0" }, { "begin 0", "3 0 0 0 0" },
+		{ "end 0", "3 0 0 0 0" }, { "start 0 5", "3 0 0 0 0" },
+		{ "step 0", "3 0 0 0 0" }, { "pass 0 0", "3 0 0 0 0" },
+		{ "clock 0", "3 0 0 0 0" }, { "on 0", "3 0 0 0 0" },
+		{ "off 0", "3 0 0 0 0" }, { "back 0", "3 0 0 0 0" },
+		{ "awaited", "3 0 0 0 0" }, { "add 99 18446744073709551615 1 1", "3 0 0 0 0" },
+	};
+
+	trial_start(&trial);
+	TRIAL_PLAY(&trial, steps);
+	trial.words = 0;
+	TRIAL_PLAY(&trial, steps);
+	trial.words = TRIAL_WORDS;
+	memset(trial.memory, 0, sizeof trial.memory);
+	TRIAL_PLAY(&trial, steps);
+	/* A table that was legal, lent one word short. */
+	trial_expect(&trial, "setup 1 2 3", "0 145 0 0 0");
+	trial.words = 144;
+	TRIAL_PLAY(&trial, steps);
+	trial.words = 145;
+	trial_expect(&trial, "begin 0", "0 0 0 0 0");
+}
+
+/* Causes 4, 5, 6 and 15. */
+static void test_lanes(void)
+{
+	static const struct trial_step steps[] = {
+		{ "setup 1 2 2", "0 139 0 0 0" },
+		{ "add 2 5 1 1", "4 0 0 0 0" }, { "rep 2 5 1 1", "4 0 0 0 0" },
+		{ "del 2 5", "4 0 0 0 0" }, { "begin 2", "4 0 0 0 0" },
+		{ "end 2", "4 0 0 0 0" }, { "start 2 5", "4 0 0 0 0" },
+		{ "step 2", "4 0 0 0 0" }, { "pass 2 0", "4 0 0 0 0" },
+		{ "clock 2", "4 0 0 0 0" }, { "on 2", "4 0 0 0 0" },
+		{ "off 2", "4 0 0 0 0" }, { "back 2", "4 0 0 0 0" },
+		{ "clock 64", "4 0 0 0 0" }, { "clock 4294967295", "4 0 0 0 0" },
+		{ "add 2 18446744073709551615 100001 8", "4 0 0 0 0" },
+		{ "on 1", "6 0 0 0 0" }, { "off 1", "0 0 0 0 0" },
+		{ "add 1 5 1 1", "5 0 0 0 0" }, { "rep 1 5 1 1", "5 0 0 0 0" },
+		{ "del 1 5", "5 0 0 0 0" }, { "begin 1", "5 0 0 0 0" },
+		{ "end 1", "5 0 0 0 0" }, { "start 1 5", "5 0 0 0 0" },
+		{ "step 1", "5 0 0 0 0" }, { "pass 1 0", "5 0 0 0 0" },
+		{ "clock 1", "5 0 0 0 0" }, { "off 1", "5 0 0 0 0" },
+		{ "back 1", "5 0 0 0 0" }, { "add 1 18446744073709551615 1 1", "5 0 0 0 0" },
+		{ "pass 1 4", "5 0 0 0 0" },
+		{ "off 0", "15 0 0 0 0" }, { "on 0", "6 0 0 0 0" },
+		{ "awaited", "0 0 4294967295 2 0" },
+		{ "on 1", "0 0 0 0 0" }, { "on 1", "6 0 0 0 0" },
+		{ "off 0", "0 0 0 0 0" }, { "off 1", "15 0 0 0 0" },
+		/* One lane alone is the last one. */
+		{ "setup 1 1 1", "0 114 0 0 0" }, { "off 0", "15 0 0 0 0" },
+	};
+
+	trial_start(&trial);
+	TRIAL_PLAY(&trial, steps);
+}
+
+/* Causes 7 to 10. */
+static void test_sections(void)
+{
+	static const struct trial_step steps[] = {
+		{ "setup 1 2 2", "0 139 0 0 0" },
+		{ "end 0", "8 0 0 0 0" }, { "start 0 5", "8 0 0 0 0" },
+		{ "start 0 18446744073709551615", "8 0 0 0 0" },
+		{ "step 0", "10 0 0 0 0" },
+		{ "begin 0", "0 0 0 0 0" }, { "begin 0", "7 0 0 0 0" },
+		{ "pass 0 0", "7 0 0 0 0" }, { "pass 0 4", "7 0 0 0 0" },
+		{ "off 0", "7 0 0 0 0" },
+		{ "step 0", "10 0 0 0 0" },
+		{ "start 0 10000000000000", "11 0 0 0 0" },
+		{ "start 0 5", "0 0 0 0 0" }, { "start 0 5", "9 0 0 0 0" },
+		{ "start 0 18446744073709551615", "9 0 0 0 0" }, { "end 0", "9 0 0 0 0" },
+		{ "begin 0", "7 0 0 0 0" }, { "clock 0", "0 1 0 0 0" },
+		{ "step 1", "10 0 0 0 0" }, { "end 1", "8 0 0 0 0" },
+		{ "step 0", "0 2 0 0 0" }, { "step 0", "10 0 0 0 0" },
+		{ "start 0 5", "0 0 0 0 0" }, { "step 0", "0 2 0 0 0" },
+		{ "end 0", "0 0 0 0 0" }, { "end 0", "8 0 0 0 0" },
+		/* The section is tested before the last lane online. */
+		{ "off 1", "0 0 0 0 0" }, { "begin 0", "0 0 0 0 0" },
+		{ "off 0", "7 0 0 0 0" }, { "end 0", "0 0 0 0 0" },
+		{ "off 0", "15 0 0 0 0" },
+	};
+
+	trial_start(&trial);
+	TRIAL_PLAY(&trial, steps);
+}
+
+/* Causes 11 to 14 and 16. */
+static void test_records(void)
+{
+	static const struct trial_step steps[] = {
+		{ "setup 1 2 2", "0 139 0 0 0" },
+		{ "add 0 10000000000000 1 1", "11 0 0 0 0" },
+		{ "add 0 18446744073709551615 1 1", "11 0 0 0 0" },
+		{ "add 0 5 100001 1", "11 0 0 0 0" }, { "add 0 5 1 8", "11 0 0 0 0" },
+		{ "add 0 5 4294967295 4294967295", "11 0 0 0 0" },
+		{ "add 0 9999999999999 100000 7", "0 0 0 0 0" },
+		{ "add 0 9999999999999 100001 7", "11 0 0 0 0" },
+		{ "add 0 9999999999999 1 1", "12 0 0 0 0" },
+		{ "rep 0 10000000000000 1 1", "11 0 0 0 0" },
+		{ "rep 0 9999999999999 100001 1", "11 0 0 0 0" },
+		{ "rep 0 9999999999999 1 8", "11 0 0 0 0" },
+		{ "del 0 10000000000000", "11 0 0 0 0" },
+		{ "rep 0 5 1 1", "13 0 0 0 0" }, { "del 0 5", "13 0 0 0 0" },
+		{ "add 1 5 1 1", "0 1 0 0 0" },
+		{ "add 0 6 1 1", "14 0 0 0 0" }, { "add 0 5 1 1", "12 0 0 0 0" },
+		{ "rep 0 6 1 1", "13 0 0 0 0" }, { "rep 0 5 1 1", "14 0 0 0 0" },
+		{ "back 0", "16 0 0 0 0" },
+		{ "pass 0 3", "0 0 0 0 0" }, { "pass 0 4", "11 0 0 0 0" },
+		{ "pass 0 4294967295", "11 0 0 0 0" },
+		{ "del 1 9999999999999", "0 0 0 0 0" }, { "del 1 9999999999999", "13 0 0 0 0" },
+		{ "back 1", "16 0 0 0 0" }, { "add 0 6 1 1", "14 0 0 0 0" },
+		{ "del 0 5", "0 1 0 0 0" }, { "rep 0 5 1 1", "13 0 0 0 0" },
+		{ "awaited", "0 0 4294967295 0 2" },
+	};
+
+	trial_start(&trial);
+	TRIAL_PLAY(&trial, steps);
+}
+
+/* Chains: heads, a slot in the middle, a slot under a reader. */
+static void test_chains(void)
+{
+	static const struct trial_step six_calls[] = {
+		{ "setup 1 1 4", "0 132 0 0 0" },
+		{ "add 0 192 10 1", "0 0 0 0 0" }, { "add 0 0 20 2", "0 1 0 0 0" },
+		{ "begin 0", "0 0 0 0 0" }, { "start 0 192", "0 0 0 0 0" },
+		{ "del 0 0", "0 1 0 0 0" },
+		{ "step 0", "0 0 0 0 0" }, { "step 0", "0 1 0 10 1" },
+	};
+	static const struct trial_step replaced[] = {
+		{ "setup 1 2 8", "0 175 0 0 0" },
+		{ "add 0 0 10 0", "0 0 0 0 0" }, { "add 0 64 11 1", "0 1 0 0 0" },
+		{ "add 0 128 12 2", "0 2 0 0 0" },
+		/* A reader past the head finds the new slot in the old one's place. */
+		{ "begin 0", "0 0 0 0 0" }, { "start 0 64", "0 0 0 0 0" },
+		{ "step 0", "0 0 0 0 0" }, { "rep 1 64 13 3", "0 3 1 0 0" },
+		{ "step 0", "0 1 1 11 1" }, { "start 0 64", "0 0 0 0 0" },
+		{ "step 0", "0 0 0 0 0" }, { "step 0", "0 1 3 13 3" },
+		/* A reader on a slot that is replaced, then deleted, goes on behind it. */
+		{ "start 0 0", "0 0 0 0 0" }, { "step 0", "0 0 0 0 0" },
+		{ "rep 1 64 14 4", "0 4 3 0 0" }, { "del 1 64", "0 4 0 0 0" },
+		{ "step 0", "0 0 0 0 0" }, { "step 0", "0 1 0 10 0" },
+		{ "start 0 64", "0 0 0 0 0" }, { "step 0", "0 0 0 0 0" },
+		{ "step 0", "0 0 0 0 0" }, { "step 0", "0 2 0 0 0" },
+		/* The end of the chain goes, then its head. */
+		{ "del 1 0", "0 0 0 0 0" }, { "del 1 128", "0 2 0 0 0" },
+		{ "start 0 128", "0 0 0 0 0" }, { "step 0", "0 2 0 0 0" },
+		{ "awaited", "0 0 4294967295 3 5" },
+	};
+
+
+	trial_start(&trial);
+	TRIAL_PLAY(&trial, six_calls);
+	TRIAL_PLAY(&trial, replaced);
+}
+
+/* Codes are compared in both their words. */
+static void test_high_words(void)
+{
+	static const struct trial_step steps[] = {
+		{ "setup 1 1 2", "0 120 0 0 0" }, { "add 0 4294967313 10 1", "0 0 0 0 0" },
+		{ "del 0 17", "13 0 0 0 0" }, { "begin 0", "0 0 0 0 0" },
+		{ "start 0 17", "0 0 0 0 0" }, { "step 0", "0 0 0 0 0" },
+		{ "step 0", "0 2 0 0 0" }, { "add 0 17 11 2", "0 1 0 0 0" },
+		{ "start 0 4294967313", "0 0 0 0 0" }, { "step 0", "0 0 0 0 0" },
+		{ "step 0", "0 1 0 10 1" },
+	};
+
+	trial_start(&trial);
+	TRIAL_PLAY(&trial, steps);
+}
+
+/* The free queue gives its first slot and takes slots at its end. */
+static void test_free_queue(void)
+{
+	static const struct trial_step steps[] = {
+		{ "setup 1 1 3", "0 126 0 0 0" },
+		{ "add 0 1 1 1", "0 0 0 0 0" }, { "add 0 2 1 1", "0 1 0 0 0" },
+		{ "del 0 2", "0 1 0 0 0" }, { "del 0 1", "0 0 0 0 0" },
+		{ "clock 0", "0 1 1 1 0" }, { "pass 0 2", "0 0 0 0 0" },
+		{ "clock 0", "0 2 1 0 0" },
+		{ "back 0", "0 1 0 0 0" }, { "awaited", "0 0 4294967295 2 1" },
+		{ "back 0", "0 0 0 0 0" }, { "back 0", "16 0 0 0 0" },
+		{ "add 0 3 1 1", "0 2 0 0 0" }, { "add 0 4 1 1", "0 1 0 0 0" },
+		{ "add 0 5 1 1", "0 0 0 0 0" }, { "add 0 6 1 1", "14 0 0 0 0" },
+	};
+
+	trial_start(&trial);
+	TRIAL_PLAY(&trial, steps);
+}
+
+/* A count wraps from 4,294,967,295 to 0, and differs then from its snapshot. */
+static void test_count_wraps(uint32_t kind)
+{
+	static const struct trial_step before[] = {
+		{ "setup 1 2 2", "0 139 0 0 0" }, { "add 0 5 1 1", "0 0 0 0 0" },
+		{ "del 0 5", "0 0 0 0 0" },
+	};
+	struct call pass = { CALL_PASS, { 0, kind, 0, 0 } };
+	uint32_t *lane;
+
+	trial_start(&trial);
+	TRIAL_PLAY(&trial, before);
+	lane = trial_lane(trial.memory, 0);
+	lane[LANE_COUNTS + kind] = 4294967295u;
+	trial_expect(&trial, "clock 0", "0 1 1 1 0");
+	CHECK(lane[LANE_SNAPSHOT + kind] == 4294967295u);
+	trial_expect(&trial, "clock 0", "0 1 1 1 0");
+	trial_expect(&trial, "awaited", "0 2 0 1 1");
+	CHECK(trial_make(&trial, &pass) == 0 && lane[LANE_COUNTS + kind] == 0);
+	trial_expect(&trial, "clock 0", "0 1 1 1 0");
+	trial_expect(&trial, "awaited", "0 1 1 1 1");
+	CHECK(lane[LANE_SNAPSHOT + kind] == 0 && !(lane[LANE_FLAGS] & FLAG_SNAPSHOT));
+}
+
+static void test_later(void)
+{
+	CHECK(ref_later(0, 4294967295u) && !ref_later(4294967295u, 0));
+	CHECK(!ref_later(0, 0) && !ref_later(4294967295u, 4294967295u));
+	CHECK(ref_later(2147483647u, 0) && !ref_later(2147483648u, 0));
+	CHECK(!ref_later(0, 2147483648u) && ref_later(0, 2147483649u));
+	CHECK(ref_later(8, 7) && !ref_later(7, 8));
+}
+
+/* Two grace periods, one before the wrap of the generations and one after it. */
+static void test_generation_wraps(void)
+{
+	static const struct trial_step records[] = {
+		{ "setup 1 2 4", "0 151 0 0 0" },
+		{ "add 0 1 1 1", "0 0 0 0 0" }, { "add 0 2 1 1", "0 1 0 0 0" },
+		{ "del 0 1", "0 0 0 0 0" },
+	};
+	static const struct trial_step requested[] = {
+		{ "clock 0", "0 4294967295 4294967295 1 0" },
+		{ "del 1 2", "0 1 0 0 0" }, { "clock 1", "0 4294967295 0 1 0" },
+		{ "awaited", "0 2 0 2 2" },
+	};
+	static const struct trial_step ended[] = {
+		{ "pass 0 0", "0 0 0 0 0" }, { "clock 0", "0 4294967295 0 1 0" },
+		{ "awaited", "0 1 1 2 2" },
+		{ "pass 1 0", "0 0 0 0 0" }, { "clock 1", "0 0 0 1 0" },
+		{ "back 0", "16 0 0 0 0" }, { "clock 0", "0 0 0 1 0" },
+		{ "back 0", "0 0 0 0 0" }, { "back 1", "16 0 0 0 0" },
+		{ "pass 0 1", "0 0 0 0 0" }, { "clock 0", "0 0 0 1 0" },
+		{ "pass 1 1", "0 0 0 0 0" }, { "clock 1", "0 1 0 0 0" },
+		{ "back 1", "0 1 0 0 0" }, { "awaited", "0 0 4294967295 4 0" },
+	};
+	uint32_t *global, *lane;
+
+	trial_start(&trial);
+	TRIAL_PLAY(&trial, records);
+	global = trial_global(trial.memory);
+	global[GLOBAL_CURRENT_GENERATION] = 4294967295u;
+	global[GLOBAL_LARGEST_GENERATION] = 4294967294u;
+	TRIAL_PLAY(&trial, requested);
+	/* Generation 0 is one like the others: the queue is not empty. */
+	lane = trial_lane(trial.memory, 1);
+	CHECK(lane[LANE_GENERATION] == 0 && lane[LANE_CURRENT + END_FIRST] == 1);
+	TRIAL_PLAY(&trial, ended);
+}
+
+/* A grace period that ends at the wrap, with no other requested. */
+static void test_generation_wraps_idle(void)
+{
+	static const struct trial_step records[] = {
+		{ "setup 1 1 2", "0 120 0 0 0" },
+		{ "add 0 1 1 1", "0 0 0 0 0" }, { "del 0 1", "0 0 0 0 0" },
+	};
+	static const struct trial_step steps[] = {
+		{ "clock 0", "0 4294967295 4294967295 1 0" }, { "pass 0 0", "0 0 0 0 0" },
+		{ "clock 0", "0 0 4294967295 0 0" }, { "back 0", "0 0 0 0 0" },
+		{ "clock 0", "0 0 4294967295 0 0" }, { "awaited", "0 0 4294967295 2 0" },
+	};
+	uint32_t *global;
+
+	trial_start(&trial);
+	TRIAL_PLAY(&trial, records);
+	global = trial_global(trial.memory);
+	global[GLOBAL_CURRENT_GENERATION] = 4294967295u;
+	global[GLOBAL_LARGEST_GENERATION] = 4294967294u;
+	TRIAL_PLAY(&trial, steps);
+}
+
+/* A global queue of generation 0, the current one. */
+static void test_global_generation_zero(void)
+{
+	static const struct trial_step records[] = {
+		{ "setup 1 2 4", "0 151 0 0 0" },
+		{ "add 0 1 1 1", "0 0 0 0 0" }, { "del 0 1", "0 0 0 0 0" },
+	};
+	static const struct trial_step steps[] = {
+		{ "off 0", "0 0 0 0 0" }, { "clock 1", "0 0 0 1 0" },
+		{ "back 1", "16 0 0 0 0" }, { "awaited", "0 1 1 3 1" },
+		{ "pass 1 0", "0 0 0 0 0" }, { "clock 1", "0 1 0 0 0" },
+		{ "back 1", "0 0 0 0 0" },
+	};
+	uint32_t *global;
+
+	trial_start(&trial);
+	TRIAL_PLAY(&trial, records);
+	global = trial_global(trial.memory);
+	global[GLOBAL_CURRENT_GENERATION] = 0;
+	global[GLOBAL_LARGEST_GENERATION] = 4294967295u;
+	TRIAL_PLAY(&trial, steps);
+}
+
+/* Pending lanes over two cabinets: their number and the lowest. */
+static void test_pending(void)
+{
+	static const struct trial_step steps[] = {
+		{ "setup 2 2 3", "0 184 0 0 0" },
+		{ "add 0 1 1 1", "0 0 0 0 0" }, { "del 3 1", "0 0 0 0 0" },
+		{ "awaited", "0 0 4294967295 2 1" }, { "clock 0", "0 1 0 0 0" },
+		{ "clock 3", "0 1 1 1 0" }, { "awaited", "0 4 0 2 1" },
+		/* A pass before the snapshot does not count, nor one without a clock. */
+		{ "pass 0 0", "0 0 0 0 0" }, { "clock 0", "0 1 1 1 0" },
+		{ "awaited", "0 4 0 2 1" }, { "clock 0", "0 1 1 1 0" },
+		{ "awaited", "0 4 0 2 1" }, { "pass 0 0", "0 0 0 0 0" },
+		{ "awaited", "0 4 0 2 1" }, { "clock 0", "0 1 1 1 0" },
+		{ "awaited", "0 3 1 2 1" },
+		{ "pass 3 1", "0 0 0 0 0" }, { "clock 3", "0 1 1 1 0" },
+		{ "awaited", "0 2 1 2 1" },
+		{ "clock 1", "0 1 1 1 0" }, { "pass 1 2", "0 0 0 0 0" },
+		{ "clock 1", "0 1 1 1 0" }, { "awaited", "0 1 2 2 1" },
+		/* An open section keeps the lane from passing. */
+		{ "begin 2", "0 0 0 0 0" }, { "clock 2", "0 1 1 1 0" },
+		{ "pass 2 0", "7 0 0 0 0" }, { "clock 2", "0 1 1 1 0" },
+		{ "awaited", "0 1 2 2 1" }, { "end 2", "0 0 0 0 0" },
+		{ "clock 2", "0 1 1 1 0" }, { "pass 2 0", "0 0 0 0 0" },
+		{ "clock 2", "0 2 1 0 0" }, { "awaited", "0 0 4294967295 2 1" },
+		{ "back 3", "16 0 0 0 0" }, { "clock 3", "0 2 1 0 0" },
+		{ "back 2", "16 0 0 0 0" }, { "back 3", "0 0 0 0 0" },
+	};
+
+	trial_start(&trial);
+	TRIAL_PLAY(&trial, steps);
+	CHECK(trial_cabinet(trial.memory, 0)[CABINET_PENDING] == 0);
+	CHECK(trial_cabinet(trial.memory, 1)[CABINET_PENDING] == 0);
+}
+
+/* Off: current, then next, go to the global next queue, done to the global done. */
+static void test_off_queues(void)
+{
+	static const struct trial_step retired[] = {
+		{ "setup 1 2 6", "0 163 0 0 0" },
+		{ "add 0 1 1 1", "0 0 0 0 0" }, { "add 0 2 1 1", "0 1 0 0 0" },
+		{ "add 0 3 1 1", "0 2 0 0 0" }, { "add 0 4 1 1", "0 3 0 0 0" },
+		{ "del 0 1", "0 0 0 0 0" }, { "clock 0", "0 1 1 1 0" },
+		{ "clock 1", "0 1 1 1 0" }, { "pass 1 0", "0 0 0 0 0" },
+		{ "clock 1", "0 1 1 1 0" }, { "pass 0 0", "0 0 0 0 0" },
+		{ "clock 0", "0 2 1 0 0" }, /* slot 0 is done */
+		{ "del 0 3", "0 2 0 0 0" }, { "clock 0", "0 2 2 1 0" }, /* slot 2 is current */
+		{ "del 0 2", "0 1 0 0 0" }, { "del 0 4", "0 3 0 0 0" }, /* 1 and 3 are next */
+		{ "off 0", "0 0 0 0 0" }, { "awaited", "0 1 1 2 4" },
+	};
+	static const struct trial_step reclaimed[] = {
+		{ "back 1", "0 0 0 0 0" }, { "back 1", "16 0 0 0 0" },
+		{ "clock 1", "0 2 3 1 0" }, { "pass 1 0", "0 0 0 0 0" },
+		{ "clock 1", "0 3 3 1 0" }, { "back 1", "16 0 0 0 0" },
+		{ "pass 1 3", "0 0 0 0 0" }, { "clock 1", "0 4 3 0 0" },
+		{ "back 1", "0 2 0 0 0" }, { "back 1", "0 1 0 0 0" },
+		{ "back 1", "0 3 0 0 0" }, { "back 1", "16 0 0 0 0" },
+	};
+	uint32_t *global, *lane;
+
+	trial_start(&trial);
+	TRIAL_PLAY(&trial, retired);
+	global = trial_global(trial.memory);
+	CHECK(global[GLOBAL_CURRENT + END_FIRST] == 2 && global[GLOBAL_CURRENT + END_LAST] == 3);
+	CHECK(global[GLOBAL_GENERATION] == 3 && global[GLOBAL_NEXT + END_FIRST] == PT_NONE);
+	lane = trial_lane(trial.memory, 0);
+	CHECK(lane[LANE_FLAGS] == 0 && lane[LANE_GENERATION] == 0);
+	CHECK(lane[LANE_COUNTS] == 1); /* counts are kept */
+	TRIAL_PLAY(&trial, reclaimed);
+}
+
+/* A current queue whose generation is over still goes to the global next queue. */
+static void test_off_queue_over(void)
+{
+	static const struct trial_step steps[] = {
+		{ "setup 1 2 4", "0 151 0 0 0" },
+		{ "add 0 1 1 1", "0 0 0 0 0" }, { "del 0 1", "0 0 0 0 0" },
+		{ "clock 0", "0 1 1 1 0" }, { "pass 0 0", "0 0 0 0 0" },
+		{ "clock 0", "0 1 1 1 0" }, { "clock 1", "0 1 1 1 0" },
+		{ "pass 1 0", "0 0 0 0 0" }, { "clock 1", "0 2 1 0 0" },
+		{ "off 0", "0 0 0 0 0" }, { "back 1", "16 0 0 0 0" },
+		{ "clock 1", "0 2 2 1 0" }, { "awaited", "0 1 1 3 1" },
+		{ "pass 1 0", "0 0 0 0 0" }, { "clock 1", "0 3 2 0 0" },
+		{ "back 1", "0 0 0 0 0" },
+	};
+
+	trial_start(&trial);
+	TRIAL_PLAY(&trial, steps);
+}
+
+/* Off drops the lane's bit, and ends the grace period only with the last one. */
+static void test_off_last_bit(void)
+{
+	static const struct trial_step steps[] = {
+		{ "setup 1 3 6", "0 182 0 0 0" },
+		{ "add 0 1 1 1", "0 0 0 0 0" }, { "del 0 1", "0 0 0 0 0" },
+		{ "clock 0", "0 1 1 1 0" }, { "pass 0 0", "0 0 0 0 0" },
+		{ "clock 0", "0 1 1 1 0" }, { "off 1", "0 0 0 0 0" },
+		{ "awaited", "0 1 2 5 1" }, { "off 2", "0 0 0 0 0" },
+		{ "awaited", "0 0 4294967295 5 1" }, { "clock 0", "0 2 1 0 0" },
+		{ "back 0", "0 0 0 0 0" },
+		/* With no grace period a lane ends none. */
+		{ "on 1", "0 0 0 0 0" }, { "off 1", "0 0 0 0 0" },
+		{ "clock 0", "0 2 1 0 0" },
+	};
+
+	trial_start(&trial);
+	TRIAL_PLAY(&trial, steps);
+}
+
+/* Off ends a grace period, and the requested one begins without the lane. */
+static void test_off_next_begun(void)
+{
+	static const struct trial_step steps[] = {
+		{ "setup 1 3 6", "0 182 0 0 0" },
+		{ "add 0 1 1 1", "0 0 0 0 0" }, { "add 0 2 1 1", "0 1 0 0 0" },
+		{ "del 0 1", "0 0 0 0 0" }, { "clock 0", "0 1 1 1 0" },
+		{ "del 1 2", "0 1 0 0 0" }, { "clock 1", "0 1 2 1 0" },
+		{ "pass 0 0", "0 0 0 0 0" }, { "clock 0", "0 1 2 1 0" },
+		{ "pass 1 0", "0 0 0 0 0" }, { "clock 1", "0 1 2 1 0" },
+		{ "awaited", "0 1 2 4 2" },
+		{ "off 2", "0 0 0 0 0" }, { "awaited", "0 2 0 4 2" },
+		/* A lane that comes back has no bit, and ends no grace period. */
+		{ "on 2", "0 0 0 0 0" }, { "awaited", "0 2 0 4 2" },
+		{ "pass 2 0", "0 0 0 0 0" }, { "clock 2", "0 2 2 1 0" },
+		{ "off 2", "0 0 0 0 0" }, { "awaited", "0 2 0 4 2" },
+		{ "clock 0", "0 2 2 1 0" }, { "back 0", "0 0 0 0 0" },
+		{ "back 1", "16 0 0 0 0" },
+	};
+
+	trial_start(&trial);
+	TRIAL_PLAY(&trial, steps);
+}
+
+/* Its retired slot waits for a grace period after the one that begins. */
+static void test_off_next_begun_with_slot(void)
+{
+	static const struct trial_step steps[] = {
+		{ "setup 1 3 6", "0 182 0 0 0" },
+		{ "add 0 1 1 1", "0 0 0 0 0" }, { "add 0 2 1 1", "0 1 0 0 0" },
+		{ "add 0 3 1 1", "0 2 0 0 0" },
+		{ "del 0 1", "0 0 0 0 0" }, { "clock 0", "0 1 1 1 0" },
+		{ "del 1 2", "0 1 0 0 0" }, { "clock 1", "0 1 2 1 0" },
+		{ "pass 0 0", "0 0 0 0 0" }, { "clock 0", "0 1 2 1 0" },
+		{ "pass 1 0", "0 0 0 0 0" }, { "clock 1", "0 1 2 1 0" },
+		{ "del 2 3", "0 2 0 0 0" }, { "off 2", "0 0 0 0 0" },
+		{ "clock 0", "0 2 3 1 0" }, { "awaited", "0 2 0 3 3" },
+	};
+
+	trial_start(&trial);
+	TRIAL_PLAY(&trial, steps);
+	CHECK(trial_global(trial.memory)[GLOBAL_GENERATION] == 3);
+}
+
+/* With both waiting the lane's queue gets the current generation, the global one more. */
+static void test_lane_before_global(void)
+{
+	static const struct trial_step steps[] = {
+		{ "setup 1 3 8", "0 194 0 0 0" },
+		{ "add 0 1 1 1", "0 0 0 0 0" }, { "add 0 2 1 1", "0 1 0 0 0" },
+		{ "add 0 3 1 1", "0 2 0 0 0" },
+		{ "del 2 1", "0 0 0 0 0" }, { "off 2", "0 0 0 0 0" },
+		{ "del 1 2", "0 1 0 0 0" }, { "off 1", "0 0 0 0 0" },
+		{ "awaited", "0 1 0 5 2" },
+		{ "clock 0", "0 1 1 1 0" }, { "del 0 3", "0 2 0 0 0" },
+		{ "pass 0 0", "0 0 0 0 0" }, { "clock 0", "0 2 3 1 0" },
+		{ "back 0", "0 0 0 0 0" }, { "back 0", "16 0 0 0 0" },
+	};
+
+	trial_start(&trial);
+	TRIAL_PLAY(&trial, steps);
+	CHECK(trial_lane(trial.memory, 0)[LANE_GENERATION] == 2);
+	CHECK(trial_global(trial.memory)[GLOBAL_GENERATION] == 3);
+}
+
+/* Hand-back takes from the lane's done queue first, then from the global one. */
+static void test_hand_back_order(void)
+{
+	static const struct trial_step steps[] = {
+		{ "setup 1 2 4", "0 151 0 0 0" },
+		{ "add 0 1 1 1", "0 0 0 0 0" }, { "add 0 2 1 1", "0 1 0 0 0" },
+		{ "del 1 1", "0 0 0 0 0" }, { "off 1", "0 0 0 0 0" },
+		{ "clock 0", "0 1 1 1 0" }, { "pass 0 0", "0 0 0 0 0" },
+		{ "clock 0", "0 2 1 0 0" }, /* slot 0 is done globally */
+		{ "del 0 2", "0 1 0 0 0" }, { "clock 0", "0 2 2 1 0" },
+		{ "pass 0 0", "0 0 0 0 0" }, { "clock 0", "0 3 2 0 0" },
+		{ "back 0", "0 1 0 0 0" }, { "back 0", "0 0 0 0 0" },
+	};
+
+	trial_start(&trial);
+	TRIAL_PLAY(&trial, steps);
+}
+
+/* With fewer than five answer words nothing is written, whatever else is wrong. */
+static void test_short_answers(void)
+{
+	static const char *const lines[CALLS] = {
+		"setup 1 1 1", "add 0 6 1 1", "rep 0 5 1 1", "del 0 5", "begin 0", "end 1",
+		"start 1 5", "step 1", "pass 0 0", "clock 0", "on 9", "off 0", "back 0", "awaited",
+	};
+	static const uint32_t fill[4] = { TRIAL_FILL, TRIAL_FILL, TRIAL_FILL, TRIAL_FILL };
+	uint32_t before[TRIAL_WORDS];
+
+	memcpy(before, trial.memory, sizeof before);
+	for (int name = 0; name < CALLS; name++)
+		for (size_t length = 0; length < 5; length++) {
+			struct call call = trial_call(lines[name]);
+			uint32_t *answer = length > 0 ? malloc(length * sizeof *answer) : NULL;
+
+			CHECK(length == 0 || answer != NULL);
+			if (length > 0)
+				memcpy(answer, fill, length * sizeof *answer);
+			CHECK(call_make(&tested, trial.memory, trial.words, answer, length,
+					&call) == 4294967295u);
+			CHECK(length == 0 || memcmp(answer, fill, length * sizeof *answer) == 0);
+			CHECK(memcmp(trial.memory, before, sizeof before) == 0);
+			free(answer);
+		}
+}
+
+static void test_short_answers_first(void)
+{
+	static const struct trial_step steps[] = {
+		{ "setup 1 2 3", "0 145 0 0 0" }, { "add 0 5 1 1", "0 0 0 0 0" },
+		{ "begin 1", "0 0 0 0 0" },
+	};
+
+	trial_start(&trial);
+	test_short_answers();
+	TRIAL_PLAY(&trial, steps);
+	test_short_answers();
+	trial.words = 0;
+	test_short_answers();
+}
+
+/* A length of 0 with no memory at all. */
+static void test_no_memory(void)
+{
+	uint32_t answer[PT_ANSWER_WORDS];
+
+	CHECK(tested.setup(NULL, 0, answer, 5, 1, 1, 1) == 2 && answer[0] == 2);
+	CHECK(tested.clock(NULL, 0, answer, 5, 0) == 3 && answer[0] == 3);
+	CHECK(tested.clock(NULL, 0, NULL, 0, 0) == 4294967295u);
+}
+
+/* The words past the total change no answer; trial_make sees that they stay. */
+static void test_words_past_total(void)
+{
+	static const struct trial_step steps[] = {
+		{ "setup 1 2 3", "0 145 0 0 0" }, { "add 0 17 25 1", "0 0 0 0 0" },
+		{ "begin 1", "0 0 0 0 0" }, { "start 1 17", "0 0 0 0 0" },
+		{ "del 0 17", "0 0 0 0 0" }, { "step 1", "0 1 0 25 1" },
+		{ "clock 0", "0 1 1 1 0" }, { "off 0", "0 0 0 0 0" },
+		{ "end 1", "0 0 0 0 0" }, { "clock 1", "0 1 2 1 0" },
+		{ "awaited", "0 1 1 2 1" },
+	};
+
+	for (uint32_t fill = 0; fill < 3; fill++)
+		for (size_t words = 145; words < 150; words++) {
+			trial_start(&trial);
+			for (size_t n = 145; n < TRIAL_WORDS; n++)
+				trial.memory[n] = fill == 0 ? 0 : fill == 1 ? 1 : PT_NONE;
+			trial.words = words;
+			TRIAL_PLAY(&trial, steps);
+		}
+}
+
+int main(void)
+{
+	test_words_of_setup();
+	test_words_of_calls();
+	test_totals();
+	test_setup_refusals();
+	test_not_legal();
+	test_lanes();
+	test_sections();
+	test_records();
+	test_chains();
+	test_high_words();
+	test_free_queue();
+	for (uint32_t kind = 0; kind < KINDS; kind++)
+		test_count_wraps(kind);
+	test_later();
+	test_generation_wraps();
+	test_generation_wraps_idle();
+	test_global_generation_zero();
+	test_pending();
+	test_off_queues();
+	test_off_queue_over();
+	test_off_last_bit();
+	test_off_next_begun();
+	test_off_next_begun_with_slot();
+	test_lane_before_global();
+	test_hand_back_order();
+	test_short_answers_first();
+	test_no_memory();
+	test_words_past_total();
+	puts("selftest: all cases as expected");
+	return 0;
+}

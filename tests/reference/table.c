@@ -1,0 +1,175 @@
+/*
+ * table.c - reading a table from the words of its memory, and writing it back
+ * (document 01, "The memory").
+ */
+#include "table.h"
+
+bool sizes_in_range(uint32_t cabinets, uint32_t lanes, uint32_t slots)
+{
+	return cabinets >= 1 && cabinets <= PT_MAX_CABINETS &&
+		lanes >= 1 && lanes <= PT_MAX_LANES &&
+		slots >= 1 && slots <= PT_MAX_SLOTS;
+}
+
+struct layout layout_of(uint32_t cabinets, uint32_t lanes, uint32_t slots)
+{
+	struct layout layout = { .length = {
+		[BODY_GLOBAL] = GLOBAL_WORDS,
+		[BODY_CABINETS] = CABINET_WORDS * cabinets,
+		[BODY_LANES] = LANE_WORDS * cabinets * lanes,
+		[BODY_SLOTS] = SLOT_WORDS * slots,
+	} };
+	uint32_t at = CONTENTS_WORDS;
+
+	for (int body = 0; body < BODIES; body++) {
+		layout.first[body] = at;
+		at += layout.length[body];
+	}
+	layout.total = at;
+	return layout;
+}
+
+static uint64_t read_code(const uint32_t *word)
+{
+	return (uint64_t)word[CODE_HIGH] << 32 | word[CODE_LOW];
+}
+
+static void write_code(uint32_t *word, uint64_t code)
+{
+	word[CODE_LOW] = (uint32_t)code;
+	word[CODE_HIGH] = (uint32_t)(code >> 32);
+}
+
+static struct queue read_queue(const uint32_t *word)
+{
+	return (struct queue){ .first = word[END_FIRST], .last = word[END_LAST] };
+}
+
+static void write_queue(uint32_t *word, struct queue queue)
+{
+	word[END_FIRST] = queue.first;
+	word[END_LAST] = queue.last;
+}
+
+static void read_global(struct table *table, const uint32_t *word)
+{
+	table->current = word[GLOBAL_CURRENT_GENERATION];
+	table->largest = word[GLOBAL_LARGEST_GENERATION];
+	table->pending_cabinets = word[GLOBAL_PENDING];
+	for (int chain = 0; chain < CHAINS; chain++)
+		table->heads[chain] = word[GLOBAL_CHAINS + chain];
+	table->free = read_queue(word + GLOBAL_FREE);
+	table->global.next = read_queue(word + GLOBAL_NEXT);
+	table->global.current = read_queue(word + GLOBAL_CURRENT);
+	table->global.done = read_queue(word + GLOBAL_DONE);
+	table->global.generation = word[GLOBAL_GENERATION];
+}
+
+static void write_global(const struct table *table, uint32_t *word)
+{
+	word[GLOBAL_CURRENT_GENERATION] = table->current;
+	word[GLOBAL_LARGEST_GENERATION] = table->largest;
+	word[GLOBAL_PENDING] = table->pending_cabinets;
+	for (int chain = 0; chain < CHAINS; chain++)
+		word[GLOBAL_CHAINS + chain] = table->heads[chain];
+	write_queue(word + GLOBAL_FREE, table->free);
+	write_queue(word + GLOBAL_NEXT, table->global.next);
+	write_queue(word + GLOBAL_CURRENT, table->global.current);
+	write_queue(word + GLOBAL_DONE, table->global.done);
+	word[GLOBAL_GENERATION] = table->global.generation;
+}
+
+static void read_lane(struct lane *lane, const uint32_t *word)
+{
+	lane->flags = word[LANE_FLAGS];
+	for (int kind = 0; kind < KINDS; kind++) {
+		lane->counts[kind] = word[LANE_COUNTS + kind];
+		lane->snapshot[kind] = word[LANE_SNAPSHOT + kind];
+	}
+	lane->retired.generation = word[LANE_GENERATION];
+	lane->retired.next = read_queue(word + LANE_NEXT);
+	lane->retired.current = read_queue(word + LANE_CURRENT);
+	lane->retired.done = read_queue(word + LANE_DONE);
+	lane->code = read_code(word + LANE_CODE);
+	lane->position = word[LANE_POSITION];
+}
+
+static void write_lane(const struct lane *lane, uint32_t *word)
+{
+	word[LANE_FLAGS] = lane->flags;
+	for (int kind = 0; kind < KINDS; kind++) {
+		word[LANE_COUNTS + kind] = lane->counts[kind];
+		word[LANE_SNAPSHOT + kind] = lane->snapshot[kind];
+	}
+	word[LANE_GENERATION] = lane->retired.generation;
+	write_queue(word + LANE_NEXT, lane->retired.next);
+	write_queue(word + LANE_CURRENT, lane->retired.current);
+	write_queue(word + LANE_DONE, lane->retired.done);
+	write_code(word + LANE_CODE, lane->code);
+	word[LANE_POSITION] = lane->position;
+}
+
+static void read_slot(struct slot *slot, const uint32_t *word)
+{
+	slot->code = read_code(word + SLOT_CODE);
+	slot->deposit = word[SLOT_DEPOSIT];
+	slot->material = word[SLOT_MATERIAL];
+	slot->chain_link = word[SLOT_CHAIN_LINK];
+	slot->queue_link = word[SLOT_QUEUE_LINK];
+}
+
+static void write_slot(const struct slot *slot, uint32_t *word)
+{
+	write_code(word + SLOT_CODE, slot->code);
+	word[SLOT_DEPOSIT] = slot->deposit;
+	word[SLOT_MATERIAL] = slot->material;
+	word[SLOT_CHAIN_LINK] = slot->chain_link;
+	word[SLOT_QUEUE_LINK] = slot->queue_link;
+}
+
+void table_read(struct table *table, const uint32_t *memory)
+{
+	struct layout layout;
+
+	table->cabinets = memory[CONTENTS_CABINETS];
+	table->lanes = memory[CONTENTS_LANES];
+	table->slots = memory[CONTENTS_SLOTS];
+	layout = layout_of(table->cabinets, table->lanes, table->slots);
+	read_global(table, memory + layout.first[BODY_GLOBAL]);
+	for (uint32_t c = 0; c < table->cabinets; c++)
+		table->pending_lanes[c] =
+			memory[layout.first[BODY_CABINETS] + CABINET_WORDS * c + CABINET_PENDING];
+	for (uint32_t l = 0; l < table_lanes(table); l++)
+		read_lane(&table->lane[l], memory + layout.first[BODY_LANES] + LANE_WORDS * l);
+	for (uint32_t s = 0; s < table->slots; s++)
+		read_slot(&table->slot[s], memory + layout.first[BODY_SLOTS] + SLOT_WORDS * s);
+}
+
+static void write_contents(const struct table *table, uint32_t *word)
+{
+	struct layout layout = layout_of(table->cabinets, table->lanes, table->slots);
+
+	word[CONTENTS_VERSION] = LAYOUT_VERSION;
+	word[CONTENTS_CABINETS] = table->cabinets;
+	word[CONTENTS_LANES] = table->lanes;
+	word[CONTENTS_SLOTS] = table->slots;
+	for (int body = 0; body < BODIES; body++) {
+		word[CONTENTS_BODIES + 2 * body] = layout.first[body];
+		word[CONTENTS_BODIES + 2 * body + 1] = layout.length[body];
+	}
+}
+
+void table_write(const struct table *table, uint32_t *memory)
+{
+	struct layout layout = layout_of(table->cabinets, table->lanes, table->slots);
+
+	write_contents(table, memory);
+	write_global(table, memory + layout.first[BODY_GLOBAL]);
+	for (uint32_t c = 0; c < table->cabinets; c++)
+		memory[layout.first[BODY_CABINETS] + CABINET_WORDS * c + CABINET_PENDING] =
+			table->pending_lanes[c];
+	for (uint32_t l = 0; l < table_lanes(table); l++)
+		write_lane(&table->lane[l], memory + layout.first[BODY_LANES] + LANE_WORDS * l);
+	for (uint32_t s = 0; s < table->slots; s++)
+		write_slot(&table->slot[s], memory + layout.first[BODY_SLOTS] + SLOT_WORDS * s);
+}

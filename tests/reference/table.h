@@ -1,0 +1,93 @@
+/*
+ * table.h - a table as C structs, read from the words of its memory and written
+ * back to them. A lane is a CPU, a cabinet a quad of the paper.
+ */
+#ifndef REFERENCE_TABLE_H
+#define REFERENCE_TABLE_H
+
+#include <stdbool.h>
+#include <stddef.h>
+#include <stdint.h>
+
+#include "layout.h"
+#include "product_table.h"
+
+/* The ends of a queue of slots, both none while it is empty. */
+struct queue {
+	uint32_t first;
+	uint32_t last;
+};
+
+/* An owner's queues of retired slots: those of a lane, or the global ones. */
+struct retired {
+	uint32_t generation; /* of the current queue, 0 while that is empty */
+	struct queue next;
+	struct queue current;
+	struct queue done;
+};
+
+struct lane {
+	uint32_t flags;
+	uint32_t counts[KINDS]; /* quiescent states by kind */
+	uint32_t snapshot[KINDS];
+	struct retired retired;
+	uint64_t code; /* of the lookup */
+	uint32_t position;
+};
+
+struct slot {
+	uint64_t code;
+	uint32_t deposit;
+	uint32_t material;
+	uint32_t chain_link;
+	uint32_t queue_link;
+};
+
+struct table {
+	uint32_t cabinets;
+	uint32_t lanes; /* in each cabinet */
+	uint32_t slots;
+	uint32_t current; /* generation */
+	uint32_t largest; /* generation requested */
+	uint32_t pending_cabinets;
+	uint32_t heads[CHAINS];
+	struct queue free;
+	struct retired global;
+	uint32_t pending_lanes[PT_MAX_CABINETS];
+	struct lane lane[PT_MAX_CABINETS * PT_MAX_LANES];
+	struct slot slot[PT_MAX_SLOTS];
+};
+
+/* The number of lanes of all cabinets. */
+static inline uint32_t table_lanes(const struct table *table)
+{
+	return table->cabinets * table->lanes;
+}
+
+/* Whether the running grace period waits for the lane. */
+static inline bool table_pending(const struct table *table, uint32_t lane)
+{
+	return table->pending_lanes[lane / table->lanes] >> lane % table->lanes & 1u;
+}
+
+/* Whether generation @a is later than @b: their wrapping difference is 1 to 2^31 - 1. */
+static inline bool generation_later(uint32_t a, uint32_t b)
+{
+	uint32_t ahead = a - b;
+
+	return ahead >= 1 && ahead <= 2147483647u;
+}
+
+/* Whether the sizes of a table are in range. */
+bool sizes_in_range(uint32_t cabinets, uint32_t lanes, uint32_t slots);
+
+/* Reads a memory whose contents agree with its sizes and its length. */
+void table_read(struct table *table, const uint32_t *memory);
+
+/* Writes the contents and all bodies, the words below the total and no other. */
+void table_write(const struct table *table, uint32_t *memory);
+
+/* Reads the memory if it is legal; returns whether it is. */
+bool table_read_legal(struct table *table, const uint32_t *memory, size_t words);
+
+#endif /* REFERENCE_TABLE_H */
