@@ -1,0 +1,89 @@
+-- The order of generations (document 01, "Generations and passes", first lines): for words it is irreflexive and asymmetric, and tells a generation,
+-- the one before and the one after apart, at the wrap too. Assumes nothing.
+use Prim.Native.Nat.{ℕ, _≤_, _<_}
+use mathlib.Core.Path.{_≡_, refl}
+use mathlib.Core.Logic.{_≢_}
+use mathlib.Core.Bool.{true, false}
+use native.Mathlib.Omega.{arith}
+use lib.Dec.{leb}
+use borrow.Author.Tests.{leb-true, lt-leb}
+use Rattle.model.specs.Word.{wordLimit, up, down, less, later}
+use Rattle.laws.specs.Tests.{and-true, and-false-right}
+
+-- ---- the neighbours
+
+pub up-word : (c : ℕ) → up c < wordLimit
+up-word c = omega arith
+
+pub down-word : (c : ℕ) → down c < wordLimit
+down-word c = omega arith
+
+module _ {c : ℕ} (h : c < wordLimit) where
+  pub up-down : up (down c) ≡ c
+  up-down = omega arith
+
+  pub down-up : down (up c) ≡ c
+  down-up = omega arith
+
+  pub up-apart : up c ≢ c
+  up-apart e = omega arith
+
+  pub down-apart : down c ≢ c
+  down-apart e = omega arith
+
+  pub down-up-apart : down c ≢ up c
+  down-up-apart e = omega arith
+
+-- ---- the order
+
+module _ {c : ℕ} (h : c < wordLimit) where
+  -- none is later than itself
+  pub later-self : later c c ≡ false
+  unfolding later
+  later-self = let e : less c c ≡ 0 = omega arith in rw e
+
+  pub later-up : later c (up c) ≡ false
+  unfolding later
+  later-up = let e : less c (up c) ≡ 4294967295 = omega arith in rw e
+
+  pub up-later : later (up c) c ≡ true
+  unfolding later
+  up-later = let e : less (up c) c ≡ 1 = omega arith in rw e
+
+  -- two generations on
+  pub up-up-later : later (up (up c)) c ≡ true
+  unfolding later
+  up-up-later = let e : less (up (up c)) c ≡ 2 = omega arith in rw e
+
+  pub later-up-up : later c (up (up c)) ≡ false
+  unfolding later
+  later-up-up = let e : less c (up (up c)) ≡ 4294967294 = omega arith in rw e
+
+  pub later-down : later c (down c) ≡ true
+  unfolding later
+  later-down = let e : less c (down c) ≡ 1 = omega arith in rw e
+
+  pub down-later : later (down c) c ≡ false
+  unfolding later
+  down-later = let e : less (down c) c ≡ 4294967295 = omega arith in rw e
+
+pub later-asym : {a b : ℕ} → a < wordLimit → b < wordLimit → later a b ≡ true → later b a ≡ false
+unfolding later
+later-asym {a} {b} ha hb e =
+    let t = and-true (leb 1 (less a b)) (leb (less a b) 2147483647) e in
+    let p : 1 ≤ less a b = leb-true 1 (less a b) (t .0) in
+    let q : less a b ≤ 2147483647 = leb-true (less a b) 2147483647 (t .1) in
+    let r : 2147483647 < less b a = omega arith in
+    rw (lt-leb (less b a) 2147483647 r) (and-false-right (leb 1 (less b a)))
+
+-- ---- the wrap
+
+pub up-largest : up 4294967295 ≡ 0
+up-largest = refl
+
+pub down-zero : down 0 ≡ 4294967295
+down-zero = refl
+
+pub zero-later : later 0 4294967295 ≡ true
+unfolding later
+zero-later = refl

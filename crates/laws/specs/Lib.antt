@@ -1,0 +1,10 @@
+-- Laws of the model's lists, counts, words and masks, which know nothing of states and memories. Each module uses only those above it.
+pub mod Tests
+pub mod Lists
+pub mod Sums
+pub mod Counts
+pub mod Successors
+pub mod Walks
+pub mod Generations
+pub mod Masks
+pub mod Areas

@@ -1,0 +1,316 @@
+-- Lists by their elements: `update`, `map`, `any`, `from`, lists made of blocks, and what `drops` leaves. Assumes nothing.
+use Prim.Native.Nat.{ℕ, zero, suc, _+_, _*_, _≤_, _<_}
+use mathlib.Core.Bool.{Bool, true, false, cond, _||_}
+use mathlib.Core.Path.{_≡_, refl, ap, sym, _∙_, subst}
+use mathlib.Core.Logic.{_⊎_, inl, inr, _≢_}
+use mathlib.Core.List.{List, [], _∷_, _++_, map, List·Memᴰ, List·Memᴰ·head, List·Memᴰ·tail, List·Memᴰ·cases-cons, List·Memᴰ·not-nil}
+use native.Mathlib.Nat.{mul-suc}
+use native.Mathlib.Omega.{arith}
+use lib.ListN.{getD, length, set, take, replicate, length-append, length-map, List·getD-append, List·getD-eq-default}
+use lib.Seq.{getD-append-add, getD-set-same, getD-set-other, getD-take, ext-getD, length-take-le}
+use lib.Dec.{eqb}
+use borrow.Author.Tests.{eq-eqb, ne-eqb}
+use Rattle.model.specs.Lists.{update, any, isEmpty, concatMap, from, drops}
+use Rattle.laws.specs.Tests.{clash, or-left, or-right, same, other, decide}
+
+-- ---- update
+
+module _ {A : Type 0} where
+  pub length-update : (xs : List A) (i : ℕ) (f : A → A) → length (update xs i f) ≡ length xs
+  unfolding update
+  length-update [] i f = refl
+  length-update (x ∷ xs) zero f = refl
+  length-update (x ∷ xs) (suc i) f = ap suc (length-update xs i f)
+
+  -- what holds of each element, and of the j-th once changed, holds of each after the change
+  pub update-cases : (d : A) (P : ℕ → A → Type 0) (xs : List A) (j : ℕ) (f : A → A)
+      → ((i : ℕ) → P i (getD xs i d)) → P j (f (getD xs j d)) → (i : ℕ) → P i (getD (update xs j f) i d)
+  unfolding update
+  update-cases d P [] j f h k i = h i
+  update-cases d P (x ∷ xs) zero f h k zero = k
+  update-cases d P (x ∷ xs) zero f h k (suc i) = h (suc i)
+  update-cases d P (x ∷ xs) (suc j) f h k zero = h zero
+  update-cases d P (x ∷ xs) (suc j) f h k (suc i) = update-cases d (λ (n : ℕ). P (suc n)) xs j f (λ n. h (suc n)) k i
+
+  pub getD-update-same : (d : A) (xs : List A) (j : ℕ) (f : A → A) → j < length xs → getD (update xs j f) j d ≡ f (getD xs j d)
+  unfolding update
+  getD-update-same d [] j f h = absurd (omega arith)
+  getD-update-same d (x ∷ xs) zero f h = refl
+  getD-update-same d (x ∷ xs) (suc j) f h = getD-update-same d xs j f (omega arith)
+
+  pub getD-update-other : (d : A) (xs : List A) (j : ℕ) (f : A → A) (i : ℕ) → i ≢ j → getD (update xs j f) i d ≡ getD xs i d
+  getD-update-other d xs j f = update-cases d (λ (i : ℕ) (x : A). i ≢ j → x ≡ getD xs i d) xs j f (λ i n. refl) (λ n. absurd (n refl))
+
+  pub getD-update : (xs : List A) (i j : ℕ) (f : A → A) (d : A) → i < length xs → getD (update xs i f) j d ≡ cond (eqb j i) (f (getD xs i d)) (getD xs j d)
+  getD-update xs i j f d h =
+      elim (decide j i) [
+        | same e t u ↦ rw (t, e) (getD-update-same d xs i f h)
+        | other e t u ↦ rw t (getD-update-other d xs i f j e)
+      ]
+
+  pub getD-set : (xs : List A) (i j : ℕ) (v d : A) → i < length xs → getD (set xs i v) j d ≡ cond (eqb j i) v (getD xs j d)
+  getD-set xs i j v d h =
+      elim (decide j i) [
+        | same e t u ↦ rw (t, e) (getD-set-same xs i v d h)
+        | other e t u ↦ rw t (getD-set-other xs i j v d e)
+      ]
+
+  -- what holds of each element, and of v at j, holds of each once v is set at j
+  pub set-cases : (d : A) (P : ℕ → A → Type 0) (xs : List A) (j : ℕ) (v : A) → ((i : ℕ) → P i (getD xs i d)) → P j v → (i : ℕ) → P i (getD (set xs j v) i d)
+  set-cases d P [] j v h k i = h i
+  set-cases d P (x ∷ xs) zero v h k zero = k
+  set-cases d P (x ∷ xs) zero v h k (suc i) = h (suc i)
+  set-cases d P (x ∷ xs) (suc j) v h k zero = h zero
+  set-cases d P (x ∷ xs) (suc j) v h k (suc i) = set-cases d (λ (n : ℕ). P (suc n)) xs j v (λ n. h (suc n)) k i
+
+  pub update-update : (xs : List A) (i : ℕ) (f g : A → A) → update (update xs i f) i g ≡ update xs i (λ (x : A). g (f x))
+  unfolding update
+  update-update [] i f g = refl
+  update-update (x ∷ xs) zero f g = refl
+  update-update (x ∷ xs) (suc i) f g = ap (λ (r : List A). x ∷ r) (update-update xs i f g)
+
+  pub getD-replicate-default : (x : A) (n i : ℕ) → getD (replicate n x) i x ≡ x
+  getD-replicate-default x zero i = refl
+  getD-replicate-default x (suc n) zero = refl
+  getD-replicate-default x (suc n) (suc i) = getD-replicate-default x n i
+
+  -- a change that g does not see
+  pub map-update-same : {B : Type 0} (g : A → B) (xs : List A) (i : ℕ) (f : A → A) → ((x : A) → g (f x) ≡ g x) → map g (update xs i f) ≡ map g xs
+  unfolding update
+  map-update-same g [] i f h = refl
+  map-update-same g (x ∷ xs) zero f h = rw (h x)
+  map-update-same g (x ∷ xs) (suc i) f h = rw (map-update-same g xs i f h)
+
+  -- a change that commutes with g
+  pub map-update : (g f : A → A) (xs : List A) (j : ℕ) → ((a : A) → g (f a) ≡ f (g a)) → map g (update xs j f) ≡ update (map g xs) j f
+  unfolding update
+  map-update g f [] j h = refl
+  map-update g f (x ∷ xs) zero h = ap (λ (a : A). a ∷ map g xs) (h x)
+  map-update g f (x ∷ xs) (suc j) h = ap (λ (r : List A). g x ∷ r) (map-update g f xs j h)
+
+-- ---- map
+
+module _ {A B : Type 0} where
+  pub getD-map : (a : A) (b : B) (f : A → B) (xs : List A) (i : ℕ) → i < length xs → getD (map f xs) i b ≡ f (getD xs i a)
+  getD-map a b f [] i h = absurd (omega arith)
+  getD-map a b f (x ∷ xs) zero h = refl
+  getD-map a b f (x ∷ xs) (suc i) h = getD-map a b f xs i (omega arith)
+
+module _ {A : Type 0} (d : A) where
+  -- what holds of the default, and of each element once changed, holds of each after the change
+  pub map-cases-default : (P : ℕ → A → Type 0) (xs : List A) (f : A → A)
+      → ((i : ℕ) → length xs ≤ i → P i d) → ((i : ℕ) → i < length xs → P i (f (getD xs i d))) → (i : ℕ) → P i (getD (map f xs) i d)
+  map-cases-default P [] f h k i = h i (omega arith)
+  map-cases-default P (x ∷ xs) f h k zero = k 0 (omega arith)
+  map-cases-default P (x ∷ xs) f h k (suc i) =
+      map-cases-default (λ (n : ℕ). P (suc n)) xs f (λ n b. h (suc n) (omega arith)) (λ n b. k (suc n) (omega arith)) i
+
+  pub map-cases : (P : ℕ → A → Type 0) (xs : List A) (f : A → A)
+      → ((i : ℕ) → P i (getD xs i d)) → ((i : ℕ) → i < length xs → P i (f (getD xs i d))) → (i : ℕ) → P i (getD (map f xs) i d)
+  map-cases P xs f h = map-cases-default P xs f (λ i b. subst (P i) (List·getD-eq-default xs d b) (h i))
+
+  -- an element that the default is not lies within the list
+  pub getD-within : (p : A → Bool) (xs : List A) (i : ℕ) → p d ≡ false → p (getD xs i d) ≡ true → i < length xs
+  getD-within p [] i z h = clash h z
+  getD-within p (x ∷ xs) zero z h = omega arith
+  getD-within p (x ∷ xs) (suc i) z h = omega (arith, getD-within p xs i z h)
+
+-- ---- what holds of each element
+
+module _ {A : Type 0} where
+  abbrev pub Each : (A → Type 0) → List A → Type 0
+  Each P [] = Unit {0}
+  Each P (x ∷ xs) = P x × Each P xs
+
+  pub each-append : (P : A → Type 0) (xs ys : List A) → Each P xs → Each P ys → Each P (xs ++ ys)
+  each-append P [] ys e f = f
+  each-append P (x ∷ xs) ys e f = (e .0, each-append P xs ys (e .1) f)
+
+  pub each-getD : (d : A) (P : A → Type 0) (xs : List A) → Each P xs → (k : ℕ) → k < length xs → P (getD xs k d)
+  each-getD d P [] h k b = absurd (omega arith)
+  each-getD d P (x ∷ xs) h zero b = h .0
+  each-getD d P (x ∷ xs) h (suc k) b = each-getD d P xs (h .1) k (omega arith)
+
+-- ---- any
+
+module _ {A : Type 0} where
+  pub any-map : (p : A → Bool) (f : A → A) (xs : List A) → any p (map f xs) ≡ any (λ (a : A). p (f a)) xs
+  unfolding any
+  any-map p f [] = refl
+  any-map p f (x ∷ xs) = rw (any-map p f xs)
+
+  pub any-append : (p : A → Bool) (xs ys : List A) → any p (xs ++ ys) ≡ (any p xs || any p ys)
+  unfolding any
+  any-append p [] ys = refl
+  any-append p (x ∷ xs) ys = go (p x) (any-append p xs ys)
+    where
+      go : (b : Bool) → any p (xs ++ ys) ≡ (any p xs || any p ys) → (b || any p (xs ++ ys)) ≡ ((b || any p xs) || any p ys)
+      go true ih = refl
+      go false ih = ih
+
+  -- two changes that p does not tell apart
+  pub any-update-alike : (p : A → Bool) (f g : A → A) (xs : List A) (j : ℕ) → ((a : A) → p (f a) ≡ p (g a)) → any p (update xs j f) ≡ any p (update xs j g)
+  unfolding any update
+  any-update-alike p f g [] j h = refl
+  any-update-alike p f g (x ∷ xs) zero h = rw (h x)
+  any-update-alike p f g (x ∷ xs) (suc j) h = rw (any-update-alike p f g xs j h)
+
+  -- a change that p does not see
+  pub any-update-same : (p : A → Bool) (f : A → A) (xs : List A) (j : ℕ) → ((a : A) → p (f a) ≡ p a) → any p (update xs j f) ≡ any p xs
+  unfolding any update
+  any-update-same p f [] j h = refl
+  any-update-same p f (x ∷ xs) zero h = rw (h x)
+  any-update-same p f (x ∷ xs) (suc j) h = rw (any-update-same p f xs j h)
+
+  pub any-true : (d : A) (p : A → Bool) (xs : List A) (i : ℕ) → i < length xs → p (getD xs i d) ≡ true → any p xs ≡ true
+  unfolding any
+  any-true d p [] i h k = absurd (omega arith)
+  any-true d p (x ∷ xs) zero h k = or-left (p x) (any p xs) k
+  any-true d p (x ∷ xs) (suc i) h k = or-right (p x) (any p xs) (any-true d p xs i (omega arith) k)
+
+  pub any-false : (d : A) (p : A → Bool) (xs : List A) → p d ≡ false → any p xs ≡ false → (i : ℕ) → p (getD xs i d) ≡ false
+  unfolding any
+  any-false d p [] z h i = z
+  any-false d p (x ∷ xs) z h i = go (p x) refl (any-false d p xs z) i
+    where
+      go : (b : Bool) → p x ≡ b → (any p xs ≡ false → (i : ℕ) → p (getD xs i d) ≡ false) → (i : ℕ) → p (getD (x ∷ xs) i d) ≡ false
+      go true e ih i = clash (rw e) h
+      go false e ih zero = e
+      go false e ih (suc i) = ih (rw e at h) i
+
+  pub any-false-intro : (d : A) (p : A → Bool) (xs : List A) → ((i : ℕ) → p (getD xs i d) ≡ false) → any p xs ≡ false
+  unfolding any
+  any-false-intro d p [] h = refl
+  any-false-intro d p (x ∷ xs) h = rw (h 0) (any-false-intro d p xs (λ i. h (suc i)))
+
+  pub isEmpty-true : (xs : List A) → isEmpty xs ≡ true → xs ≡ []
+  unfolding isEmpty
+  isEmpty-true [] h = refl
+  isEmpty-true (x ∷ xs) h = clash h refl
+
+-- ---- from
+
+pub length-from : (a n : ℕ) → length (from a n) ≡ n
+unfolding from
+length-from a zero = refl
+length-from a (suc n) = ap suc (length-from (suc a) n)
+
+pub getD-from : (a n i d : ℕ) → i < n → getD (from a n) i d ≡ a + i
+unfolding from
+getD-from a zero i d h = absurd (omega arith)
+getD-from a (suc n) zero d h = omega arith
+getD-from a (suc n) (suc i) d h = omega (arith, getD-from (suc a) n i d (omega arith))
+
+module _ {A : Type 0} where
+  pub length-map-from : (g : ℕ → A) (a n : ℕ) → length (map g (from a n)) ≡ n
+  length-map-from g a n = length-map (from a n) g ∙ length-from a n
+
+  pub getD-map-from : (g : ℕ → A) (a n i : ℕ) (d : A) → i < n → getD (map g (from a n)) i d ≡ g (a + i)
+  getD-map-from g a n i d h = getD-map 0 d g (from a n) i (omega (arith, length-from a n)) ∙ ap g (getD-from a n i 0 h)
+
+  -- the same from 0 on
+  pub getD-map-below : (g : ℕ → A) (n i : ℕ) (d : A) → i < n → getD (map g (from 0 n)) i d ≡ g i
+  getD-map-below g n i d h = getD-map-from g 0 n i d h ∙ ap g (omega arith)
+
+  pub map-from-suc : (g : ℕ → A) (n : ℕ) → map g (from 0 (suc n)) ≡ map g (from 0 n) ++ (g n ∷ [])
+  unfolding from
+  map-from-suc g n = go 0 n ∙ ap (λ (k : ℕ). map g (from 0 n) ++ (g k ∷ [])) (omega arith)
+    where
+      go : (a n : ℕ) → map g (from a (suc n)) ≡ map g (from a n) ++ (g (a + n) ∷ [])
+      go a zero = ap (λ (k : ℕ). g k ∷ []) (omega arith)
+      go a (suc n) = ap (λ (r : List A). g a ∷ r) (go (suc a) n ∙ ap (λ (k : ℕ). map g (from (suc a) n) ++ (g k ∷ [])) (omega arith))
+
+  -- two functions that agree there
+  pub map-from-alike : (f g : ℕ → A) (a n : ℕ) → ((k : ℕ) → a ≤ k → k < a + n → f k ≡ g k) → map f (from a n) ≡ map g (from a n)
+  unfolding from
+  map-from-alike f g a zero e = refl
+  map-from-alike f g a (suc n) e = rw (e a (omega arith) (omega arith), map-from-alike f g (suc a) n (λ k p q. e k (omega arith) (omega arith)))
+
+  pub map-map-from : {B : Type 0} (h : A → B) (g : ℕ → A) (a n : ℕ) → map h (map g (from a n)) ≡ map (λ (k : ℕ). h (g k)) (from a n)
+  unfolding from
+  map-map-from h g a zero = refl
+  map-map-from h g a (suc n) = rw (map-map-from h g (suc a) n)
+
+  -- a list is what is read of it, element by element
+  pub map-from-getD : (f : ℕ → A) (d : A) (xs : List A) (n : ℕ) → length xs ≡ n → ((i : ℕ) → i < n → f i ≡ getD xs i d) → map f (from 0 n) ≡ xs
+  map-from-getD f d xs n l h =
+      ext-getD d (map f (from 0 n)) xs (length-map-from f 0 n ∙ sym l)
+      (λ i b. let c : i < n = omega (arith, length-map-from f 0 n) in getD-map-below f n i d c ∙ h i c)
+
+  -- two functions that differ at one place
+  pub map-from-set : (g g′ : ℕ → A) (a n h : ℕ) (v : A) → h < n → ((k : ℕ) → g′ k ≡ cond (eqb k (a + h)) v (g k)) → map g′ (from a n) ≡ set (map g (from a n)) h v
+  unfolding from
+  map-from-set g g′ a zero h v b e = absurd (omega arith)
+  map-from-set g g′ a (suc n) zero v b e =
+      let p : g′ a ≡ v = e a ∙ rw (eq-eqb a (a + 0) (omega arith)) in
+      rw p (ap (λ (r : List A). v ∷ r) (map-from-alike g′ g (suc a) n (λ k l m. e k ∙ rw (ne-eqb k (a + 0) (λ q. omega arith)))))
+  map-from-set g g′ a (suc n) (suc h) v b e =
+      let p : g′ a ≡ g a = e a ∙ rw (ne-eqb a (a + suc h) (λ q. omega arith)) in
+      let q : a + suc h ≡ suc a + h = omega arith in
+      rw (p, map-from-set g g′ (suc a) n h v (omega arith) (λ k. e k ∙ rw q))
+
+pub take-map-from : (m : List ℕ) (n : ℕ) → n ≤ length m → take n m ≡ map (λ (i : ℕ). getD m i 0) (from 0 n)
+take-map-from m n h = sym (map-from-getD (λ (i : ℕ). getD m i 0) 0 (take n m) n (length-take-le n m h) (λ i b. sym (getD-take n m i 0 b)))
+
+-- ---- lists made of parts
+
+-- an element of the second of two parts, by an equation on its place
+pub getD-right : (xs ys : List ℕ) (k i : ℕ) → k ≡ length xs + i → getD (xs ++ ys) k 0 ≡ getD ys i 0
+getD-right xs ys k i e = rw e (getD-append-add xs ys i 0)
+
+pub concatMap-single : {A : Type 0} (f : A → ℕ) (xs : List A) → concatMap (λ (x : A). f x ∷ []) xs ≡ map f xs
+unfolding concatMap
+concatMap-single f [] = refl
+concatMap-single f (x ∷ xs) = ap (λ (r : List ℕ). f x ∷ r) (concatMap-single f xs)
+
+module _ {A : Type 0} (f : A → List ℕ) (n : ℕ) (d : A) where
+  -- blocks of n words each
+  pub length-blocks : (xs : List A) → ((i : ℕ) → i < length xs → length (f (getD xs i d)) ≡ n) → length (concatMap f xs) ≡ n * length xs
+  unfolding concatMap
+  length-blocks [] h = omega arith
+  length-blocks (x ∷ xs) h =
+      omega (arith, length-append (f x) (concatMap f xs), length-blocks xs (λ i k. h (suc i) (omega arith)), h 0 (omega arith), mul-suc n (length xs))
+
+  pub getD-blocks : (xs : List A) → ((i : ℕ) → i < length xs → length (f (getD xs i d)) ≡ n)
+      → (i k : ℕ) → i < length xs → k < n → getD (concatMap f xs) (n * i + k) 0 ≡ getD (f (getD xs i d)) k 0
+  unfolding concatMap
+  getD-blocks [] h i k p q = absurd (omega arith)
+  getD-blocks (x ∷ xs) h zero k p q =
+      let e : n * 0 + k ≡ k = omega arith in
+      rw e (List·getD-append (f x) (concatMap f xs) 0 k (omega (arith, h 0 (omega arith))))
+  getD-blocks (x ∷ xs) h (suc i) k p q =
+      let e : n * suc i + k ≡ length (f x) + (n * i + k) = omega (arith, h 0 (omega arith), mul-suc n i) in
+      rw e (getD-append-add (f x) (concatMap f xs) (n * i + k) 0 ∙ getD-blocks xs (λ i k. h (suc i) (omega arith)) i k (omega arith) q)
+
+-- ---- what `drops` leaves
+
+module _ {A : Type 0} (p : A → Bool) where
+  pub of-drops : (a : A) (xs : List A) → List·Memᴰ a (drops p xs) → List·Memᴰ a xs × (p a ≡ false)
+  unfolding drops
+  of-drops a [] m = absurd (List·Memᴰ·not-nil m)
+  of-drops a (x ∷ xs) m = go (p x) refl (of-drops a xs)
+    where
+      up : List·Memᴰ a xs × (p a ≡ false) → List·Memᴰ a (x ∷ xs) × (p a ≡ false)
+      up h = (List·Memᴰ·tail (h .0), h .1)
+
+      go : (b : Bool) → p x ≡ b → (List·Memᴰ a (drops p xs) → List·Memᴰ a xs × (p a ≡ false)) → List·Memᴰ a (x ∷ xs) × (p a ≡ false)
+      go true e ih = up (ih (rw e at m))
+      go false e ih = here (List·Memᴰ·cases-cons n)
+        where
+          n : List·Memᴰ a (x ∷ drops p xs)
+          n = rw e at m
+
+          here : (a ≡ x) ⊎ List·Memᴰ a (drops p xs) → List·Memᴰ a (x ∷ xs) × (p a ≡ false)
+          here (inl q) = (List·Memᴰ·head q, ap p q ∙ e)
+          here (inr k) = up (ih k)
+
+  pub to-drops : (a : A) (xs : List A) → List·Memᴰ a xs → p a ≡ false → List·Memᴰ a (drops p xs)
+  unfolding drops
+  to-drops a [] m h = absurd (List·Memᴰ·not-nil m)
+  to-drops a (x ∷ xs) m h = go (p x) refl (List·Memᴰ·cases-cons m) (λ k. to-drops a xs k h)
+    where
+      go : (b : Bool) → p x ≡ b → (a ≡ x) ⊎ List·Memᴰ a xs → (List·Memᴰ a xs → List·Memᴰ a (drops p xs)) → List·Memᴰ a (drops p (x ∷ xs))
+      go true e (inl q) ih = clash e (sym (ap p q) ∙ h)
+      go true e (inr k) ih = rw e (ih k)
+      go false e (inl q) ih = rw e (List·Memᴰ·head q)
+      go false e (inr k) ih = rw e (List·Memᴰ·tail (ih k))

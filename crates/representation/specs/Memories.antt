@@ -1,0 +1,244 @@
+-- The fourteen calls on memories: what they answer and leave on a legal memory and on any other, that they keep legality, that a refusal changes no
+-- word, and that the words past the total change no answer and stay.
+use Prim.Native.Nat.{ℕ, zero, suc, _≤_}
+use mathlib.Core.Path.{_≡_, refl, sym, ap, subst, _∙_}
+use mathlib.Core.Bool.{Bool, true, false, not}
+use mathlib.Core.List.{List, [], _∷_, _++_}
+use native.Mathlib.Omega.{arith}
+use lib.ListN.{length, take, drop}
+use lib.Seq.{take-at, drop-at, length-take-le}
+use lib.Dec.{ltb}
+use borrow.Author.Tests.{ltb-false, not-false}
+use Rattle.model.specs.State.{Sizes, State}
+use Rattle.model.specs.Layout.{total}
+use Rattle.model.specs.Rules.{Op, refused, cause, firstOf, performed, answer, answerOf, next, nextOf, refusal, fresh}
+use Rattle.model.specs.Memory.{Words, sizes, words, state}
+use Rattle.model.specs.Legal.{sizesFit, legal}
+use Rattle.model.specs.Calls.{Call, set-up, on-state, sized, stored, refusalOf, replyOf, leftOf, reply, left, leftAll}
+use Rattle.representation.specs.WellFormed.{WellFormed}
+use Rattle.representation.specs.Passed.{clear, sizes-performed, sizes-next, status}
+use Rattle.representation.specs.Writes.{length-words}
+use Rattle.representation.specs.Worded.{stored-words}
+use Rattle.representation.specs.Fresh.{fresh-wellFormed}
+use Rattle.representation.specs.Next.{next-wellFormed}
+use Rattle.representation.specs.Round.{ready, legal-wellFormed, stored-state, words-state, round, state-words}
+
+-- ---- a refused call, on any list
+
+pub refused-keeps : (m : List ℕ) (k : Call) → (reply m k .status ≡ 0 → ⊥) → left m k ≡ m
+unfolding left leftOf reply replyOf
+refused-keeps m k = go k (refusalOf m k)
+  where
+    go : (k : Call) (n : ℕ) → (replyOf m n k .status ≡ 0 → ⊥) → leftOf m n k ≡ m
+    go k (suc n) f = refl
+    go (set-up c p s) zero f = absurd (f refl)
+    go (on-state o) zero f = absurd (f (status (state m) o))
+
+-- ---- the thirteen calls on a memory that is not legal
+
+module _ (m : List ℕ) (k : Op) (h : legal m ≡ false) where
+  refusal-illegal : refusalOf m (on-state k) ≡ 3
+  unfolding refusalOf firstOf
+  refusal-illegal = rw h
+
+  pub reply-illegal : reply m (on-state k) ≡ refused 3
+  unfolding reply replyOf
+  reply-illegal = ap (λ (n : ℕ). replyOf m n (on-state k)) refusal-illegal
+
+  pub left-illegal : left m (on-state k) ≡ m
+  unfolding left leftOf
+  left-illegal = ap (λ (n : ℕ). leftOf m n (on-state k)) refusal-illegal
+
+-- ---- on a legal memory: they are those of its state
+
+module _ (m : List ℕ) (k : Op) (h : legal m ≡ true) where
+  refusal-legal : refusalOf m (on-state k) ≡ refusal (state m) k
+  unfolding refusalOf firstOf
+  refusal-legal = rw h
+
+  pub reply-legal : reply m (on-state k) ≡ answer (state m) k
+  unfolding reply replyOf answer
+  reply-legal = ap (λ (n : ℕ). replyOf m n (on-state k)) refusal-legal ∙ go (refusal (state m) k)
+    where
+      go : (n : ℕ) → replyOf m n (on-state k) ≡ answerOf (state m) n k
+      go zero = refl
+      go (suc n) = refl
+
+  module _ (w : Words m) where
+    pub left-legal : left m (on-state k) ≡ stored (next (state m) k) m
+    unfolding left leftOf next
+    left-legal = ap (λ (n : ℕ). leftOf m n (on-state k)) refusal-legal ∙ go (refusal (state m) k)
+      where
+        go : (n : ℕ) → leftOf m n (on-state k) ≡ stored (nextOf (state m) n k) m
+        go zero = refl
+        go (suc n) = sym (stored-state m h w)
+
+    next-fits : WellFormed (next (state m) k)
+    next-fits = next-wellFormed (state m) k (legal-wellFormed m h w)
+
+    next-long : total (next (state m) k .sizes) ≤ length m
+    unfolding state
+    next-long = subst (λ (z : Sizes). total z ≤ length m) (sym (sizes-next (state m) k)) (ready m h w .long)
+
+    -- a call on a legal memory leaves a legal memory
+    pub next-legal : legal (left m (on-state k)) ≡ true
+    next-legal = subst (λ (n : List ℕ). legal n ≡ true) (sym left-legal) (round (next (state m) k) m next-fits next-long .0)
+
+    -- which reads as the state after the call
+    pub left-state : state (left m (on-state k)) ≡ next (state m) k
+    left-state = ap state left-legal ∙ round (next (state m) k) m next-fits next-long .1
+
+    next-words : Words (left m (on-state k))
+    next-words = subst Words (sym left-legal) (stored-words (next (state m) k) next-fits m w)
+
+-- ---- set-up
+
+-- what no cause refuses
+pub record SetUp (m : List ℕ) (z : Sizes) : Type 0 where
+  pub inRange : sizesFit z ≡ true
+  pub long : total z ≤ length m
+
+pub setUp-accepted : (m : List ℕ) (c p n : ℕ) → refusalOf m (set-up c p n) ≡ 0 → SetUp m (sized c p n)
+unfolding refusalOf
+setUp-accepted m c p n h =
+    let (fits, (short, rest)) = clear (cause 1 (not (sizesFit (sized c p n))) ∷ cause 2 (ltb (length m) (total (sized c p n))) ∷ []) (omega arith) h in
+    record { inRange = not-false _ fits; long = ltb-false (length m) (total (sized c p n)) short }
+
+module _ (m : List ℕ) (c p n : ℕ) (h : refusalOf m (set-up c p n) ≡ 0) where
+  pub left-setUp : left m (set-up c p n) ≡ stored (fresh (sized c p n)) m
+  unfolding left leftOf
+  left-setUp = ap (λ (x : ℕ). leftOf m x (set-up c p n)) h
+
+  fresh-fits : WellFormed (fresh (sized c p n))
+  fresh-fits = fresh-wellFormed (sized c p n) (setUp-accepted m c p n h .inRange)
+
+  fresh-long : total (fresh (sized c p n) .sizes) ≤ length m
+  unfolding fresh
+  fresh-long = setUp-accepted m c p n h .long
+
+  -- an accepted set-up leaves a legal memory
+  pub setUp-legal : legal (left m (set-up c p n)) ≡ true
+  setUp-legal = subst (λ (x : List ℕ). legal x ≡ true) (sym left-setUp) (round (fresh (sized c p n)) m fresh-fits fresh-long .0)
+
+  -- which reads as the fresh state
+  pub setUp-state : state (left m (set-up c p n)) ≡ fresh (sized c p n)
+  setUp-state = ap state left-setUp ∙ round (fresh (sized c p n)) m fresh-fits fresh-long .1
+
+  setUp-words : Words m → Words (left m (set-up c p n))
+  setUp-words w = subst Words (sym left-setUp) (stored-words (fresh (sized c p n)) fresh-fits m w)
+
+-- ---- every call
+
+-- what holds of a memory after a call, by cases: as it was, after an accepted set-up, after a call on a legal memory
+module _ (P : List ℕ → Type 0) (m : List ℕ) (same : P m) where
+  left-setUp-cases : (c p n : ℕ) → (refusalOf m (set-up c p n) ≡ 0 → P (left m (set-up c p n))) → P (left m (set-up c p n))
+  unfolding left leftOf
+  left-setUp-cases c p n f = go (refusalOf m (set-up c p n)) refl
+    where
+      go : (x : ℕ) → refusalOf m (set-up c p n) ≡ x → P (left m (set-up c p n))
+      go zero e = f e
+      go (suc x) e = subst (λ (y : ℕ). P (leftOf m y (set-up c p n))) (sym e) same
+
+  left-cases : (k : Op) → (legal m ≡ true → P (left m (on-state k))) → P (left m (on-state k))
+  left-cases k f = go (legal m) refl
+    where
+      go : (b : Bool) → legal m ≡ b → P (left m (on-state k))
+      go true e = f e
+      go false e = subst P (sym (left-illegal m k e)) same
+
+-- a memory of words stays one, whatever the call
+pub left-words : (m : List ℕ) (k : Call) → Words m → Words (left m k)
+left-words m (set-up c p n) w = left-setUp-cases Words m w c p n (λ e. setUp-words m c p n e w)
+left-words m (on-state k) w = left-cases Words m w k (λ e. next-words m k e w)
+
+-- a legal memory of words
+pub record Sound (m : List ℕ) : Type 0 where
+  pub lawful : legal m ≡ true
+  pub words : Words m
+
+-- each of the fourteen calls leaves one
+pub left-sound : (m : List ℕ) (k : Call) → Sound m → Sound (left m k)
+left-sound m (set-up c p n) v = left-setUp-cases Sound m v c p n (λ e. record { lawful = setUp-legal m c p n e; words = setUp-words m c p n e (v .words) })
+left-sound m (on-state k) v = record { lawful = next-legal m k (v .lawful) (v .words); words = left-words m (on-state k) (v .words) }
+
+pub leftAll-sound : (ks : List Call) (m : List ℕ) → Sound m → Sound (leftAll m ks)
+unfolding leftAll
+leftAll-sound [] m v = v
+leftAll-sound (k ∷ ks) m v = leftAll-sound ks (left m k) (left-sound m k v)
+
+-- ---- words past the total
+
+-- a state of sizes that total t, stored in a memory
+module _ (s : State) (t : ℕ) (e : total (s .sizes) ≡ t) where
+  take-stored : (m : List ℕ) → take t (stored s m) ≡ words s
+  take-stored m = ap (λ (d : ℕ). take d (stored s m)) (sym e) ∙ take-at (words s) (drop (total (s .sizes)) m) (total (s .sizes)) (length-words s)
+
+  drop-stored : (m : List ℕ) → drop t (stored s m) ≡ drop t m
+  drop-stored m =
+      ap (λ (d : ℕ). drop d (stored s m)) (sym e) ∙ drop-at (words s) (drop (total (s .sizes)) m) (total (s .sizes)) (length-words s) ∙ ap (λ (d : ℕ). drop d m) e
+
+  stored-append : (xs rest : List ℕ) → length xs ≡ t → stored s (xs ++ rest) ≡ words s ++ rest
+  stored-append xs rest l = ap (λ (d : ℕ). words s ++ drop d (xs ++ rest)) e ∙ ap (λ (x : List ℕ). words s ++ x) (drop-at xs rest t l)
+
+-- they stay
+pub left-past : (m : List ℕ) (k : Op) → legal m ≡ true → Words m → drop (total (sizes m)) (left m (on-state k)) ≡ drop (total (sizes m)) m
+unfolding state
+left-past m k h w = ap (drop (total (sizes m))) (left-legal m k h w) ∙ drop-stored (next (state m) k) (total (sizes m)) (ap total (sizes-next (state m) k)) m
+
+pub left-setUp-past : (m : List ℕ) (c p n : ℕ) → drop (total (sized c p n)) (left m (set-up c p n)) ≡ drop (total (sized c p n)) m
+unfolding fresh
+left-setUp-past m c p n =
+    left-setUp-cases (λ (x : List ℕ). drop (total (sized c p n)) x ≡ drop (total (sized c p n)) m) m refl c p n
+    (λ e. ap (drop (total (sized c p n))) (left-setUp m c p n e) ∙ drop-stored (fresh (sized c p n)) (total (sized c p n)) refl m)
+
+-- and others in their place change no answer, and stay
+pub record PastTotal (m rest : List ℕ) (k : Op) : Type 0 where
+  pub legality : legal (take (total (sizes m)) m ++ rest) ≡ true
+  pub answer : reply (take (total (sizes m)) m ++ rest) (on-state k) ≡ reply m (on-state k)
+  pub memory : left (take (total (sizes m)) m ++ rest) (on-state k) ≡ take (total (sizes m)) (left m (on-state k)) ++ rest
+
+pub past-total : (m rest : List ℕ) (k : Op) → legal m ≡ true → Words m → PastTotal m rest k
+unfolding left leftOf state
+past-total m rest k h w = record { legality = legality; answer = same-answer; memory = same-memory }
+  where
+    t : ℕ
+    t = total (sizes m)
+
+    other : List ℕ
+    other = take t m ++ rest
+
+    here : words (state m) ++ rest ≡ other
+    here = ap (λ (x : List ℕ). x ++ rest) (words-state m h w)
+
+    legality : legal other ≡ true
+    legality = subst (λ (x : List ℕ). legal x ≡ true) here (state-words (state m) rest (legal-wellFormed m h w) .lawful)
+
+    read : state other ≡ state m
+    read = sym (ap state here) ∙ state-words (state m) rest (legal-wellFormed m h w) .read
+
+    same-answer : reply other (on-state k) ≡ reply m (on-state k)
+    same-answer = reply-legal other k legality ∙ ap (λ (s : State). answer s k) read ∙ sym (reply-legal m k h)
+
+    by-refusal : (n : ℕ) → leftOf other n (on-state k) ≡ take t (leftOf m n (on-state k)) ++ rest
+    by-refusal zero =
+        let s = performed (state m) k in
+        let e : total (s .sizes) ≡ t = ap total (sizes-performed (state m) k) in
+        ap (λ (u : State). stored (performed u k) other) read
+        ∙ stored-append s t e (take t m) rest (length-take-le t m (ready m h w .long))
+        ∙ sym (ap (λ (x : List ℕ). x ++ rest) (take-stored s t e m))
+    by-refusal (suc n) = refl
+
+    same-memory : left other (on-state k) ≡ take t (left m (on-state k)) ++ rest
+    same-memory =
+        ap (λ (n : ℕ). leftOf other n (on-state k)) (refusal-legal other k legality ∙ ap (λ (s : State). refusal s k) read)
+        ∙ by-refusal (refusal (state m) k)
+        ∙ sym (ap (λ (n : ℕ). take t (leftOf m n (on-state k)) ++ rest) (refusal-legal m k h))
+
+-- set-up looks at the length alone
+pub reply-setUp : (m n : List ℕ) (c p s : ℕ) → length m ≡ length n → reply m (set-up c p s) ≡ reply n (set-up c p s)
+unfolding reply replyOf refusalOf
+reply-setUp m n c p s e = rw e (go (refusalOf n (set-up c p s)))
+  where
+    go : (x : ℕ) → replyOf m x (set-up c p s) ≡ replyOf n x (set-up c p s)
+    go zero = refl
+    go (suc x) = refl
