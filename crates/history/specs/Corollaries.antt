@@ -1,0 +1,201 @@
+-- Corollaries for a supervisor, stated as `Demand3` is: over every accepted set-up of any memory and every list of calls after it. h are the list's
+-- events and m is the memory after it; "the next call" is any call made then.
+use Prim.Native.Nat.{ℕ, _<_, _≤_}
+use mathlib.Core.Path.{_≡_, refl, sym, ap, subst, _∙_}
+use mathlib.Core.Logic.{inl, inr, _≢_}
+use mathlib.Core.Bool.{true, false}
+use mathlib.Core.List.{List, [], _∷_, List·Memᴰ}
+use native.Mathlib.Omega.{arith}
+use lib.ListN.{length, length-append}
+use Rattle.model.specs.Lists.{count, isEmpty, first}
+use Rattle.model.specs.State.{Product, State}
+use Rattle.model.specs.Table.{productAt, chainOf}
+use Rattle.model.specs.Rules.{Op, add, replace, Answer, accepted, causes, result, answer, fresh}
+use Rattle.model.specs.Memory.{state}
+use Rattle.model.specs.Calls.{Call, set-up, on-state, sized, reply, left, leftAll}
+use Rattle.model.specs.Ledger.{Section, Search, Out, Ledger, Event, ledger, isAnswer, search, events}
+use Rattle.model.specs.Ledger.{Came, Explained, Holds, stepEvent, RefusesSetUps}
+use Rattle.laws.specs.Tests.{same-or}
+use Rattle.laws.specs.Counts.{mark-self, count-first}
+use Rattle.representation.specs.Frame.{queued}
+use Rattle.representation.specs.Passed.{clear, call-cases}
+use Rattle.representation.specs.WellFormed.{chained}
+use Rattle.history.specs.Invariant.{searched, Invariant, Anchored, inChain, retained}
+use Rattle.history.specs.Chains.{SameOr, chained-at, searched-here, searched-on}
+use Rattle.history.specs.Slots.{standing-once}
+use Rattle.history.specs.Instants.{past, Unchanged, window-unchanged, searches-one}
+use Rattle.history.specs.Stands.{Stands, reply-on}
+use Rattle.history.specs.Lists.{At, End, to-end}
+use Rattle.history.specs.OneList.{FoundEnd, found-end, found-holds}
+use Rattle.history.specs.Demand3.{demand3, at-set-up}
+
+-- P holds of every list, by its events and the memory after it; `EveryList Demand` is `Demand3`
+abbrev pub EveryList : (List Event → List ℕ → Type 0) → Type 0
+EveryList P =
+    (m : List ℕ) (c p n : ℕ) → reply m (set-up c p n) .status ≡ 0
+    → (ks : List Call) → let m₀ = left m (set-up c p n) in RefusesSetUps m₀ ks → P (events m₀ ks) (leftAll m₀ ks)
+
+-- ---- a slot that add or replace answers was unused
+
+-- the state has slot x in no chain and in no next, current or done queue; to the ledger it is no code's slot, and it is not out
+pub record Unused (s : State) (g : Ledger) (x : ℕ) : Type 0 where
+  pub noChain : chained x (s .table) ≡ 0
+  pub noQueue : queued x (s .engine) ≡ 0
+  pub noEntry : (c d k : ℕ) → search g c ≢ accepted 1 x d k
+  pub notOut : (o : Out) → List·Memᴰ o (g .outs) → o .slot ≢ x
+
+-- an add or a replace
+pub data Enters : Op → Type 0 where
+  adds : (i c d k : ℕ) → Enters (add i c d k)
+  replaces : (i c d k : ℕ) → Enters (replace i c d k)
+
+-- the slot that the next add or replace answers is in no chain and no queue just before it
+abbrev pub NewSlots : List Event → List ℕ → Type 0
+NewSlots h m = (o : Op) → Enters o → reply m (on-state o) .status ≡ 0 → Unused (state m) (ledger h) (reply m (on-state o) .a)
+
+-- a slot that a search gives is among those searched
+searched-in : (ps : List Product) (c x d k : ℕ) (xs : List ℕ) → searched ps c xs ≡ accepted 1 x d k → 0 < count x xs
+unfolding searched count
+searched-in ps c x d k [] e = let z : _≡_ {A = ℕ} 2 1 = ap (λ (r : Answer). r .a) e in absurd (omega arith)
+searched-in ps c x d k (y ∷ xs) e = go (same-or (productAt ps y .code) c) (searched-in ps c x d k xs)
+  where
+    go : SameOr (productAt ps y .code) c → (searched ps c xs ≡ accepted 1 x d k → 0 < count x xs) → 0 < count x (y ∷ xs)
+    go (inl q) ih =
+        let z : y ≡ x = ap (λ (r : Answer). r .b) (sym (searched-here ps c y xs q) ∙ e) in
+        rw z (omega (arith, mark-self x))
+    go (inr q) ih = omega (arith, ih (sym (searched-on ps c y xs (q .0)) ∙ e))
+
+module _ {past : ℕ → Ledger} {k : ℕ} {s : State} {g : Ledger} (v : Invariant past k s g) where
+  -- the first free slot is unused
+  free-unused : isEmpty (s .table .free) ≡ false → Unused s g (first (s .table .free))
+  free-unused f = record {
+    noChain = unchained;
+    noQueue = omega (arith, free, standing-once (v .wellFormed) x);
+    noEntry = λ c d k e. no-chain (omega (
+      arith,
+      chained-at (s .table) c x,
+      searched-in (s .table .products) c x d k (chainOf (s .table) c) (sym (v .entries c) ∙ e),
+    ));
+    notOut = λ o m e. no-queue (rw e at (v .outs .isQueued o m));
+  }
+    where
+      x : ℕ
+      x = first (s .table .free)
+
+      free : 0 < count x (s .table .free)
+      free = omega (arith, count-first x (s .table .free) f, mark-self x)
+
+      unchained : chained x (s .table) ≡ 0
+      unchained = omega (arith, free, standing-once (v .wellFormed) x)
+
+      no-chain : 0 < chained x (s .table) → ⊥
+      no-chain h = omega (arith, unchained)
+
+      no-queue : 0 < queued x (s .engine) → ⊥
+      no-queue h = omega (arith, free, standing-once (v .wellFormed) x)
+
+  enters-unused : (o : Op) → Enters o → answer s o .status ≡ 0 → Unused s g (answer s o .a)
+  unfolding causes result
+  enters-unused o (adds i c d n) = call-cases (λ (t : State) (r : Answer). r .status ≡ 0 → Unused s g (r .a)) s (add i c d n)
+      (λ z h. free-unused (clear (causes s (add i c d n)) (omega arith) z .1 .1 .1 .1 .0)) (λ m h. absurd (omega arith))
+  enters-unused o (replaces i c d n) = call-cases (λ (t : State) (r : Answer). r .status ≡ 0 → Unused s g (r .a)) s (replace i c d n)
+      (λ z h. free-unused (clear (causes s (replace i c d n)) (omega arith) z .1 .1 .1 .1 .0)) (λ m h. absurd (omega arith))
+
+-- ---- a code looked up twice
+
+-- Two answered lookups of one code, x on lane i and y on lane j, x not started later: if no call changes the code from the start of the first to the
+-- answer of the second, the two answers are the same, slot and values. It holds in one section and across sections. The first lookup's start
+-- counts, not its answer: a lookup may still find a slot that was replaced while it ran
+abbrev pub SameTwice : List Event → List ℕ → Type 0
+SameTwice h m =
+    (i j : ℕ) (r q : Answer) (a : Came h (stepEvent i r)) (b : Came h (stepEvent j q)) → isAnswer r ≡ true → isAnswer q ≡ true
+    → (x y : Search) → List·Memᴰ x (ledger (a .before) .searches) → x .lane ≡ i → List·Memᴰ y (ledger (b .before) .searches) → y .lane ≡ j
+    → x .code ≡ y .code → x .started ≤ y .started → length (a .before) ≤ length (b .before) → Unchanged (x .code) h (x .started) (length (b .before))
+    → r ≡ q
+
+-- ---- what was found is no other product's
+
+-- The slot that the answer r found, while the finder's section has not ended: it holds no other code than the one looked for, and the next add or
+-- replace does not answer it
+pub record NotAnother (h : List Event) (m : List ℕ) (i : ℕ) (r : Answer) (before : List Event) : Type 0 where
+  pub finder : Section
+  pub isOpen : List·Memᴰ finder (ledger before .sections)
+  pub ofLane : finder .lane ≡ i
+  pub sameCode : List·Memᴰ finder (ledger h .sections) → (q : Search) → List·Memᴰ q (ledger before .searches) → q .lane ≡ i
+      → (c d k : ℕ) → Holds m (r .b) c d k → c ≡ q .code
+  pub notGiven : List·Memᴰ finder (ledger h .sections) → (o : Op) → Enters o → reply m (on-state o) .status ≡ 0 → reply m (on-state o) .a ≢ r .b
+
+abbrev pub NeverAnother : List Event → List ℕ → Type 0
+NeverAnother h m = (i : ℕ) (r : Answer) (c : Came h (stepEvent i r)) → r .status ≡ 0 → r .a ≡ 1 → NotAnother h m i r (c .before)
+
+-- an unused slot is not anchored
+unused-anchored : {s : State} {g : Ledger} (z : Section) (x : ℕ) → Unused s g x → Anchored (s .table) g z x → ⊥
+unused-anchored z x u (inChain c) = omega (arith, u .noChain)
+unused-anchored z x u (retained r) = u .notOut (r .out) (r .isOut) (r .ofSlot)
+
+-- ---- the corollaries
+
+-- the answer of the next add or replace, by the state
+reply-unused : {past : ℕ → Ledger} {k : ℕ} {s : State} {g : Ledger} {m : List ℕ} → Invariant past k s g → Stands s m
+    → (o : Op) → Enters o → reply m (on-state o) .status ≡ 0 → Unused s g (reply m (on-state o) .a)
+reply-unused {s = s} {g} v t o e =
+    subst (λ (r : Answer). r .status ≡ 0 → Unused s g (r .a)) (sym (reply-on t o)) (enters-unused v o e)
+
+pub new-slots : EveryList NewSlots
+new-slots m c p n ok ks r = go (to-end h ks [] (fresh (sized c p n)) m₀ (at-set-up m c p n ok ks r))
+  where
+    m₀ : List ℕ
+    m₀ = left m (set-up c p n)
+
+    h : List Event
+    h = events m₀ ks
+
+    go : End h [] (fresh (sized c p n)) (leftAll m₀ ks) → NewSlots h (leftAll m₀ ks)
+    go e o w z = rw (e .stands .read) (reply-unused (e .invariant) (e .stands) o w z)
+
+pub same-twice : EveryList SameTwice
+same-twice m c p n ok ks s i j r q a b u v x y mx ex my ey same starts order still =
+    go (demand3 m c p n ok ks s .explained i r a u) (demand3 m c p n ok ks s .explained j q b v)
+  where
+    h : List Event
+    h = events (left m (set-up c p n)) ks
+
+    inside : length (b .before) ≤ length h
+    inside = omega (arith, simp length-append at (ap length (b .all)))
+
+    -- an answered lookup's whole search, as of the first one's start
+    whole : {l : ℕ} {o : Answer} {before : List Event} → Explained h l o before → length before ≤ length (b .before)
+        → (z : Search) → List·Memᴰ z (ledger before .searches) → z .lane ≡ l → x .started ≤ z .started → x .code ≡ z .code
+        → o ≡ search (past h (x .started)) (x .code)
+    whole {before} e short z mz ez later code =
+        let is = searches-one before (e .noted) z (e .isNoted) mz (e .ofLane ∙ sym ez) in
+        let from : z .started ≤ e .instant = rw is at (e .notBefore) in
+        e .whole ∙ (ap (search (past h (e .instant))) (ap (λ (z : Search). z .code) is ∙ sym code)
+        ∙ window-unchanged (x .code) h (x .started) (length (b .before)) (e .instant) (omega arith) (omega (arith, e .notAfter)) inside still)
+
+    go : Explained h i r (a .before) → Explained h j q (b .before) → r ≡ q
+    go e f = whole e order x mx ex (omega arith) refl ∙ sym (whole f (omega arith) y my ey starts same)
+
+pub never-another : EveryList NeverAnother
+never-another m c p n ok ks s i r a b w = go (found-end m₀ ks (fresh (sized c p n)) start i r a b w)
+  where
+    m₀ : List ℕ
+    m₀ = left m (set-up c p n)
+
+    h : List Event
+    h = events m₀ ks
+
+    start : At h [] (fresh (sized c p n)) m₀ ks
+    start = at-set-up m c p n ok ks s
+
+    go : FoundEnd m₀ ks (fresh (sized c p n)) i r (a .before) → NotAnother h (leftAll m₀ ks) i r (a .before)
+    go f = record {
+      finder = f .finder;
+      isOpen = f .isOpen;
+      ofLane = f .ofLane;
+      sameCode = λ z q j e b d k o. sym (o .code) ∙ found-holds m₀ ks (fresh (sized c p n)) i r (a .before) f z q j e .code;
+      notGiven = λ z o w t e. other z (rw e at (reply-unused (f .invariant) (f .stands) o w t));
+    }
+      where
+        other : List·Memᴰ (f .finder) (ledger h .sections) → Unused (f .state) (ledger h) (r .b) → ⊥
+        other z u = unused-anchored (f .finder) (r .b) u (f .held .holds z .1)
