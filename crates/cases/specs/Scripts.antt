@@ -1,0 +1,71 @@
+-- Tables of scripts, and how they are run: by the definitions of `model`, through legality, reading and writing at every call.
+use Prim.Native.Nat.{ℕ}
+use mathlib.Core.Bool.{Bool}
+use mathlib.Core.List.{List, [], _∷_, map}
+use lib.ListN.{replicate}
+use Rattle.model.specs.Word.{later}
+use Rattle.model.specs.Lists.{update, isEmpty, any, all, tail, concat, every, concatMap, from, first, last, count, member, same, distinct, successor, successorIn, without, swapped, bit, mask}
+use Rattle.model.specs.State.{isRunning, isHeld}
+use Rattle.model.specs.Engine.{started, ended, released, counted, settled, ready, target, requested, advancedLane, advancedGlobal, differs, sampled, clocked, wentOff}
+use Rattle.model.specs.Table.{slotIn, added, replaced, deleted, reclaimed}
+use Rattle.model.specs.Rules.{Op, Answer, firstOf, causes, outcomeAnswer, outcome, continued, performed, pendingFrom, queuedIn, result, fresh}
+use Rattle.model.specs.Memory.{contents, flags, lookupCode, lookupPosition, snapshotCount, laneWords, slotWords, globalWords, words, walk, readChains, readLane, readProduct, state}
+use Rattle.model.specs.Legal.{sizesFit, contentsAgree, flagsInRange, masksInRange, linksInRange, fieldsInRange, standsOnce, lastsAgree, onTheirChains, noCodeTwice, snapshotsAtRest, lookupsAtRest, generationsAtRest, queueLinksAtRest, offLanes, lookupsInSections, snapshotsPending, cabinetBits, freeBlank, largestAgrees, laneGenerations, globalGeneration, legal}
+use Rattle.model.specs.Calls.{Call, on-state, refusalOf, replyOf, leftOf, reply, left, replies}
+
+-- the five words of an answer
+abbrev pub fiveWords : Answer → List ℕ
+fiveWords r = r .status ∷ r .a ∷ r .b ∷ r .c ∷ r .d ∷ []
+
+-- what the calls answer on the memory m. To unfold it is to unfold all that a call computes with
+unfoldable pub answered : List ℕ → List Call → List (List ℕ)
+unfolding later
+    update isEmpty any all tail concat every concatMap from first last count member same distinct successor successorIn without swapped bit mask
+    isRunning isHeld
+    started ended released counted settled ready target requested advancedLane advancedGlobal differs sampled clocked wentOff
+    slotIn added replaced deleted reclaimed
+    firstOf causes outcomeAnswer outcome continued performed pendingFrom queuedIn result fresh
+    contents flags lookupCode lookupPosition snapshotCount laneWords slotWords globalWords words walk readChains readLane readProduct state
+    sizesFit contentsAgree flagsInRange masksInRange linksInRange fieldsInRange standsOnce lastsAgree onTheirChains noCodeTwice
+    snapshotsAtRest lookupsAtRest generationsAtRest queueLinksAtRest offLanes lookupsInSections snapshotsPending cabinetBits freeBlank
+    largestAgrees laneGenerations globalGeneration legal
+    refusalOf replyOf leftOf reply left replies
+answered m ks = map fiveWords (replies m ks)
+
+-- n lent words, all 0
+abbrev pub lentWords : ℕ → List ℕ
+lentWords n = replicate n 0
+
+-- a call, and the five words that it must answer
+pub data Line : Type 0 where
+  line : (call : Call) (status a b c d : ℕ) → Line
+
+-- the same for a call that is no set-up
+abbrev pub op : Op → (status a b c d : ℕ) → Line
+op k = line (on-state k)
+
+abbrev pub callOf : Line → Call
+callOf (line k s a b c d) = k
+
+abbrev pub outputOf : Line → List ℕ
+outputOf (line k s a b c d) = s ∷ a ∷ b ∷ c ∷ d ∷ []
+
+-- a row of a table. `script`: the number of words lent, and the lines. `order`: whether generation a is later than b
+pub data Row : Type 0 where
+  script : (lent : ℕ) (lines : List Line) → Row
+  order : (a b : ℕ) (isLater : Bool) → Row
+
+-- a truth as a line of output
+abbrev pub verdict : Bool → List (List ℕ)
+verdict b = (bit b ∷ []) ∷ []
+
+-- what a row must give
+unfoldable pub expected : Row → List (List ℕ)
+expected (script n ls) = map outputOf ls
+expected (order a b t) = verdict t
+
+-- what it gives
+unfoldable pub run : Row → List (List ℕ)
+unfolding answered
+run (script n ls) = answered (lentWords n) (map callOf ls)
+run (order a b t) = verdict (later a b)

@@ -1,0 +1,86 @@
+-- The cases that document 01 marks with a star ("A listing, and edges", last paragraph), in its order.
+use Prim.Native.Nat.{ℕ, _<_}
+use mathlib.Core.Path.{_≡_, refl}
+use mathlib.Core.Bool.{Bool, true, false}
+use mathlib.Core.List.{List, [], _∷_, map}
+use native.Mathlib.Omega.{arith}
+use Rattle.model.specs.Word.{wordLimit, less, later}
+use Rattle.model.specs.Rules.{add, replace, delete, begin, end, start, step, pass, clock, hand-back, awaited}
+use Rattle.model.specs.Calls.{set-up}
+use Rattle.cases.specs.Scripts.{Line, line, op, Row, script, order, expected, run}
+
+-- the listing
+abbrev pub listing : List Line
+listing =
+    line (set-up 1 2 3) 0 145 0 0 0
+    ∷ op (add 0 17 25 1) 0 0 0 0 0
+    ∷ op (begin 1) 0 0 0 0 0
+    ∷ op (start 1 17) 0 0 0 0 0
+    ∷ op (delete 0 17) 0 0 0 0 0
+    ∷ op (step 1) 0 1 0 25 1
+    ∷ op (clock 0) 0 1 1 1 0
+    ∷ op (clock 1) 0 1 1 1 0
+    ∷ op (pass 0 0) 0 0 0 0 0
+    ∷ op (clock 0) 0 1 1 1 0
+    ∷ op (pass 1 0) 7 0 0 0 0
+    ∷ op (end 1) 0 0 0 0 0
+    ∷ op (pass 1 0) 0 0 0 0 0
+    ∷ op (clock 1) 0 2 1 0 0
+    ∷ op (hand-back 0) 16 0 0 0 0
+    ∷ op (clock 0) 0 2 1 0 0
+    ∷ op (hand-back 0) 0 0 0 0 0
+    ∷ op awaited 0 0 4294967295 3 0
+    ∷ []
+
+-- replace with code missing and no free slot
+abbrev pub missingFirst : List Line
+missingFirst =
+    line (set-up 1 1 1) 0 114 0 0 0
+    ∷ op (add 0 17 25 1) 0 0 0 0 0
+    ∷ op (replace 0 18 25 1) 13 0 0 0 0
+    ∷ []
+
+-- a lookup stands on a slot that is then deleted, and goes on to what follows it
+abbrev pub deletedUnderway : List Line
+deletedUnderway =
+    line (set-up 1 1 2) 0 120 0 0 0
+    ∷ op (add 0 192 25 1) 0 0 0 0 0
+    ∷ op (add 0 0 30 2) 0 1 0 0 0
+    ∷ op (begin 0) 0 0 0 0 0
+    ∷ op (start 0 192) 0 0 0 0 0
+    ∷ op (delete 0 0) 0 1 0 0 0
+    ∷ op (step 0) 0 0 0 0 0
+    ∷ op (step 0) 0 1 0 25 1
+    ∷ []
+
+abbrev pub stars : List Row
+stars =
+    script 16000 listing
+    ∷ script 7455 (line (set-up 8 8 1024) 2 0 0 0 0 ∷ [])
+    ∷ script 7456 (line (set-up 8 8 1024) 0 7456 0 0 0 ∷ [])
+    ∷ script 16000 (line (set-up 1 2 0) 1 0 0 0 0 ∷ line (set-up 1 2 1025) 1 0 0 0 0 ∷ [])
+    ∷ script 16000 (line (set-up 1 2 3) 0 145 0 0 0 ∷ op (add 0 9999999999999 25 1) 0 0 0 0 0 ∷ op (add 0 10000000000000 25 1) 11 0 0 0 0 ∷ [])
+    ∷ script 16000 (line (set-up 1 2 3) 0 145 0 0 0 ∷ op (begin 2) 4 0 0 0 0 ∷ [])
+    ∷ order 0 4294967295 true
+    ∷ order 4294967295 0 false
+    ∷ order 0 0 false
+    ∷ order 7 7 false
+    ∷ order 4294967295 4294967295 false
+    ∷ script 16000 missingFirst
+    ∷ script 16000 deletedUnderway
+    ∷ []
+
+-- each comes out
+pub stars-hold : map run stars ≡ map expected stars
+unfolding run expected
+stars-hold = refl
+
+-- ---- the law for all words
+
+less-self : (g : ℕ) → g < wordLimit → less g g ≡ 0
+less-self g h = omega arith
+
+-- no generation is later than itself
+pub later-self : (g : ℕ) → g < wordLimit → later g g ≡ false
+unfolding later
+later-self g h = rw (less-self g h)
