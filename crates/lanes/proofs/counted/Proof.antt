@@ -1,0 +1,18 @@
+-- `lanes::counted` meets its contract: the record with the counts that `count` gives. Assumes nothing.
+use Prim.Native.Nat.{ℕ}
+use mathlib.Core.Path.{ap}
+use mathlib.Core.List.{List}
+use borrow.Author.Needs.{needs}
+use Rattle.lanes.specs.Record.{withQuiescent, countedRecord}
+use Rattle.lanes.proofs.counted.Statement.{statement}
+use Rattle.lanes.proofs.counted.Tie as tie
+
+count-requires : tie.Need-count-requires
+count-requires c κs = search needs
+
+returns : tie.Need-returns
+unfolding countedRecord
+returns c = ap (λ (q : List ℕ). withQuiescent q (c .before .before .args .r)) (c .count .ensures)
+
+pub counted-spec : {M : Type 1} → statement M
+counted-spec = tie.close (tie.spec count-requires returns)
