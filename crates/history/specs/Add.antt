@@ -11,7 +11,7 @@ use Rattle.model.specs.Lists.{count, isEmpty, first, drops}
 use Rattle.model.specs.State.{Product, Table, State}
 use Rattle.model.specs.Table.{blank, product, productAt, chainNumber, chainOf, added}
 use Rattle.model.specs.Rules.{accepted, with, laneOf}
-use Rattle.model.specs.Ledger.{Ledger, ofCode, ofSlot, entryOf, entryMade, search}
+use Rattle.model.specs.Ledger.{Ledger, ofCode, entryOf, entryMade, search}
 use Rattle.laws.specs.Tests.{same-or}
 use Rattle.laws.specs.Lists.{getD-update-same, getD-update-other}
 use Rattle.laws.specs.Counts.{mark-self, count-first, count-cons}
@@ -97,7 +97,7 @@ module _ {past : ℕ → Ledger} {k : ℕ} {s : State} {g : Ledger} (v : Invaria
   respects-added = record {
     was = λ z m o. m;
     stay = λ z m x r. (
-      record { out = r .out; isOut = r .isOut; ofSlot = r .ofSlot; isIn = r .isIn; isOpen = r .isOpen },
+      r,
       product-other s (v .wellFormed) (product c d n) f x (omega (arith, retains-queued (v .outs) z x r)),
       refl,
     );

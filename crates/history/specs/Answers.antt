@@ -113,12 +113,12 @@ module _ {past : ℕ → Ledger} {k : ℕ} {s : State} {g : Ledger} (v : Invaria
     where
       now : firstOf (causes s (hand-back i)) ≡ 0 → result s (hand-back i) .status ≡ 0 → Ended g (handedBack s i)
       now z h =
-          let u = clear (causes s (hand-back i)) (omega arith) z in
-          let o = was-out v i (inside v i (u .0)) (u .1 .1 .0) in
+          let (lane, (on, (some, _))) = clear (causes s (hand-back i)) (omega arith) z in
+          let o = was-out v i (inside v i lane) some in
           record {
             out = o .out;
             isOut = o .isOut;
             ofSlot = o .ofSlot;
-            over = λ z m n. none-retains v i (inside v i (u .0)) (u .1 .1 .0) z
+            over = λ z m n. none-retains v i (inside v i lane) some z
                 (record { out = o .out; isOut = o .isOut; ofSlot = o .ofSlot; isIn = m; isOpen = n });
           }

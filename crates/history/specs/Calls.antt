@@ -50,27 +50,41 @@ module _ {past : ℕ → Ledger} {k : ℕ} {s : State} {g : Ledger} (v : Invaria
   keeps-accepted : (o : Op) → firstOf (causes s o) ≡ 0 → WellFormed (performed s o) → past (suc k) ≡ fed (suc k) o (result s o) g
       → Keeps past k s (performed s o) g (fed (suc k) o (result s o) g)
   unfolding causes performed result fed isRunning
-  keeps-accepted (add i c d m) z w now = let u = clear (causes s (add i c d m)) (omega arith) z in keeps-add v c d m (u .1 .1 .1 .1 .0) w
+  keeps-accepted (add i c d m) z w now =
+      let (lane, (on′, (range, (new, (free, _))))) = clear (causes s (add i c d m)) (omega arith) z in
+      keeps-add v c d m free w
   keeps-accepted (replace i c d m) z w now =
-      let u = clear (causes s (replace i c d m)) (omega arith) z in
-      keeps-replace v i c (inside i (u .0)) (not-false _ (u .1 .1 .1 .0)) d m (u .1 .1 .1 .1 .0) w now
+      let (lane, (on′, (range, (here, (free, _))))) = clear (causes s (replace i c d m)) (omega arith) z in
+      keeps-replace v i c (inside i lane) (not-false _ here) d m free w now
   keeps-accepted (delete i c) z w now =
-      let u = clear (causes s (delete i c)) (omega arith) z in keeps-delete v i c (inside i (u .0)) (not-false _ (u .1 .1 .1 .0)) w now
+      let (lane, (on′, (range, (here, _)))) = clear (causes s (delete i c)) (omega arith) z in
+      keeps-delete v i c (inside i lane) (not-false _ here) w now
   keeps-accepted (start i c) z w now =
-      let u = clear (causes s (start i c)) (omega arith) z in keeps-start v i c (inside i (u .0)) (not-false _ (u .1 .1 .0)) w now
-  keeps-accepted (pass i n) z w now = let u = clear (causes s (pass i n)) (omega arith) z in keeps-pass v i n w (u .1 .1 .0)
-  keeps-accepted (begin i) z w now = let u = clear (causes s (begin i)) (omega arith) z in keeps-begin v i (inside i (u .0)) w
+      let (lane, (on′, (open′, (idles, (range, _))))) = clear (causes s (start i c)) (omega arith) z in
+      keeps-start v i c (inside i lane) (not-false _ open′) w now
+  keeps-accepted (pass i n) z w now =
+      let (lane, (on′, (closed, (range, _)))) = clear (causes s (pass i n)) (omega arith) z in
+      keeps-pass v i n w closed
+  keeps-accepted (begin i) z w now =
+      let (lane, (on′, (closed, _))) = clear (causes s (begin i)) (omega arith) z in
+      keeps-begin v i (inside i lane) w
   keeps-accepted (end i) z w now =
-      let u = clear (causes s (end i)) (omega arith) z in
-      keeps-end v i (inside i (u .0)) w (λ c p e. clash (idles c p e) (u .1 .1 .1 .0))
+      let (lane, (on′, (open′, (idles, _)))) = clear (causes s (end i)) (omega arith) z in
+      keeps-end v i (inside i lane) w (λ c p e. clash (runs c p e) idles)
     where
-      idles : (c p : ℕ) → laneOf s i .lookup ≡ running c p → isRunning (laneOf s i .lookup) ≡ true
-      idles c p e = rw e
-  keeps-accepted (step i) z w now = let u = clear (causes s (step i)) (omega arith) z in keeps-step v i (inside i (u .0)) w
+      runs : (c p : ℕ) → laneOf s i .lookup ≡ running c p → isRunning (laneOf s i .lookup) ≡ true
+      runs c p e = rw e
+  keeps-accepted (step i) z w now =
+      let (lane, (on′, (runs, _))) = clear (causes s (step i)) (omega arith) z in
+      keeps-step v i (inside i lane) w
   keeps-accepted (clock i) z w now = keeps-clock v i w
   keeps-accepted (on i) z w now = keeps-on v i w
-  keeps-accepted (off i) z w now = let u = clear (causes s (off i)) (omega arith) z in keeps-off v i w (u .1 .1 .0)
-  keeps-accepted (hand-back i) z w now = let u = clear (causes s (hand-back i)) (omega arith) z in keeps-handBack v i (inside i (u .0)) (u .1 .1 .0) w
+  keeps-accepted (off i) z w now =
+      let (lane, (on′, (closed, (others, _)))) = clear (causes s (off i)) (omega arith) z in
+      keeps-off v i w closed
+  keeps-accepted (hand-back i) z w now =
+      let (lane, (on′, (some, _))) = clear (causes s (hand-back i)) (omega arith) z in
+      keeps-handBack v i (inside i lane) some w
   keeps-accepted awaited z w now = keeps-same v
 
   -- refused or not

@@ -4,7 +4,7 @@ use Prim.Native.Nat.{ℕ, _<_, _≤_}
 use mathlib.Core.Path.{_≡_, refl, sym, ap, subst, _∙_}
 use mathlib.Core.Logic.{inl, inr, _≢_}
 use mathlib.Core.Bool.{true, false}
-use mathlib.Core.List.{List, [], _∷_, List·Memᴰ}
+use mathlib.Core.List.{List, [], _∷_, List·Memᴰ, List·Memᴰ·not-nil}
 use native.Mathlib.Omega.{arith}
 use lib.ListN.{length, length-append}
 use Rattle.model.specs.Lists.{count, isEmpty, first}
@@ -13,7 +13,7 @@ use Rattle.model.specs.Table.{productAt, chainOf}
 use Rattle.model.specs.Rules.{Op, add, replace, Answer, accepted, causes, result, answer, fresh}
 use Rattle.model.specs.Memory.{state}
 use Rattle.model.specs.Calls.{Call, set-up, on-state, sized, reply, left, leftAll}
-use Rattle.model.specs.Ledger.{Section, Search, Out, Ledger, Event, ledger, isAnswer, search, events}
+use Rattle.model.specs.Ledger.{Section, Search, Out, Ledger, Event, ledgerFrom, ledger, isAnswer, search, events}
 use Rattle.model.specs.Ledger.{Came, Explained, Holds, stepEvent, RefusesSetUps}
 use Rattle.laws.specs.Tests.{same-or}
 use Rattle.laws.specs.Counts.{mark-self, count-first}
@@ -23,7 +23,9 @@ use Rattle.representation.specs.WellFormed.{chained}
 use Rattle.history.specs.Invariant.{searched, Invariant, Anchored, inChain, retained}
 use Rattle.history.specs.Chains.{SameOr, chained-at, searched-here, searched-on}
 use Rattle.history.specs.Slots.{standing-once}
-use Rattle.history.specs.Instants.{past, Unchanged, window-unchanged, searches-one}
+use Rattle.history.specs.Instants.{past, Unchanged, window-unchanged}
+use Rattle.history.specs.OneEach.{ledger-one}
+use Rattle.history.specs.OneSection.{OneSection, one-section}
 use Rattle.history.specs.Stands.{Stands, reply-on}
 use Rattle.history.specs.Lists.{At, End, to-end}
 use Rattle.history.specs.OneList.{FoundEnd, found-end, found-holds}
@@ -97,21 +99,34 @@ module _ {past : ℕ → Ledger} {k : ℕ} {s : State} {g : Ledger} (v : Invaria
   enters-unused : (o : Op) → Enters o → answer s o .status ≡ 0 → Unused s g (answer s o .a)
   unfolding causes result
   enters-unused o (adds i c d n) = call-cases (λ (t : State) (r : Answer). r .status ≡ 0 → Unused s g (r .a)) s (add i c d n)
-      (λ z h. free-unused (clear (causes s (add i c d n)) (omega arith) z .1 .1 .1 .1 .0)) (λ m h. absurd (omega arith))
+      (λ z h. let (lane, (on, (range, (new, (free, _))))) = clear (causes s (add i c d n)) (omega arith) z in free-unused free)
+      (λ m h. absurd (omega arith))
   enters-unused o (replaces i c d n) = call-cases (λ (t : State) (r : Answer). r .status ≡ 0 → Unused s g (r .a)) s (replace i c d n)
-      (λ z h. free-unused (clear (causes s (replace i c d n)) (omega arith) z .1 .1 .1 .1 .0)) (λ m h. absurd (omega arith))
+      (λ z h. let (lane, (on, (range, (here, (free, _))))) = clear (causes s (replace i c d n)) (omega arith) z in free-unused free)
+      (λ m h. absurd (omega arith))
 
 -- ---- a code looked up twice
 
--- Two answered lookups of one code, x on lane i and y on lane j, x not started later: if no call changes the code from the start of the first to the
--- answer of the second, the two answers are the same, slot and values. It holds in one section and across sections. The first lookup's start
--- counts, not its answer: a lookup may still find a slot that was replaced while it ran
+-- a lookup of the list that a step answered: what the ledger had noted of it, and its answer
+pub record AnsweredLookup (h : List Event) : Type 0 where
+  pub lane : ℕ
+  pub answer : Answer
+  pub came : Came h (stepEvent lane answer)
+  pub isAnswered : isAnswer answer ≡ true
+  pub noted : Search
+  pub isNoted : List·Memᴰ noted (ledger (came .before) .searches)
+  pub ofLane : noted .lane ≡ lane
+
+-- the instant before its answer
+abbrev pub instantBefore : {h : List Event} → AnsweredLookup h → ℕ
+instantBefore x = length (x .came .before)
+
+-- Lookups x and y of one code, x started and answered first, on one lane or two, in one section or not: if no call changes the code from the start of
+-- x to the answer of y, their answers are the same, slot and values. (From its start: a lookup may still find a slot that was replaced while it ran)
 abbrev pub SameTwice : List Event → List ℕ → Type 0
 SameTwice h m =
-    (i j : ℕ) (r q : Answer) (a : Came h (stepEvent i r)) (b : Came h (stepEvent j q)) → isAnswer r ≡ true → isAnswer q ≡ true
-    → (x y : Search) → List·Memᴰ x (ledger (a .before) .searches) → x .lane ≡ i → List·Memᴰ y (ledger (b .before) .searches) → y .lane ≡ j
-    → x .code ≡ y .code → x .started ≤ y .started → length (a .before) ≤ length (b .before) → Unchanged (x .code) h (x .started) (length (b .before))
-    → r ≡ q
+    (x y : AnsweredLookup h) → x .noted .code ≡ y .noted .code → x .noted .started ≤ y .noted .started → instantBefore x ≤ instantBefore y
+    → Unchanged (x .noted .code) h (x .noted .started) (instantBefore y) → x .answer ≡ y .answer
 
 -- ---- what was found is no other product's
 
@@ -154,27 +169,26 @@ new-slots m c p n ok ks r = go (to-end h ks [] (fresh (sized c p n)) m₀ (at-se
     go e o w z = rw (e .stands .read) (reply-unused (e .invariant) (e .stands) o w z)
 
 pub same-twice : EveryList SameTwice
-same-twice m c p n ok ks s i j r q a b u v x y mx ex my ey same starts order still =
-    go (demand3 m c p n ok ks s .explained i r a u) (demand3 m c p n ok ks s .explained j q b v)
+same-twice m c p n ok ks s x y same starts order still = whole x order (omega arith) refl ∙ sym (whole y (omega arith) starts same)
   where
     h : List Event
     h = events (left m (set-up c p n)) ks
 
-    inside : length (b .before) ≤ length h
-    inside = omega (arith, simp length-append at (ap length (b .all)))
+    inside : instantBefore y ≤ length h
+    inside = omega (arith, simp length-append at (ap length (y .came .all)))
 
-    -- an answered lookup's whole search, as of the first one's start
-    whole : {l : ℕ} {o : Answer} {before : List Event} → Explained h l o before → length before ≤ length (b .before)
-        → (z : Search) → List·Memᴰ z (ledger before .searches) → z .lane ≡ l → x .started ≤ z .started → x .code ≡ z .code
-        → o ≡ search (past h (x .started)) (x .code)
-    whole {before} e short z mz ez later code =
-        let is = searches-one before (e .noted) z (e .isNoted) mz (e .ofLane ∙ sym ez) in
-        let from : z .started ≤ e .instant = rw is at (e .notBefore) in
-        e .whole ∙ (ap (search (past h (e .instant))) (ap (λ (z : Search). z .code) is ∙ sym code)
-        ∙ window-unchanged (x .code) h (x .started) (length (b .before)) (e .instant) (omega arith) (omega (arith, e .notAfter)) inside still)
-
-    go : Explained h i r (a .before) → Explained h j q (b .before) → r ≡ q
-    go e f = whole e order x mx ex (omega arith) refl ∙ sym (whole f (omega arith) y my ey starts same)
+    -- the answer of each is the whole search as of the start of x
+    whole : (z : AnsweredLookup h) → instantBefore z ≤ instantBefore y → x .noted .started ≤ z .noted .started → x .noted .code ≡ z .noted .code
+        → z .answer ≡ search (past h (x .noted .started)) (x .noted .code)
+    whole z short later code = go (demand3 m c p n ok ks s .explained (z .lane) (z .answer) (z .came) (z .isAnswered))
+      where
+        go : Explained h (z .lane) (z .answer) (z .came .before) → z .answer ≡ search (past h (x .noted .started)) (x .noted .code)
+        go e =
+            let is = ledger-one (z .came .before) .searches (e .noted) (z .noted) (e .isNoted) (z .isNoted) (e .ofLane ∙ sym (z .ofLane)) in
+            let from : z .noted .started ≤ e .instant = rw is at (e .notBefore) in
+            e .whole ∙ (ap (search (past h (e .instant))) (ap (λ (q : Search). q .code) is ∙ sym code)
+            ∙ window-unchanged (x .noted .code) h (x .noted .started) (instantBefore y) (e .instant)
+            (omega arith) (omega (arith, e .notAfter)) inside still)
 
 pub never-another : EveryList NeverAnother
 never-another m c p n ok ks s i r a b w = go (found-end m₀ ks (fresh (sized c p n)) start i r a b w)
@@ -199,3 +213,13 @@ never-another m c p n ok ks s i r a b w = go (found-end m₀ ks (fresh (sized c 
       where
         other : List·Memᴰ (f .finder) (ledger h .sections) → Unused (f .state) (ledger h) (r .b) → ⊥
         other z u = unused-anchored (f .finder) (r .b) u (f .held .holds z .1)
+
+-- ---- a lane has at most one open section
+
+pub sections-one : EveryList (λ (h : List Event) (m : List ℕ). OneSection (ledger h))
+unfolding ledgerFrom
+sections-one m c p n ok ks r =
+    one-section (events m₀ ks) ks [] (fresh (sized c p n)) m₀ (at-set-up m c p n ok ks r) (λ a b l k e. absurd (List·Memᴰ·not-nil l))
+  where
+    m₀ : List ℕ
+    m₀ = left m (set-up c p n)

@@ -1,20 +1,18 @@
--- The ledger from one instant of a list to the next: what stays of it, and the lookups that it has noted.
+-- The ledger from one instant of a list to the next, and instants between which a code does not change.
 use Prim.Native.Nat.{ℕ, zero, suc, _+_, _-_, _<_, _≤_}
 use mathlib.Core.Path.{_≡_, refl, sym, ap, _∙_}
-use mathlib.Core.Logic.{_⊎_, inl, inr, _≢_}
+use mathlib.Core.Logic.{_≢_}
 use mathlib.Core.Bool.{Bool, false}
-use mathlib.Core.List.{List, [], _∷_, _++_, List·Memᴰ, List·Memᴰ·cases-cons, List·Memᴰ·not-nil}
+use mathlib.Core.List.{List, [], _∷_, _++_}
 use native.Mathlib.Omega.{arith}
 use lib.ListN.{length, getD, take, drop, take-append-drop, length-append}
 use lib.Seq.{take-suc, drop-cons, length-take-le, take-append-seam}
 use lib.Dec.{eqb}
 use borrow.Author.Tests.{eq-eqb, eqb-true}
-use Rattle.model.specs.Lists.{drops}
 use Rattle.model.specs.Rules.{Op, add, replace, delete, begin, end, start, step, pass, clock, on, off, hand-back, awaited, Answer, zeros}
 use Rattle.model.specs.Calls.{Call, set-up, on-state}
-use Rattle.model.specs.Ledger.{Search, Ledger, searchOf, entryOf, isAnswer, fed, fedCall, Event, ledgerFrom, ledger, search, Came}
+use Rattle.model.specs.Ledger.{Ledger, entryOf, isAnswer, fed, fedCall, Event, ledgerFrom, ledger, search, Came}
 use Rattle.laws.specs.Tests.{clash, cond-cases}
-use Rattle.laws.specs.Lists.{of-drops}
 use Rattle.history.specs.Entries.{search-drops-other, search-made-other}
 
 -- ---- the ledger of one event more
@@ -124,56 +122,3 @@ pub window-unchanged : (c : ℕ) (h : List Event) (t u i : ℕ) → t ≤ i → 
 window-unchanged c h t u i a b l w =
     let z : i ≡ t + (i - t) = omega arith in
     ap (λ (n : ℕ). search (past h n) c) z ∙ past-unchanged c h t (i - t) (omega arith) (λ e m x y. w e m x (omega arith))
-
--- ---- the lookups noted: one a lane
-
--- no two lookups of one lane
-abbrev One : List Search → Type 0
-One qs = (q p : Search) → List·Memᴰ q qs → List·Memᴰ p qs → q .lane ≡ p .lane → q ≡ p
-
--- a lookup noted anew takes the place of its lane's earlier one
-one-noted : (new : Search) (qs : List Search) → One qs → One (new ∷ drops (searchOf (new .lane)) qs)
-one-noted new qs h q p m n e = go (List·Memᴰ·cases-cons m) (List·Memᴰ·cases-cons n)
-  where
-    rest : List Search
-    rest = drops (searchOf (new .lane)) qs
-
-    older : (x : Search) → List·Memᴰ x rest → x .lane ≢ new .lane
-    older x l d = clash (eq-eqb (x .lane) (new .lane) d) (of-drops (searchOf (new .lane)) x qs l .1)
-
-    go : (q ≡ new) ⊎ List·Memᴰ q rest → (p ≡ new) ⊎ List·Memᴰ p rest → q ≡ p
-    go (inl a) (inl b) = a ∙ sym b
-    go (inl a) (inr b) = absurd (older p b (sym e ∙ ap (λ (x : Search). x .lane) a))
-    go (inr a) (inl b) = absurd (older q a (e ∙ ap (λ (x : Search). x .lane) b))
-    go (inr a) (inr b) = h q p (of-drops (searchOf (new .lane)) q qs a .0) (of-drops (searchOf (new .lane)) p qs b .0) e
-
-one-fed : (k : ℕ) (o : Op) (r : Answer) (g : Ledger) → One (g .searches) → One (fed k o r g .searches)
-unfolding fed
-one-fed k (start i c) r g h = one-noted (record { lane = i; code = c; started = k }) (g .searches) h
-one-fed k (step i) r g h = cond-cases (λ (l : Ledger). One (l .searches)) (isAnswer r)
-    (λ t q p m n e. h q p (of-drops (searchOf i) q (g .searches) m .0) (of-drops (searchOf i) p (g .searches) n .0) e) (λ t. h)
-one-fed k (add i c d m) r g h = h
-one-fed k (replace i c d m) r g h = h
-one-fed k (delete i c) r g h = h
-one-fed k (pass i n) r g h = h
-one-fed k (begin i) r g h = h
-one-fed k (end i) r g h = h
-one-fed k (clock i) r g h = h
-one-fed k (on i) r g h = h
-one-fed k (off i) r g h = h
-one-fed k (hand-back i) r g h = h
-one-fed k awaited r g h = h
-
-one-fedCall : (k : ℕ) (x : Call) (r : Answer) (g : Ledger) → One (g .searches) → One (fedCall k x r g .searches)
-unfolding fedCall
-one-fedCall k (set-up x y z) r g h = h
-one-fedCall k (on-state o) r g h = cond-cases (λ (l : Ledger). One (l .searches)) (eqb (r .status) 0) (λ t. one-fed k o r g h) (λ t. h)
-
-one-from : (es : List Event) (k : ℕ) (g : Ledger) → One (g .searches) → One (ledgerFrom k g es .searches)
-unfolding ledgerFrom
-one-from [] k g h = h
-one-from (e ∷ es) k g h = one-from es (suc k) (fedCall (suc k) (e .call) (e .answer) g) (one-fedCall (suc k) (e .call) (e .answer) g h)
-
-pub searches-one : (es : List Event) (q p : Search) → List·Memᴰ q (ledger es .searches) → List·Memᴰ p (ledger es .searches)
-    → q .lane ≡ p .lane → q ≡ p
-searches-one es = one-from es 0 _ (λ q p m n e. absurd (List·Memᴰ·not-nil m))

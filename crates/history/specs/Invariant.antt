@@ -1,5 +1,5 @@
--- The invariant that ties a state to the ledger, each clause with its reason. `Grace` is the engine half, `Trail` the chain half; they meet only in
--- which lanes a retired slot waits for. Nothing is proved here.
+-- The invariant that ties a state to the ledger: each clause with its sentence and what it is needed for. `Grace` is the engine half, `Trail` the
+-- chain half; they meet only in `Waits`, which lanes a retired slot waits for. Nothing is proved here.
 use Prim.Native.Nat.{ℕ, _<_, _≤_}
 use mathlib.Core.Path.{_≡_}
 use mathlib.Core.Logic.{_≢_}
@@ -19,8 +19,8 @@ use Rattle.representation.specs.WellFormed.{WellFormed, chained}
 
 -- ---- who waits for whom
 
--- section z, open still, was open when slot x, which is out, was removed. The identity of a section is never looked at: only its lane, and whether it
--- is open
+-- Section z, open still, was open when slot x, which is out, was removed. Of a section the proof knows its lane, whether it is open, and that a new
+-- one is none of the earlier ones; so a lane may have several
 pub record Retains (outs : List Out) (sections : List Section) (z : Section) (x : ℕ) : Type 0 where
   pub out : Out
   pub isOut : List·Memᴰ out outs
@@ -28,7 +28,7 @@ pub record Retains (outs : List Out) (sections : List Section) (z : Section) (x 
   pub isIn : List·Memᴰ z (out .sections)
   pub isOpen : List·Memᴰ z sections
 
--- slot x waits for lane i: an open section of the lane retains it. All that the two halves of the proof share
+-- slot x waits for lane i: an open section of the lane retains it
 pub record Waits (outs : List Out) (sections : List Section) (x i : ℕ) : Type 0 where
   pub section : Section
   pub ofLane : section .lane ≡ i
@@ -48,17 +48,18 @@ pub record Awaited (l : Lane) : Type 0 where
   pub pending : l .pending ≡ true
   pub unmoved : quiesced l ≡ false
 
--- The batch of generation g cannot be done yet. c and m are the current generation and the largest requested, A says that the lane is awaited.
--- `this`: the batch ends with the running period, which still waits for the lane. `following`: it ends with the period after, which is asked for
--- and will wait for every lane that reads then
+-- The batch of generation g waits for a lane. c and m are the current generation and the largest requested; A: the lane is awaited
 pub data Pends (c m g : ℕ) (A : Type 0) : Type 0 where
+  -- it ends with the running period, which still waits for the lane
   this : g ≡ c → A → Pends c m g A
+  -- it ends with the period after, which is asked for, and which will wait for every lane that reads when it begins
   following : g ≡ up c → m ≡ up c → Pends c m g A
 
--- The queues of one owner are safe. Nothing is said of next queues, nor of slots that wait for no lane.
--- `done`: a done slot waits for nobody; this is what hand-back needs. `current`: a slot of the batch that waits for a lane cannot be done yet
+-- the queues of one owner are safe; nothing is said of next queues, nor of slots that wait for nobody
 pub record Safe (c m : ℕ) (W : ℕ → ℕ → Type 0) (A : ℕ → Type 0) (q : Queues) : Type 0 where
+  -- a done slot waits for no lane: needed where it is handed back
   pub done : (x i : ℕ) → 0 < count x (q .done) → W x i → ⊥
+  -- a slot of the current batch that waits for a lane is not over with this generation: needed where the batch goes to done
   pub current : (x i : ℕ) → 0 < count x (q .current) → W x i → Pends c m (q .generation) (A i)
 
 -- lane i of e is awaited
@@ -88,14 +89,17 @@ Unsampled l = l .pending ≡ false → l .snapshot ≡ unheld
 abbrev pub Reads : Lane → Type 0
 Reads l = (l .online ≡ true) × (l .reading ≡ true)
 
--- `word`: generations are compared wrapping, which tells neighbours apart only below the limit. `asked`: at a period's end the next begins at once,
--- if a batch waits for it. `snapshots`: a period begins with no snapshot, so no quiescent state from before it counts. `reads`: a lane that is
--- waited for is on and reads, so a period that begins waits for it, and it cannot pass. `global`, `lanes`: the queues are safe
 pub record Grace (W : ℕ → ℕ → Type 0) (e : Engine) : Type 0 where
+  -- the current generation is a word: below the limit the wrapping order tells it from its neighbours
   pub word : e .current < wordLimit
+  -- the largest requested is the current, the next, or behind with no period running: so at the end of a period the next one begins if a batch
+  -- waits for it, and a batch that begins to wait asks for its own
   pub asked : Asked e
+  -- so a period begins with no snapshot, and no quiescent state from before it counts for it
   pub snapshots : (i : ℕ) → Unsampled (laneAt e i)
+  -- a lane that is waited for is on and reads: a period that begins waits for it, and it does not pass nor go off
   pub reads : (x i : ℕ) → W x i → Reads (laneAt e i)
+  -- the global queues are safe, and those of each lane
   pub global : SafeIn W e (e .global)
   pub lanes : (i : ℕ) → SafeIn W e (laneAt e i .queues)
 
@@ -120,29 +124,33 @@ pub record Window (past : ℕ → Ledger) (t k c : ℕ) (r : Answer) : Type 0 wh
   pub notAfter : instant ≤ k
   pub whole : search (past instant) c ≡ r
 
--- The trail of a lookup of code c, from its position on: whatever it meets, its answer will be one of the window S. W x: its section retains slot x.
--- `live`: the position is on the chain; the rest of the chain gives an answer of S.
--- `met`: it is on a retired slot that holds c, which was the answer when the slot was removed.
--- `beyond`: it is on a retired slot of another code, whose kept chain link leads on
+-- The trail of a lookup of code c from its position p on: whatever it meets, its answer will be one of the window S. W x: its section retains slot x
 pub data Trail (t : Table) (W : ℕ → Type 0) (S : Answer → Type 0) (c : ℕ) : ℕ → Type 0 where
+  -- p is on the chain, or at its end: what the rest of the chain gives is an answer of the window
   live : {p : ℕ} (xs ys : List ℕ) → chainOf t c ≡ xs ++ ys → p ≡ first ys → S (searched (t .products) c ys) → Trail t W S c p
+  -- p is a retired slot that holds c, and was the answer before it was removed
   met : {p : ℕ} → W p → productAt (t .products) p .code ≡ c → S (something (t .products) p) → Trail t W S c p
+  -- p is a retired slot of another code, and the link that it kept leads on
   beyond : {p : ℕ} → W p → productAt (t .products) p .code ≢ c → Trail t W S c (getD (t .links) p none) → Trail t W S c p
 
--- Lane i looks for code c and stands at p. `section`: the section that it runs in, which retains every slot removed since. `noted`: the ledger's
--- lookup of the lane, whose start opens the window. `only`: the ledger has no other code for the lane
+-- lane i looks for code c and stands at p
 pub record Looks (past : ℕ → Ledger) (k : ℕ) (t : Table) (g : Ledger) (i c p : ℕ) : Type 0 where
+  -- the open section that it runs in: every slot removed since is retained by it
   pub section : Section
   pub isOpen : List·Memᴰ section (g .sections)
   pub ofLane : section .lane ≡ i
+  -- the ledger has noted it: needed to name it where it is answered, and its start begins the window
   pub noted : Search
   pub isNoted : List·Memᴰ noted (g .searches)
   pub notedLane : noted .lane ≡ i
   pub notedCode : noted .code ≡ c
+  -- and has noted no other code of the lane: what is found is of the code that was looked for
   pub only : (q : Search) → List·Memᴰ q (g .searches) → q .lane ≡ i → q .code ≡ c
   pub since : noted .started ≤ k
+  -- its answer will be a whole search's, at an instant since its start
   pub trail : Trail t (RetainedBy g section) (Window past (noted .started) k c) c p
 
+-- a lookup that runs is on its trail
 abbrev pub Looking : (past : ℕ → Ledger) (k : ℕ) (t : Table) (g : Ledger) (i : ℕ) → Lookup → Type 0
 Looking past k t g i idle = Unit {0}
 Looking past k t g i (running c p) = Looks past k t g i c p
@@ -161,28 +169,35 @@ pub record OpenOn (sections : List Section) (i : ℕ) : Type 0 where
   pub isOpen : List·Memᴰ section sections
   pub ofLane : section .lane ≡ i
 
--- Sections and lanes. `reading`: an open section's lane reads, so the engine waits for it. `section`: a reading lane has an open section, which a
--- removal notes. `opened`: sections are of the past, so that one opened now is none of those that a slot waits for
 pub record Sections (k : ℕ) (e : Engine) (sections : List Section) : Type 0 where
+  -- an open section's lane reads: so the engine waits for it
   pub reading : (z : Section) → List·Memᴰ z sections → laneAt e (z .lane) .reading ≡ true
+  -- a lane that reads has an open section: so a removal notes it
   pub section : (i : ℕ) → laneAt e i .reading ≡ true → OpenOn sections i
+  -- sections are of the past: so no slot waits for one that is opened now
   pub opened : (z : Section) → List·Memᴰ z sections → z .opened ≤ k
 
--- Slots out. `out`: a queued slot is out, so that hand-back answers one that is. `isQueued`: a slot out is queued, hence neither chained nor free.
--- `before`: its sections were opened before
 pub record Outs (k : ℕ) (e : Engine) (outs : List Out) : Type 0 where
+  -- a queued slot is out: so the slot handed back is one that is
   pub out : (x : ℕ) → 0 < queued x e → OutOf outs x
+  -- a slot out is queued, hence neither chained nor free: so what a section retains is not given anew
   pub isQueued : (o : Out) → List·Memᴰ o outs → 0 < queued (o .slot) e
+  -- the sections that a slot is out with are of the past: so none of them is one that is opened now
   pub before : (o : Out) (z : Section) → List·Memᴰ o outs → List·Memᴰ z (o .sections) → z .opened ≤ k
 
--- The invariant at instant k. `wellFormed`: the state is one that a legal memory stands for. `entries`: the ledger's entries are the chained slots,
--- so that a whole search of the one is a whole search of the other. `grace`: retired slots wait. `looking`: running lookups are on their trails
+-- the invariant at instant k
 pub record Invariant (past : ℕ → Ledger) (k : ℕ) (s : State) (g : Ledger) : Type 0 where
+  -- the state is one that a legal memory stands for: each slot once, no code twice on the chains, off lanes do not read
   pub wellFormed : WellFormed s
+  -- the entries are the chained slots: a whole search of the ledger gives what a search of the whole chain gives
   pub entries : (c : ℕ) → search g c ≡ searched (s .table .products) c (chainOf (s .table) c)
+  -- open sections are the reading lanes'
   pub sections : Sections k (s .engine) (g .sections)
+  -- slots out are the queued ones
   pub outs : Outs k (s .engine) (g .outs)
+  -- no slot that waits for a lane is done
   pub grace : Grace (WaitsFor g) (s .engine)
+  -- each running lookup is on its trail
   pub looking : (i : ℕ) → Looking past k (s .table) g i (laneOf s i .lookup)
 
 -- ---- what was found
@@ -192,7 +207,7 @@ pub data Anchored (t : Table) (g : Ledger) (z : Section) (x : ℕ) : Type 0 wher
   inChain : 0 < chained x t → Anchored t g z x
   retained : RetainedBy g z x → Anchored t g z x
 
--- while section z is open, slot x holds p. `opened`: z is of the past; `holds`: as long as it is open
+-- while section z, which is of the past, is open, slot x holds p
 pub record Held (k : ℕ) (t : Table) (g : Ledger) (z : Section) (x : ℕ) (p : Product) : Type 0 where
   pub opened : z .opened ≤ k
   pub holds : List·Memᴰ z (g .sections) → (productAt (t .products) x ≡ p) × Anchored t g z x

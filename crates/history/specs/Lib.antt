@@ -1,5 +1,5 @@
--- Demand 3: Invariant has the argument's one invariant; Grace, Period, Clock are its engine half, Chains, Trail its chain half; Slots to Keeps say
--- that each call keeps it; Lists and Demand3 carry it over lists of calls on states and on memories.
+-- Demand 3 (docs/PROOF.md). Invariant: what ties a state to the ledger. Grace, Clock: the engine half. Chains, Trail: the chain half. Slots to Calls:
+-- every call keeps the invariant. Answers: what it says of an answer. Instants to OneList: over a list of calls. Demand3, Corollaries: the theorems.
 pub mod Invariant
 pub mod Grace
 pub mod Clock
@@ -18,8 +18,10 @@ pub mod Reclaim
 pub mod Calls
 pub mod Answers
 pub mod Instants
+pub mod OneEach
 pub mod Stands
 pub mod Lists
+pub mod OneSection
 pub mod OneList
 pub mod Demand3
 pub mod Corollaries

@@ -24,7 +24,7 @@ use Rattle.history.specs.Invariant.{Retains, Waits, SafeIn, OutOf, Outs,
 use Rattle.history.specs.Grace.{grace-lane, grace-global, grace-wider}
 use Rattle.history.specs.Chains.{SameOr, searched-agree}
 use Rattle.history.specs.Trail.{Kept, agree-chain}
-use Rattle.history.specs.Slots.{standing-once}
+use Rattle.history.specs.Slots.{standing-once, retains-map, waits-map}
 use Rattle.history.specs.Respects.{Respects, looks-kept, trail-kept, looking-kept, sections-same, Keeps}
 
 -- ---- the first of a done queue is taken
@@ -103,26 +103,10 @@ module _ {past : ℕ → Ledger} {k : ℕ} {s : State} {g : Ledger} (v : Invaria
       twice q = omega (arith, was-queued, standing-once (v .wellFormed) x₀)
 
   still : (z : Section) (x : ℕ) → x ≢ x₀ → RetainedBy g z x → Retains (drops (ofSlot x₀) (g .outs)) (g .sections) z x
-  still z x n r = record {
-    out = r .out;
-    isOut = to-drops (ofSlot x₀) (r .out) (g .outs) (r .isOut) (ne-eqb (r .out .slot) x₀ (λ e. n (sym (r .ofSlot) ∙ e)));
-    ofSlot = r .ofSlot;
-    isIn = r .isIn;
-    isOpen = r .isOpen;
-  }
+  still z x n = retains-map z x (λ o e m. to-drops (ofSlot x₀) o (g .outs) m (ne-eqb (o .slot) x₀ (λ q. n (sym e ∙ q)))) (λ m. m)
 
   fewer : (x j : ℕ) → Waits (drops (ofSlot x₀) (g .outs)) (g .sections) x j → WaitsFor g x j
-  fewer x j w = let r = w .retains in record {
-    section = w .section;
-    ofLane = w .ofLane;
-    retains = record {
-      out = r .out;
-      isOut = of-drops (ofSlot x₀) (r .out) (g .outs) (r .isOut) .0;
-      ofSlot = r .ofSlot;
-      isIn = r .isIn;
-      isOpen = r .isOpen;
-    };
-  }
+  fewer x j = waits-map x j (λ z. retains-map z x (λ o e m. of-drops (ofSlot x₀) o (g .outs) m .0) (λ m. m))
 
   kept-reclaimed : Kept (s .table) u
   unfolding reclaimed

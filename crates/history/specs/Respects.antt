@@ -1,16 +1,17 @@
 -- What a call leaves to readers, and the laws that follow for every call alike: found slots stay held, and running lookups stay on their trails.
 use Prim.Native.Nat.{ℕ, suc, _<_, _≤_}
 use mathlib.Core.Path.{_≡_, refl, sym, _∙_}
-use mathlib.Core.List.{List, _++_, List·Memᴰ}
+use mathlib.Core.List.{List, List·Memᴰ}
 use native.Mathlib.Omega.{arith}
 use Rattle.model.specs.State.{Lookup, idle, running, Engine, Product, Table, State}
 use Rattle.model.specs.Engine.{laneAt}
-use Rattle.model.specs.Table.{productAt, chainOf}
+use Rattle.model.specs.Table.{productAt}
 use Rattle.model.specs.Rules.{Answer}
 use Rattle.model.specs.Ledger.{Section, Search, Out, Ledger}
 use Rattle.representation.specs.Frame.{queued}
 use Rattle.representation.specs.WellFormed.{chained}
 use Rattle.history.specs.Invariant.{Window, Trail, Looks, Looking, Sections, Outs, Invariant, Anchored, inChain, retained, Held, RetainedBy}
+use Rattle.history.specs.Slots.{retains-map}
 use Rattle.history.specs.Trail.{Stay, Kept, Suffixes, trail-suffix}
 
 -- A call takes table t and ledger g of instant k to u and g′.
@@ -73,7 +74,7 @@ pub respects-still : (k : ℕ) (t : Table) (g g′ : Ledger) → g′ .outs ≡ 
     → ((z : Section) → List·Memᴰ z (g′ .sections) → z .opened ≤ k → List·Memᴰ z (g .sections)) → Respects k t t g g′
 respects-still k t g g′ e f = record {
   was = f;
-  stay = λ z m x w. (record { out = w .out; isOut = rw e (w .isOut); ofSlot = w .ofSlot; isIn = w .isIn; isOpen = m }, refl, refl);
+  stay = λ z m x w. (retains-map z x (λ o q l. rw e l) (λ l. m) w, refl, refl);
   kept = λ x c. refl;
   anchored = λ z x m m′ c. inChain c;
 }

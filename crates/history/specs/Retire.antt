@@ -25,7 +25,7 @@ use Rattle.history.specs.Invariant.{inChain, retained}
 use Rattle.history.specs.Grace.{grace-lane, Newly, grace-wider}
 use Rattle.history.specs.Chains.{SameOr, chained-at}
 use Rattle.history.specs.Trail.{Leaves, trail-leaves}
-use Rattle.history.specs.Slots.{standing-once, reading-online, retains-queued}
+use Rattle.history.specs.Slots.{standing-once, reading-online, retains-queued, retains-map}
 use Rattle.history.specs.Respects.{Respects, window-later, looks-kept, looking-kept, sections-same, Keeps}
 
 module _ {past : ℕ → Ledger} {k : ℕ} {s : State} {g : Ledger} (v : Invariant past k s g) where
@@ -69,13 +69,7 @@ module _ {past : ℕ → Ledger} {k : ℕ} {s : State} {g : Ledger} (v : Invaria
     earlier u x e n m = List·Memᴰ·tail (to-drops (ofSlot o) u (g .outs) m (ne-eqb (u .slot) o (λ q. n (sym e ∙ q))))
 
     still : (z : Section) (x : ℕ) → RetainedBy g z x → Retains (after .outs) (g .sections) z x
-    still z x r = record {
-      out = r .out;
-      isOut = earlier (r .out) x (r .ofSlot) (other x (retains-queued (v .outs) z x r)) (r .isOut);
-      ofSlot = r .ofSlot;
-      isIn = r .isIn;
-      isOpen = r .isOpen;
-    }
+    still z x r = let n = other x (retains-queued (v .outs) z x r) in retains-map z x (λ o e m. earlier o x e n m) (λ m. m) r
 
     respects-retired : Respects k (s .table) u g after
     respects-retired = record {

@@ -19,7 +19,7 @@ use Rattle.representation.specs.WellFormed.{WellFormed}
 use Rattle.history.specs.Invariant.{Waits, OpenOn, Sections, Grace, Invariant, WaitsFor}
 use Rattle.history.specs.Grace.{grace-same, grace-wider}
 use Rattle.history.specs.Chains.{SameOr}
-use Rattle.history.specs.Slots.{queued-lane}
+use Rattle.history.specs.Slots.{queued-lane, retains-map, waits-map}
 use Rattle.history.specs.Respects.{Respects, respects-still, looks-kept, trail-kept, looking-kept, outs-same, Keeps}
 
 module _ {past : ℕ → Ledger} {k : ℕ} {s : State} {g : Ledger} (v : Invariant past k s g) where
@@ -69,17 +69,7 @@ module _ {past : ℕ → Ledger} {k : ℕ} {s : State} {g : Ledger} (v : Invaria
     older z h m = ⊎-elim (λ e. absurd (omega (arith, ap (λ (z : Section). z .opened) e))) (λ n. n) (List·Memᴰ·cases-cons m)
 
     fewer : (x j : ℕ) → Waits (g .outs) (new ∷ g .sections) x j → WaitsFor g x j
-    fewer x j q = let r = q .retains in record {
-      section = q .section;
-      ofLane = q .ofLane;
-      retains = record {
-        out = r .out;
-        isOut = r .isOut;
-        ofSlot = r .ofSlot;
-        isIn = r .isIn;
-        isOpen = older (q .section) (v .outs .before (r .out) (q .section) (r .isOut) (r .isIn)) (r .isOpen);
-      };
-    }
+    fewer x j = waits-map x j (λ z r. retains-map z x (λ o e m. m) (older z (v .outs .before (r .out) z (r .isOut) (r .isIn))) r)
 
     sections-begin : Sections (suc k) (atLane i (setReading true) (s .engine)) (new ∷ g .sections)
     sections-begin = record {
@@ -126,11 +116,7 @@ module _ {past : ℕ → Ledger} {k : ℕ} {s : State} {g : Ledger} (v : Invaria
     others z m e = clash (eq-eqb (z .lane) i e) (left z m .1)
 
     fewer-end : (x j : ℕ) → Waits (g .outs) rest x j → WaitsFor g x j
-    fewer-end x j q = let r = q .retains in record {
-      section = q .section;
-      ofLane = q .ofLane;
-      retains = record { out = r .out; isOut = r .isOut; ofSlot = r .ofSlot; isIn = r .isIn; isOpen = left (q .section) (r .isOpen) .0 };
-    }
+    fewer-end x j = waits-map x j (λ z. retains-map z x (λ o e m. m) (λ m. left z m .0))
 
     sections-end : Sections (suc k) (atLane i (setReading false) (s .engine)) rest
     sections-end = record {

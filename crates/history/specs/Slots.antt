@@ -3,7 +3,7 @@ use Prim.Native.Nat.{ℕ, zero, suc, _<_, _≤_}
 use mathlib.Core.Path.{_≡_, refl}
 use mathlib.Core.Logic.{_≢_}
 use mathlib.Core.Bool.{Bool, true, false}
-use mathlib.Core.List.{List, [], _∷_}
+use mathlib.Core.List.{List, [], _∷_, List·Memᴰ}
 use native.Mathlib.Omega.{arith}
 use lib.Dec.{leb, leb→le}
 use Rattle.model.specs.Word.{none}
@@ -17,7 +17,7 @@ use Rattle.laws.specs.Sums.{sum-update-same}
 use Rattle.model.specs.Rules.{laneOf}
 use Rattle.representation.specs.Frame.{inLane, queued}
 use Rattle.representation.specs.WellFormed.{WellFormed, standing}
-use Rattle.history.specs.Invariant.{Retains, Outs}
+use Rattle.history.specs.Invariant.{Retains, Waits, Outs}
 
 module _ {s : State} (w : WellFormed s) where
   -- each slot stands in at most one chain or queue
@@ -65,3 +65,16 @@ retains-queued h z x r = rw (r .ofSlot) at (h .isQueued (r .out) (r .isOut))
 pub queued-lane : (i : ℕ) (f : Lane → Lane) (e : Engine) → f (laneAt e i) .queues ≡ laneAt e i .queues
     → (x : ℕ) → queued x (atLane i f e) ≡ queued x e
 queued-lane i f e h x = omega (arith, sum-update-same (inLane x) freshLane (e .lanes) i f (rw h))
+
+-- ---- what is retained, from one ledger to another
+
+module _ {outs outs′ : List Out} {sections sections′ : List Section} where
+  -- the slot is out still, and the section open
+  pub retains-map : (z : Section) (x : ℕ) → ((o : Out) → o .slot ≡ x → List·Memᴰ o outs → List·Memᴰ o outs′)
+      → (List·Memᴰ z sections → List·Memᴰ z sections′) → Retains outs sections z x → Retains outs′ sections′ z x
+  retains-map z x f h r =
+      record { out = r .out; isOut = f (r .out) (r .ofSlot) (r .isOut); ofSlot = r .ofSlot; isIn = r .isIn; isOpen = h (r .isOpen) }
+
+  pub waits-map : (x i : ℕ) → ((z : Section) → Retains outs sections z x → Retains outs′ sections′ z x)
+      → Waits outs sections x i → Waits outs′ sections′ x i
+  waits-map x i f w = record { section = w .section; ofLane = w .ofLane; retains = f (w .section) (w .retains) }

@@ -1,0 +1,100 @@
+-- The ledger holds at most one entry a code, one lookup a lane, and each slot out once, whatever it is fed with.
+use Prim.Native.Nat.{ℕ, suc}
+use mathlib.Core.Path.{_≡_, sym, ap, _∙_}
+use mathlib.Core.Logic.{_⊎_, inl, inr, _≢_}
+use mathlib.Core.Bool.{Bool}
+use mathlib.Core.List.{List, [], _∷_, List·Memᴰ, List·Memᴰ·cases-cons, List·Memᴰ·not-nil}
+use lib.Dec.{eqb}
+use borrow.Author.Tests.{eq-eqb}
+use Rattle.model.specs.Lists.{drops}
+use Rattle.model.specs.Rules.{Op, add, replace, delete, begin, end, start, step, pass, clock, on, off, hand-back, awaited, Answer}
+use Rattle.model.specs.Calls.{Call, set-up, on-state}
+use Rattle.model.specs.Ledger.{Entry, Search, Out, Ledger, searchOf, ofCode, ofSlot, entryOf, isAnswer, fed, fedCall, Event, ledgerFrom, ledger}
+use Rattle.laws.specs.Tests.{clash, cond-cases}
+use Rattle.laws.specs.Lists.{of-drops}
+
+module _ {A : Type 0} (key : A → ℕ) where
+  -- no two have one key
+  abbrev pub One : List A → Type 0
+  One xs = (a b : A) → List·Memᴰ a xs → List·Memᴰ b xs → key a ≡ key b → a ≡ b
+
+  pub one-drops : (p : A → Bool) (xs : List A) → One xs → One (drops p xs)
+  one-drops p xs h a b m n e = h a b (of-drops p a xs m .0) (of-drops p b xs n .0) e
+
+  -- a new one takes the place of the one that had its key
+  one-new : (new : A) (xs : List A) → One xs → One (new ∷ drops (λ (a : A). eqb (key a) (key new)) xs)
+  one-new new xs h a b m n e = go (List·Memᴰ·cases-cons m) (List·Memᴰ·cases-cons n)
+    where
+      rest : List A
+      rest = drops (λ (a : A). eqb (key a) (key new)) xs
+
+      older : (x : A) → List·Memᴰ x rest → key x ≢ key new
+      older x l d = clash (eq-eqb (key x) (key new) d) (of-drops (λ (a : A). eqb (key a) (key new)) x xs l .1)
+
+      go : (a ≡ new) ⊎ List·Memᴰ a rest → (b ≡ new) ⊎ List·Memᴰ b rest → a ≡ b
+      go (inl p) (inl q) = p ∙ sym q
+      go (inl p) (inr q) = absurd (older b q (sym e ∙ ap key p))
+      go (inr p) (inl q) = absurd (older a p (e ∙ ap key q))
+      go (inr p) (inr q) = one-drops (λ (a : A). eqb (key a) (key new)) xs h a b p q e
+
+abbrev entryCode : Entry → ℕ
+entryCode e = e .code
+
+abbrev searchLane : Search → ℕ
+searchLane q = q .lane
+
+abbrev outSlot : Out → ℕ
+outSlot o = o .slot
+
+pub record OneEach (g : Ledger) : Type 0 where
+  pub entries : One entryCode (g .entries)
+  pub searches : One searchLane (g .searches)
+  pub outs : One outSlot (g .outs)
+
+one-fed : (k : ℕ) (o : Op) (r : Answer) (g : Ledger) → OneEach g → OneEach (fed k o r g)
+unfolding fed
+one-fed k (add i c d m) r g h =
+    record { entries = one-new entryCode (entryOf c (r .a) d m) (g .entries) (h .entries); searches = h .searches; outs = h .outs }
+one-fed k (replace i c d m) r g h = record {
+  entries = one-new entryCode (entryOf c (r .a) d m) (g .entries) (h .entries);
+  searches = h .searches;
+  outs = one-new outSlot (record { slot = r .b; sections = g .sections }) (g .outs) (h .outs);
+}
+one-fed k (delete i c) r g h = record {
+  entries = one-drops entryCode (ofCode c) (g .entries) (h .entries);
+  searches = h .searches;
+  outs = one-new outSlot (record { slot = r .a; sections = g .sections }) (g .outs) (h .outs);
+}
+one-fed k (start i c) r g h = record {
+  entries = h .entries;
+  searches = one-new searchLane (record { lane = i; code = c; started = k }) (g .searches) (h .searches);
+  outs = h .outs;
+}
+one-fed k (step i) r g h = cond-cases OneEach (isAnswer r)
+    (λ t. record { entries = h .entries; searches = one-drops searchLane (searchOf i) (g .searches) (h .searches); outs = h .outs }) (λ t. h)
+one-fed k (hand-back i) r g h =
+    record { entries = h .entries; searches = h .searches; outs = one-drops outSlot (ofSlot (r .a)) (g .outs) (h .outs) }
+one-fed k (begin i) r g h = record { entries = h .entries; searches = h .searches; outs = h .outs }
+one-fed k (end i) r g h = record { entries = h .entries; searches = h .searches; outs = h .outs }
+one-fed k (pass i n) r g h = h
+one-fed k (clock i) r g h = h
+one-fed k (on i) r g h = h
+one-fed k (off i) r g h = h
+one-fed k awaited r g h = h
+
+one-fedCall : (k : ℕ) (x : Call) (r : Answer) (g : Ledger) → OneEach g → OneEach (fedCall k x r g)
+unfolding fedCall
+one-fedCall k (set-up x y z) r g h = h
+one-fedCall k (on-state o) r g h = cond-cases OneEach (eqb (r .status) 0) (λ t. one-fed k o r g h) (λ t. h)
+
+one-from : (es : List Event) (k : ℕ) (g : Ledger) → OneEach g → OneEach (ledgerFrom k g es)
+unfolding ledgerFrom
+one-from [] k g h = h
+one-from (e ∷ es) k g h = one-from es (suc k) (fedCall (suc k) (e .call) (e .answer) g) (one-fedCall (suc k) (e .call) (e .answer) g h)
+
+pub ledger-one : (es : List Event) → OneEach (ledger es)
+ledger-one es = one-from es 0 _ (record {
+  entries = λ a b m n e. absurd (List·Memᴰ·not-nil m);
+  searches = λ a b m n e. absurd (List·Memᴰ·not-nil m);
+  outs = λ a b m n e. absurd (List·Memᴰ·not-nil m);
+})
