@@ -1,0 +1,25 @@
+-- `chains::code_of` meets its contract: the two words stand where `codeWords` reads them.
+-- Assumes nothing.
+use Prim.Native.Nat.{ℕ, _+_}
+use mathlib.Core.Path.{ap, _∙_}
+use denote.Ref.{now}
+use borrow.Author.Needs.{needs}
+use Rattle.model.specs.Layout.{codeAt}
+use Rattle.model.specs.Memory.{wide}
+use Rattle.chains.proofs.code_of.Statement.{statement}
+use Rattle.chains.proofs.code_of.Tie as tie
+
+record-address-requires : tie.Need-record-address-requires
+record-address-requires c κs = search needs
+
+add-i : tie.Need-add-i
+add-i c = search needs
+
+code-at-requires : tie.Need-code-at-requires
+code-at-requires c κs = search needs
+
+returns : tie.Need-returns
+returns c = c .code-at .ensures ∙ ap (λ (i : ℕ). wide (now (c .before .before .before .args .m)) (i + codeAt)) (c .before .record-address .ensures)
+
+pub code-of-spec : {M : Type 1} → statement M
+code-of-spec = tie.close (tie.spec record-address-requires add-i code-at-requires returns)

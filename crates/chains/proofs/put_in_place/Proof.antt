@@ -1,0 +1,42 @@
+-- `chains::put_in_place` meets its contract: the link is that of the old slot, and `point` leaves what `pointed` says.
+-- Assumes nothing.
+use mathlib.Core.Path.{_∙_}
+use lib.ListN.{length-set}
+use borrow.Author.Needs.{needs}
+use Rattle.chains.proofs.put_in_place.Statement.{statement}
+use Rattle.chains.proofs.put_in_place.Tie as tie
+
+link-address-requires : tie.Need-link-address-requires
+link-address-requires c κs = search needs
+
+chain-link-requires : tie.Need-chain-link-requires
+chain-link-requires c κs = search needs
+
+mul-m : tie.Need-mul-m
+mul-m c = search needs
+
+slice-write-m : tie.Need-slice-write-m
+slice-write-m c = search needs
+
+point-requires : tie.Need-point-requires
+point-requires c κs = search needs
+
+same-length : tie.Need-same-length
+same-length c = c .before .before .point .kept .0 ∙ simp length-set
+
+returns : tie.Need-returns
+returns c =
+    c .before .before .point .ensures
+    ∙ rw (c .before .before .before .before .chain-link .ensures, c .before .before .before .before .before .before .link-address .ensures)
+
+pub put-in-place-spec : {M : Type 1} → statement M
+put-in-place-spec =
+    tie.close
+    (tie.spec
+    link-address-requires
+    chain-link-requires
+    mul-m
+    slice-write-m
+    point-requires
+    same-length
+    returns)

@@ -1,0 +1,21 @@
+-- `chains::unlink` meets its contract: what `point` leaves at the old slot's link.
+-- Assumes nothing.
+use mathlib.Core.Path.{_∙_}
+use borrow.Author.Needs.{needs}
+use Rattle.chains.proofs.unlink.Statement.{statement}
+use Rattle.chains.proofs.unlink.Tie as tie
+
+chain-link-requires : tie.Need-chain-link-requires
+chain-link-requires c κs = search needs
+
+point-requires : tie.Need-point-requires
+point-requires c κs = search needs
+
+same-length : tie.Need-same-length
+same-length c = search needs
+
+returns : tie.Need-returns
+returns c = c .before .before .point .ensures ∙ rw (c .before .before .before .before .chain-link .ensures)
+
+pub unlink-spec : {M : Type 1} → statement M
+unlink-spec = tie.close (tie.spec chain-link-requires point-requires same-length returns)

@@ -1,0 +1,2 @@
+-- What the contracts of `masks` cite.
+pub mod Bits

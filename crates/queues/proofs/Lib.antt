@@ -1,0 +1,3 @@
+-- Laws of queues by their words, and of the queue links of all slots.
+pub mod QueueLaws
+pub mod AllQueues

@@ -1,0 +1,29 @@
+-- `queues::append_run` meets its contract: what `follow` leaves, with the last stored.
+-- Assumes nothing.
+use borrow.Author.Needs.{needs}
+use Rattle.queues.specs.Queue.{appendedRun}
+use Rattle.queues.proofs.append_run.Statement.{statement}
+use Rattle.queues.proofs.append_run.Tie as tie
+
+follow-requires : tie.Need-follow-requires
+follow-requires c κs = search needs
+
+add-m : tie.Need-add-m
+add-m c = search needs
+
+mul-m : tie.Need-mul-m
+mul-m c = search needs
+
+slice-write-m : tie.Need-slice-write-m
+slice-write-m c = search needs
+
+same-length : tie.Need-same-length
+same-length c = search needs
+
+returns : tie.Need-returns
+unfolding appendedRun
+returns c = rw (c .before .before .follow .ensures)
+
+pub append-run-spec : {M : Type 1} → statement M
+append-run-spec =
+    tie.close (tie.spec follow-requires add-m mul-m slice-write-m same-length returns)

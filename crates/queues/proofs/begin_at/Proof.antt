@@ -1,0 +1,36 @@
+-- `queues::begin_at` meets its contract: its test is that of `begunAt`, and each arm stores what that says.
+-- Assumes nothing.
+use mathlib.Core.Path.{sym, _∙_}
+use borrow.Author.Needs.{needs}
+use borrow.Author.Tests.{lt-ltb, le-ltb}
+use Rattle.queues.specs.Queue.{begunAt}
+use Rattle.queues.proofs.begin_at.Statement.{statement}
+use Rattle.queues.proofs.begin_at.Tie as tie
+
+mul-m : tie.Need-mul-m
+mul-m c = search needs
+
+slice-write-m : tie.Need-slice-write-m
+slice-write-m c = search needs
+
+set-ends-requires : tie.Need-set-ends-requires
+set-ends-requires c κs = search needs
+
+same-length : tie.Need-same-length
+same-length c = search needs
+
+returns : tie.Need-returns
+unfolding begunAt
+returns c = simp (lt-ltb _ _ (c .if1 .taken))
+
+same-length-2 : tie.Need-same-length-2
+same-length-2 c = search needs
+
+returns-2 : tie.Need-returns-2
+unfolding begunAt
+returns-2 c = c .before .before .set-ends .ensures ∙ sym (simp (le-ltb _ _ (c .before .before .before .before .if1 .left)))
+
+pub begin-at-spec : {M : Type 1} → statement M
+begin-at-spec =
+    tie.close
+    (tie.spec mul-m slice-write-m set-ends-requires same-length returns same-length-2 returns-2)

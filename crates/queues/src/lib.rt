@@ -1,0 +1,106 @@
+// Queues of slots in the lent words: first and last stand at `ends`, and each slot's queue link is the next slot of
+// its queue. A queue is empty when its first is none. The slots' records stand from `base` on.
+ghost use mathlib.Core.Bool.{not};
+ghost use mathlib.Core.Path.{_≡_};
+ghost use Prim.Native.Nat.{_+_, _*_, _^_, _<_, _≤_};
+ghost use lib.Dec.{ltb};
+ghost use lib.ListN.{length};
+ghost use Rattle.model.specs.Layout.{lastOffset, slotLength};
+ghost use Rattle.model.specs.Memory.{at};
+ghost use Rattle.queues.specs.Queue.{linkAddress, endsSet, begunAt, followed, appendedRun, appended, joined, Taken};
+
+// Where the queue link of a slot stands.
+fn link_address(base: usize, slot: u32) -> usize
+    requires { ⌜ linkAddress base slot < 2 ^ 64 ⌝ }
+    ensures { λ r. ⌜ r ≡ linkAddress base slot ⌝ }
+{
+    base + words::SLOT_LENGTH * words::index(slot) + words::QUEUE_LINK_AT
+}
+
+// Both ends anew.
+fn set_ends(m: &mut [u32], ends: usize, first: u32, last: u32)
+    requires { ⌜ ends + lastOffset < length (now m) ⌝ }
+    ensures { λ _. ⌜ now (m .exit) ≡ endsSet (now (m .entry)) ends first last ⌝ }
+{
+    m[ends] = first;
+    m[ends + words::LAST_OFFSET] = last;
+}
+
+// The queue begins at `next` from now on; it is empty where that is no slot.
+fn begin_at(m: &mut [u32], slots: u32, ends: usize, next: u32)
+    requires { ⌜ ends + lastOffset < length (now m) ⌝ }
+    ensures { λ _. ⌜ now (m .exit) ≡ begunAt (now (m .entry)) slots ends next ⌝ }
+{
+    if next < slots {
+        m[ends] = next;
+    } else {
+        set_ends(m, ends, words::NONE, words::NONE);
+    }
+}
+
+// The slot follows the queue's last; it is the first where the queue is empty.
+fn follow(m: &mut [u32], base: usize, slots: u32, ends: usize, slot: u32)
+    requires { ⌜ (base + slotLength * slots ≤ length (now m)) × (ends + lastOffset < length (now m)) ⌝ }
+    ensures { λ _. ⌜ now (m .exit) ≡ followed (now (m .entry)) base slots ends slot ⌝ }
+{
+    let last = m[ends + words::LAST_OFFSET];
+    if last < slots {
+        let i = link_address(base, last);
+        m[i] = slot;
+    } else {
+        m[ends] = slot;
+    }
+}
+
+// Whether the queue is empty.
+pub fn is_empty(m: &[u32], slots: u32, ends: usize) -> bool
+    requires { ⌜ ends < length (now m) ⌝ }
+    ensures { λ r. ⌜ r ≡ not (ltb (at (now (m .entry)) ends) slots) ⌝ }
+{
+    !(m[ends] < slots)
+}
+
+// Appends the slots from `first` to `last`, which are linked already.
+fn append_run(m: &mut [u32], base: usize, slots: u32, ends: usize, first: u32, last: u32)
+    requires { ⌜ (base + slotLength * slots ≤ length (now m)) × (ends + lastOffset < length (now m)) ⌝ }
+    ensures { λ _. ⌜ now (m .exit) ≡ appendedRun (now (m .entry)) base slots ends first last ⌝ }
+{
+    follow(m, base, slots, ends, first);
+    m[ends + words::LAST_OFFSET] = last;
+}
+
+// Appends the slot. Its queue link is not written: it is none of a slot outside every queue.
+pub fn append(m: &mut [u32], base: usize, slots: u32, ends: usize, slot: u32)
+    requires { ⌜ (base + slotLength * slots ≤ length (now m)) × (ends + lastOffset < length (now m)) ⌝ }
+    ensures { λ _. ⌜ now (m .exit) ≡ appended (now (m .entry)) base slots ends slot ⌝ }
+{
+    append_run(m, base, slots, ends, slot, slot);
+}
+
+// Appends the whole queue at `from` to the one at `to`, and leaves `from` empty.
+pub fn append_queue(m: &mut [u32], base: usize, slots: u32, to: usize, from: usize)
+    requires { ⌜ (base + slotLength * slots ≤ length (now m)) × ((to + lastOffset < length (now m)) × (from + lastOffset < length (now m))) ⌝ }
+    ensures { λ _. ⌜ now (m .exit) ≡ joined (now (m .entry)) base slots to from ⌝ }
+{
+    let first = m[from];
+    if first < slots {
+        let last = m[from + words::LAST_OFFSET];
+        append_run(m, base, slots, to, first, last);
+        set_ends(m, from, words::NONE, words::NONE);
+    }
+}
+
+// Takes the first slot of the queue and answers its number; where the queue is empty, answers what stands there.
+pub fn take_first(m: &mut [u32], base: usize, slots: u32, ends: usize) -> u32
+    requires { ⌜ (base + slotLength * slots ≤ length (now m)) × (ends + lastOffset < length (now m)) ⌝ }
+    ensures { λ r. ⌜ Taken (now (m .entry)) base slots ends r (now (m .exit)) ⌝ }
+{
+    let first = m[ends];
+    if first < slots {
+        let i = link_address(base, first);
+        let next = m[i];
+        m[i] = words::NONE;
+        begin_at(m, slots, ends, next);
+    }
+    first
+}
