@@ -8,8 +8,9 @@ use native.Mathlib.Decide.{decLt}
 use native.Mathlib.Nat.{mul-comm, mul-suc, mul-le-mul-left, div-add-mod', mod-lt, div-lt-iff-lt-mul}
 use lib.ListN.{getD, length, length-append, List·getD-append}
 use lib.Arith.{digits-div}
+use lib.Seq.{getD-append-add}
 use Rattle.model.specs.Lists.{concatMap, from}
-use Rattle.laws.specs.Lists.{length-from, getD-from, getD-right, length-blocks, getD-blocks}
+use Rattle.laws.specs.Lists.{length-from, getD-from, getD-right}
 
 pub record Extent : Type 0 where
   pub width : ℕ
@@ -101,6 +102,27 @@ address-onto (x ∷ xs) n h =
             there = omega (arith, r .there);
           }
     ]
+
+-- ---- blocks of one width
+
+module _ {A : Type 0} (f : A → List ℕ) (n : ℕ) (d : A) where
+  -- blocks of n words each
+  length-blocks : (xs : List A) → ((i : ℕ) → i < length xs → length (f (getD xs i d)) ≡ n) → length (concatMap f xs) ≡ n * length xs
+  unfolding concatMap
+  length-blocks [] h = omega arith
+  length-blocks (x ∷ xs) h =
+      omega (arith, length-append (f x) (concatMap f xs), length-blocks xs (λ i k. h (suc i) (omega arith)), h 0 (omega arith), mul-suc n (length xs))
+
+  getD-blocks : (xs : List A) → ((i : ℕ) → i < length xs → length (f (getD xs i d)) ≡ n)
+      → (i k : ℕ) → i < length xs → k < n → getD (concatMap f xs) (n * i + k) 0 ≡ getD (f (getD xs i d)) k 0
+  unfolding concatMap
+  getD-blocks [] h i k p q = absurd (omega arith)
+  getD-blocks (x ∷ xs) h zero k p q =
+      let e : n * 0 + k ≡ k = omega arith in
+      rw e (List·getD-append (f x) (concatMap f xs) 0 k (omega (arith, h 0 (omega arith))))
+  getD-blocks (x ∷ xs) h (suc i) k p q =
+      let e : n * suc i + k ≡ length (f x) + (n * i + k) = omega (arith, h 0 (omega arith), mul-suc n i) in
+      rw e (getD-append-add (f x) (concatMap f xs) (n * i + k) 0 ∙ getD-blocks xs (λ i k. h (suc i) (omega arith)) i k (omega arith) q)
 
 -- ---- the words
 

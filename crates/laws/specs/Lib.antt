@@ -7,4 +7,5 @@ pub mod Successors
 pub mod Walks
 pub mod Generations
 pub mod Masks
+pub mod Levels
 pub mod Areas

@@ -1,12 +1,11 @@
 -- Lists by their elements: `update`, `map`, `any`, `from`, lists made of blocks, and what `drops` leaves. Assumes nothing.
-use Prim.Native.Nat.{ℕ, zero, suc, _+_, _*_, _≤_, _<_}
+use Prim.Native.Nat.{ℕ, zero, suc, _+_, _≤_, _<_}
 use mathlib.Core.Bool.{Bool, true, false, cond, _||_}
 use mathlib.Core.Path.{_≡_, refl, ap, sym, _∙_, subst}
 use mathlib.Core.Logic.{_⊎_, inl, inr, _≢_}
 use mathlib.Core.List.{List, [], _∷_, _++_, map, List·Memᴰ, List·Memᴰ·head, List·Memᴰ·tail, List·Memᴰ·cases-cons, List·Memᴰ·not-nil}
-use native.Mathlib.Nat.{mul-suc}
 use native.Mathlib.Omega.{arith}
-use lib.ListN.{getD, length, set, take, replicate, length-append, length-map, List·getD-append, List·getD-eq-default}
+use lib.ListN.{getD, length, set, take, replicate, length-map, List·getD-eq-default}
 use lib.Seq.{getD-append-add, getD-set-same, getD-set-other, getD-take, ext-getD, length-take-le}
 use lib.Dec.{eqb}
 use borrow.Author.Tests.{eq-eqb, ne-eqb}
@@ -74,13 +73,6 @@ module _ {A : Type 0} where
   getD-replicate-default x (suc n) zero = refl
   getD-replicate-default x (suc n) (suc i) = getD-replicate-default x n i
 
-  -- a change that g does not see
-  pub map-update-same : {B : Type 0} (g : A → B) (xs : List A) (i : ℕ) (f : A → A) → ((x : A) → g (f x) ≡ g x) → map g (update xs i f) ≡ map g xs
-  unfolding update
-  map-update-same g [] i f h = refl
-  map-update-same g (x ∷ xs) zero f h = rw (h x)
-  map-update-same g (x ∷ xs) (suc i) f h = rw (map-update-same g xs i f h)
-
   -- a change that commutes with g
   pub map-update : (g f : A → A) (xs : List A) (j : ℕ) → ((a : A) → g (f a) ≡ f (g a)) → map g (update xs j f) ≡ update (map g xs) j f
   unfolding update
@@ -122,9 +114,9 @@ module _ {A : Type 0} where
   Each P [] = Unit {0}
   Each P (x ∷ xs) = P x × Each P xs
 
-  pub each-append : (P : A → Type 0) (xs ys : List A) → Each P xs → Each P ys → Each P (xs ++ ys)
-  each-append P [] ys e f = f
-  each-append P (x ∷ xs) ys e f = (e .0, each-append P xs ys (e .1) f)
+  pub each-map : {B : Type 0} (P : A → Type 0) (f : B → A) (xs : List B) → ((x : B) → P (f x)) → Each P (map f xs)
+  each-map P f [] h = tt
+  each-map P f (x ∷ xs) h = (h x, each-map P f xs h)
 
   pub each-getD : (d : A) (P : A → Type 0) (xs : List A) → Each P xs → (k : ℕ) → k < length xs → P (getD xs k d)
   each-getD d P [] h k b = absurd (omega arith)
@@ -134,7 +126,7 @@ module _ {A : Type 0} where
 -- ---- any
 
 module _ {A : Type 0} where
-  pub any-map : (p : A → Bool) (f : A → A) (xs : List A) → any p (map f xs) ≡ any (λ (a : A). p (f a)) xs
+  pub any-map : {B : Type 0} (p : B → Bool) (f : A → B) (xs : List A) → any p (map f xs) ≡ any (λ (a : A). p (f a)) xs
   unfolding any
   any-map p f [] = refl
   any-map p f (x ∷ xs) = rw (any-map p f xs)
@@ -262,25 +254,6 @@ pub concatMap-single : {A : Type 0} (f : A → ℕ) (xs : List A) → concatMap 
 unfolding concatMap
 concatMap-single f [] = refl
 concatMap-single f (x ∷ xs) = ap (λ (r : List ℕ). f x ∷ r) (concatMap-single f xs)
-
-module _ {A : Type 0} (f : A → List ℕ) (n : ℕ) (d : A) where
-  -- blocks of n words each
-  pub length-blocks : (xs : List A) → ((i : ℕ) → i < length xs → length (f (getD xs i d)) ≡ n) → length (concatMap f xs) ≡ n * length xs
-  unfolding concatMap
-  length-blocks [] h = omega arith
-  length-blocks (x ∷ xs) h =
-      omega (arith, length-append (f x) (concatMap f xs), length-blocks xs (λ i k. h (suc i) (omega arith)), h 0 (omega arith), mul-suc n (length xs))
-
-  pub getD-blocks : (xs : List A) → ((i : ℕ) → i < length xs → length (f (getD xs i d)) ≡ n)
-      → (i k : ℕ) → i < length xs → k < n → getD (concatMap f xs) (n * i + k) 0 ≡ getD (f (getD xs i d)) k 0
-  unfolding concatMap
-  getD-blocks [] h i k p q = absurd (omega arith)
-  getD-blocks (x ∷ xs) h zero k p q =
-      let e : n * 0 + k ≡ k = omega arith in
-      rw e (List·getD-append (f x) (concatMap f xs) 0 k (omega (arith, h 0 (omega arith))))
-  getD-blocks (x ∷ xs) h (suc i) k p q =
-      let e : n * suc i + k ≡ length (f x) + (n * i + k) = omega (arith, h 0 (omega arith), mul-suc n i) in
-      rw e (getD-append-add (f x) (concatMap f xs) (n * i + k) 0 ∙ getD-blocks xs (λ i k. h (suc i) (omega arith)) i k (omega arith) q)
 
 -- ---- what `drops` leaves
 

@@ -6,7 +6,7 @@ use mathlib.Core.Path.{_≡_, refl, ap, ap₂, sym, _∙_}
 use mathlib.Core.List.{List, [], _∷_, _++_, map}
 use native.Mathlib.Omega.{arith}
 use native.Mathlib.Decide.{decLt}
-use native.Mathlib.Nat.{div-one, zero-div, mod-lt, mod-eq-of-lt, mul-suc, mul-assoc}
+use native.Mathlib.Nat.{div-one, zero-div, mod-lt, mod-eq-of-lt, mul-assoc}
 use lib.ListN.{length, getD, set, List·getD-eq-default}
 use lib.Arith.{lt-one}
 use lib.Pow.{pow-pos, pow-add, pow-lt, pow-mono, split, shr-shr, mod-pow-add, shl-exact}
@@ -14,11 +14,11 @@ use lib.Bits.{bitAnd, bitOr, and-block, and-step, and-zero-r, and-mask, or-add-a
 use lib.Count.{ones, ones-step, trailingZeros, under, trailing-of-zero}
 use lib.Dec.{eqb}
 use borrow.Author.Tests.{eq-eqb, ne-eqb}
-use Rattle.model.specs.Lists.{update, any, concat, from, mask, bit}
+use Rattle.model.specs.Lists.{any, from, mask, bit}
 use Rattle.model.specs.Memory.{flag}
 use Rattle.laws.specs.Tests.{clash, same, other, decide}
-use Rattle.laws.specs.Lists.{Each, getD-map-below, length-map-from, map-from-suc, any-append, any-false-intro}
-use Rattle.laws.specs.Sums.{sum, sum-append}
+use Rattle.laws.specs.Lists.{getD-map-below, length-map-from, map-from-suc, any-false-intro}
+use Rattle.laws.specs.Sums.{sum}
 
 -- ---- bits
 
@@ -238,6 +238,18 @@ unfoldable pub firstTrue : List Bool → ℕ
 firstTrue [] = 0
 firstTrue (b ∷ bs) = cond b 0 (suc (firstTrue bs))
 
+pub firstTrue-lt : (bs : List Bool) → some bs ≡ true → firstTrue bs < length bs
+unfolding any firstTrue
+firstTrue-lt [] h = clash h refl
+firstTrue-lt (true ∷ bs) h = omega arith
+firstTrue-lt (false ∷ bs) h = omega (arith, firstTrue-lt bs h)
+
+pub getD-firstTrue : (bs : List Bool) → some bs ≡ true → getD bs (firstTrue bs) false ≡ true
+unfolding any firstTrue
+getD-firstTrue [] h = clash h refl
+getD-firstTrue (true ∷ bs) h = refl
+getD-firstTrue (false ∷ bs) h = getD-firstTrue bs h
+
 pub ones-mask : (bs : List Bool) → ones (mask bs) ≡ trues bs
 unfolding mask ones
 ones-mask [] = refl
@@ -257,69 +269,3 @@ trailing-mask (suc k) (b ∷ bs) l h =
 
 pub trailing-none : (k : ℕ) (bs : List Bool) → some bs ≡ false → trailingZeros k (mask bs) ≡ k
 trailing-none k bs h = ap (trailingZeros k) (mask-none bs h) ∙ trailing-of-zero k
-
--- ---- a level of masks over the next
-
--- Rows of flags, and above them a flag a row, which is set while the row has one. The level above may itself be parted into rows, so that each law
--- serves at every depth.
-abbrev pub upper : List (List Bool) → List Bool
-upper rows = map some rows
-
-pub some-concat : (rows : List (List Bool)) → some (concat rows) ≡ some (upper rows)
-unfolding any concat
-some-concat [] = refl
-some-concat (r ∷ rows) = any-append isTrue r (concat rows) ∙ ap (λ (b : Bool). some r || b) (some-concat rows)
-
--- all flags, counted mask by mask
-pub trues-concat : (rows : List (List Bool)) → trues (concat rows) ≡ sum (λ (r : List Bool). ones (mask r)) rows
-unfolding concat
-trues-concat [] = refl
-trues-concat (r ∷ rows) = omega (arith, sum-append bit r (concat rows), ones-mask r, trues-concat rows)
-
-firstTrue-left : (xs ys : List Bool) → some xs ≡ true → firstTrue (xs ++ ys) ≡ firstTrue xs
-unfolding any firstTrue
-firstTrue-left [] ys h = clash h refl
-firstTrue-left (true ∷ xs) ys h = refl
-firstTrue-left (false ∷ xs) ys h = ap suc (firstTrue-left xs ys h)
-
-firstTrue-right : (xs ys : List Bool) → some xs ≡ false → firstTrue (xs ++ ys) ≡ length xs + firstTrue ys
-unfolding any firstTrue
-firstTrue-right [] ys h = omega arith
-firstTrue-right (true ∷ xs) ys h = clash refl h
-firstTrue-right (false ∷ xs) ys h = omega (arith, firstTrue-right xs ys h)
-
--- the first of all, by the first row that has one; rows of n flags
-pub firstTrue-concat : (n : ℕ) (rows : List (List Bool)) → Each (λ r. length r ≡ n) rows → some (upper rows) ≡ true
-    → firstTrue (concat rows) ≡ n * firstTrue (upper rows) + firstTrue (getD rows (firstTrue (upper rows)) [])
-unfolding any concat firstTrue
-firstTrue-concat n [] e h = clash h refl
-firstTrue-concat n (r ∷ rows) e h = go (some r) refl (λ q. firstTrue-concat n rows (e .1) q)
-  where
-    go : (b : Bool) → some r ≡ b
-        → (some (upper rows) ≡ true → firstTrue (concat rows) ≡ n * firstTrue (upper rows) + firstTrue (getD rows (firstTrue (upper rows)) []))
-        → firstTrue (concat (r ∷ rows)) ≡ n * firstTrue (upper (r ∷ rows)) + firstTrue (getD (r ∷ rows) (firstTrue (upper (r ∷ rows))) [])
-    go true q ih = rw q (omega (arith, firstTrue-left r (concat rows) q))
-    go false q ih = rw q (omega (arith, firstTrue-right r (concat rows) q, e .0, ih (rw q at h), mul-suc n (firstTrue (upper rows))))
-
-some-set : (bs : List Bool) (p : ℕ) → some (set bs p false) ≡ true → some bs ≡ true
-unfolding any
-some-set [] p h = h
-some-set (true ∷ bs) p h = refl
-some-set (false ∷ bs) zero h = h
-some-set (false ∷ bs) (suc p) h = some-set bs p h
-
--- a flag of row c cleared: the flag above goes when it was the row's last
-pub upper-clear : (rows : List (List Bool)) (c p : ℕ)
-    → upper (update rows c (λ r. set r p false)) ≡ cond (some (set (getD rows c []) p false)) (upper rows) (set (upper rows) c false)
-unfolding any update
-upper-clear [] c p = refl
-upper-clear (r ∷ rows) zero p = go (some (set r p false)) refl
-  where
-    go : (b : Bool) → some (set r p false) ≡ b → some (set r p false) ∷ upper rows ≡ cond (some (set r p false)) (some r ∷ upper rows) (false ∷ upper rows)
-    go true q = rw (q, some-set r p q)
-    go false q = rw q
-upper-clear (r ∷ rows) (suc c) p = ap (λ (bs : List Bool). some r ∷ bs) (upper-clear rows c p) ∙ go (some (set (getD rows c []) p false))
-  where
-    go : (b : Bool) → some r ∷ cond b (upper rows) (set (upper rows) c false) ≡ cond b (some r ∷ upper rows) (some r ∷ set (upper rows) c false)
-    go true = refl
-    go false = refl

@@ -47,3 +47,7 @@ module _ {A : Type 0} where
   sum-getD h d [] j k = omega arith
   sum-getD h d (x ∷ xs) zero k = omega arith
   sum-getD h d (x ∷ xs) (suc j) k = omega (arith, sum-getD h d xs j k)
+
+pub sum-of-map : {A B : Type 0} (h : A → ℕ) (f : B → A) (xs : List B) → sum h (map f xs) ≡ sum (λ (x : B). h (f x)) xs
+sum-of-map h f [] = refl
+sum-of-map h f (x ∷ xs) = omega (arith, sum-of-map h f xs)

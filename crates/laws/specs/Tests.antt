@@ -2,13 +2,18 @@
 use Prim.Native.Nat.{ℕ, zero, suc, _+_, _<_}
 use mathlib.Core.Path.{_≡_, refl, sym, ap, ap₂, _∙_}
 use mathlib.Core.Logic.{_⊎_, inl, inr, _≢_}
-use mathlib.Core.Bool.{Bool, true, false, cond, _&&_, _||_}
+use mathlib.Core.Bool.{Bool, true, false, not, cond, _&&_, _||_}
 use mathlib.Core.List.{List, [], _∷_}
 use native.Mathlib.Omega.{arith}
 use lib.ListN.{getD}
 use lib.Dec.{T, eqb}
 use borrow.Author.Tests.{eq-eqb, ne-eqb, eqb-true, eqb-false}
 use Rattle.model.specs.Lists.{all, every, same as sameList, from}
+
+infixr 3 _&_
+-- a pair: a long list of facts, one a line
+pub _&_ : {A B : Type 0} → A → B → A × B
+a & b = (a, b)
 
 -- ---- Booleans
 
@@ -24,6 +29,10 @@ pub true-T : (b : Bool) → b ≡ true → T b
 true-T true h = tt
 true-T false h = clash h refl
 
+pub not-not : (b : Bool) → not (not b) ≡ b
+not-not true = refl
+not-not false = refl
+
 pub and-true : (a b : Bool) → (a && b) ≡ true → (a ≡ true) × (b ≡ true)
 and-true true b h = (refl, h)
 and-true false b h = clash h refl
@@ -31,6 +40,10 @@ and-true false b h = clash h refl
 pub and-intro : (a b : Bool) → a ≡ true → b ≡ true → (a && b) ≡ true
 and-intro true b p q = q
 and-intro false b p q = p
+
+pub and-true-right : (a : Bool) → (a && true) ≡ a
+and-true-right true = refl
+and-true-right false = refl
 
 pub and-false-right : (a : Bool) → (a && false) ≡ false
 and-false-right true = refl

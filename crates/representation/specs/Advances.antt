@@ -16,7 +16,7 @@ use Rattle.laws.specs.Tests.{clash, and-true, cond-cases, same-or}
 use Rattle.laws.specs.Lists.{update-cases, getD-update-same, getD-update-other, map-cases, map-cases-default, any-map, any-update-same}
 use Rattle.representation.specs.Frame.{frame-requested}
 use Rattle.representation.specs.Requests.{none-pending, requested-lane, requested-global, raised}
-use Rattle.representation.specs.Ages.{none, now, soon, Strict, Loose, Clean, Level, rests, goes, Tidy, Disciplined, LooseGlobal, age-map, age-settled, loosen}
+use Rattle.representation.specs.Ages.{none, now, soon, Strict, Loose, Clean, Level, rests, goes, Tidy, Disciplined, LooseGlobal, age-map, age-settled, loosen, level-anew, strict-anew, OffEmpty}
 
 runs-started : (e : Engine) → any isOnline (e .lanes) ≡ true → runs (started e) ≡ true
 unfolding started
@@ -37,7 +37,7 @@ module _ {X : ℕ → Type 0} {Y : Type 0} where
       go true r = r
       go false r = clash (t .off i r) h
 
-  -- ---- a period begins, the largest generation raised or the current one quiesced on
+  -- ---- a period begins, or the largest requested is raised
 
   tidy-largest : (n : ℕ) (e : Engine) → Tidy Level X Y e → Level (withLargest n e)
       → ((e .largest ≡ e .current) ⊎ (e .largest ≡ up (e .current)) → (n ≡ e .current) ⊎ (n ≡ up (e .current))) → (e .largest ≡ up (e .current) → n ≡ up (e .current)) → Tidy Level X Y (withLargest n e)
@@ -56,7 +56,7 @@ module _ {X : ℕ → Type 0} {Y : Type 0} where
     word = t .word;
     level = goes (runs-started e (t .some)) l;
     some = any-map isOnline awaiting (e .lanes) ∙ t .some;
-    off = map-cases-default freshLane (λ (i : ℕ) (l : Lane). l .online ≡ false → isEmpty (l .queues .current) ≡ true) (e .lanes) awaiting (λ i b h. clash refl h) (λ i b h. t .off i h);
+    off = map-cases-default freshLane (λ (i : ℕ). OffEmpty) (e .lanes) awaiting (λ i b h. clash refl h) (λ i b h. t .off i h);
     lanes = map-cases-default freshLane (λ (i : ℕ) (l : Lane). Strict f l ⊎ (X i × Loose f (l .queues))) (e .lanes) awaiting (λ i b. inl (none refl refl))
         (λ i b. ⊎-elim (λ a. inl (age-map n (λ y o. record { word = o .word; before = o .before; waits = λ r. on-of e t i y }) (λ x. l) h a)) (λ a. inr (a .0, age-map n (λ y o. o) (λ x. l) h (a .1))) (t .lanes i));
     global = ⊎-elim (λ a. inl (age-map n (λ y o. o) (λ x. l) h a)) (λ a. inr (a .0, age-map n (λ y o. o) (λ x. l) h (a .1))) (t .global);
@@ -95,9 +95,9 @@ module _ {Y : Type 0} where
   tidy-queues : (i : ℕ) (q : Queues) (e : Engine) → i < length (e .lanes) → laneAt e i .online ≡ true → Tidy Level (λ (j : ℕ). j ≡ i) Y e → Clean e q → Tidy Level (λ (j : ℕ). ⊥) Y (atLane i (setQueues q) e)
   tidy-queues i q e b o t c = record {
     word = t .word;
-    level = level (t .level);
+    level = level-anew e (f .lanes) (e .global) same (t .level);
     some = any-update-same isOnline (setQueues q) (e .lanes) i (λ l. refl) ∙ t .some;
-    off = update-cases freshLane (λ (j : ℕ) (l : Lane). l .online ≡ false → isEmpty (l .queues .current) ≡ true) (e .lanes) i (setQueues q) (t .off) (λ h. clash o h);
+    off = update-cases freshLane (λ (j : ℕ). OffEmpty) (e .lanes) i (setQueues q) (t .off) (λ h. clash o h);
     lanes = λ j. inl (lanes j (same-or j i));
     global = t .global;
   }
@@ -108,16 +108,9 @@ module _ {Y : Type 0} where
       same : runs f ≡ runs e
       same = any-update-same isPending (setQueues q) (e .lanes) i (λ l. refl)
 
-      level : Level e → Level f
-      level (rests a b d) = rests (same ∙ a) b d
-      level (goes a b) = goes (same ∙ a) b
-
-      strict : (l : Lane) → Strict e l → Strict f l
-      strict l a = age-map (e .largest) (λ y u. record { word = u .word; before = u .before; waits = λ r. u .waits (sym same ∙ r) }) (λ x. x) (λ x. x) a
-
       lanes : (j : ℕ) → (j ≡ i) ⊎ ((j ≢ i) × (eqb j i ≡ false)) → Strict f (laneAt f j)
       lanes j (inl d) = rw (d, getD-update-same freshLane (e .lanes) i (setQueues q) b) (age-map (e .largest) (λ y u. absurd u) (λ x. x) (λ x. x) c)
-      lanes j (inr d) = rw (getD-update-other freshLane (e .lanes) i (setQueues q) j (d .0)) (⊎-elim (λ a. strict (laneAt e j) a) (λ a. absurd (d .0 (a .0))) (t .lanes j))
+      lanes j (inr d) = rw (getD-update-other freshLane (e .lanes) i (setQueues q) j (d .0)) (⊎-elim (strict-anew e (f .lanes) (e .global) (λ r. sym same ∙ r) (laneAt e j)) (λ a. absurd (d .0 (a .0))) (t .lanes j))
 
   age-loose : (i : ℕ) (e : Engine) → Tidy Level (λ (j : ℕ). j ≡ i) Y e → Loose e (laneAt e i .queues)
   age-loose i e t = ⊎-elim (λ a. loosen e (laneAt e i) a) (λ a. a .1) (t .lanes i)
@@ -139,16 +132,12 @@ module _ {Y : Type 0} where
   tidy-global : {Z : Type 0} (q : Queues) (e : Engine) → Tidy Level (λ (j : ℕ). ⊥) Y e → Clean e q → Tidy Level (λ (j : ℕ). ⊥) Z (withGlobal q e)
   tidy-global q e t c = record {
     word = t .word;
-    level = level (t .level);
+    level = level-anew e (e .lanes) q refl (t .level);
     some = t .some;
     off = t .off;
     global = inl c;
-    lanes = λ i. inl (⊎-elim (λ a. age-map (e .largest) (λ y u. record { word = u .word; before = u .before; waits = u .waits }) (λ x. x) (λ x. x) a) (λ a. absurd (a .0)) (t .lanes i));
+    lanes = λ i. inl (⊎-elim (strict-anew e (e .lanes) q (λ r. r) (laneAt e i)) (λ a. absurd (a .0)) (t .lanes i));
   }
-    where
-      level : Level e → Level (withGlobal q e)
-      level (rests a b d) = rests a b d
-      level (goes a b) = goes a b
 
 pub tidy-advancedGlobal : (e : Engine) → LooseGlobal e → Disciplined (advancedGlobal e)
 unfolding advancedGlobal ready

@@ -1,13 +1,14 @@
 -- How the current queues of lanes stand to the current generation and the largest requested (document 01, "The memory", last sentences), and what of
 -- it holds in the midst of a clock or an off.
 use Prim.Native.Nat.{ℕ, _<_}
-use mathlib.Core.Path.{_≡_, refl}
+use mathlib.Core.Path.{_≡_, refl, _∙_}
 use mathlib.Core.Logic.{_⊎_, inl}
 use mathlib.Core.Bool.{true, false}
+use mathlib.Core.List.{List}
 use Rattle.model.specs.Word.{wordLimit, up, later}
 use Rattle.model.specs.Lists.{any, isEmpty}
 use Rattle.model.specs.State.{Queues, Lane, Engine}
-use Rattle.model.specs.Engine.{laneAt, runs, settled}
+use Rattle.model.specs.Engine.{withGlobal, withLanes, laneAt, runs, settled}
 use Rattle.model.specs.Rules.{isOnline}
 use Rattle.laws.specs.Generations.{later-self, later-up, up-later}
 use Rattle.laws.specs.Tests.{clash}
@@ -46,12 +47,16 @@ pub data Level (e : Engine) : Type 0 where
 
 -- ---- in the midst of a clock or an off
 
+-- an off lane waits for no generation
+abbrev pub OffEmpty : Lane → Type 0
+OffEmpty l = l .online ≡ false → isEmpty (l .queues .current) ≡ true
+
 -- some lane is on, and off lanes have no queues; where X i holds lane i may be loose, and where Y holds the global queues may be
 pub record Tidy (L : Engine → Type 0) (X : ℕ → Type 0) (Y : Type 0) (e : Engine) : Type 0 where
   pub word : e .current < wordLimit
   pub level : L e
   pub some : any isOnline (e .lanes) ≡ true
-  pub off : (i : ℕ) → laneAt e i .online ≡ false → isEmpty (laneAt e i .queues .current) ≡ true
+  pub off : (i : ℕ) → OffEmpty (laneAt e i)
   pub lanes : (i : ℕ) → Strict e (laneAt e i) ⊎ (X i × Loose e (laneAt e i .queues))
   pub global : Clean e (e .global) ⊎ (Y × Loose e (e .global))
 
@@ -95,3 +100,18 @@ loosen e l a = age-map (e .largest) (λ f o. rw (← (o .before)) (up-later (o .
 pub level-moving : (e : Engine) → Level e → runs e ≡ true → (e .largest ≡ e .current) ⊎ (e .largest ≡ up (e .current))
 level-moving e (rests a b c) r = clash r a
 level-moving e (goes a b) r = b
+
+-- ---- other lanes and other global queues, with the same generations
+
+module _ (e : Engine) (ls : List Lane) (g : Queues) where
+  abbrev anew : Engine
+  anew = withGlobal g (withLanes ls e)
+
+  -- while a period runs as before
+  pub level-anew : runs anew ≡ runs e → Level e → Level anew
+  level-anew r (rests a b d) = rests (r ∙ a) b d
+  level-anew r (goes a b) = goes (r ∙ a) b
+
+  -- while none runs that did not before
+  pub strict-anew : (runs anew ≡ true → runs e ≡ true) → (l : Lane) → Strict e l → Strict anew l
+  strict-anew r l = age-map (e .largest) (λ f o. record { word = o .word; before = o .before; waits = λ t. o .waits (r t) }) (λ x. x) (λ x. x)

@@ -4,15 +4,15 @@ use mathlib.Core.Path.{_≡_, refl, sym, ap, _∙_}
 use mathlib.Core.Logic.{inl, ⊎-elim}
 use mathlib.Core.Bool.{true, false, not, cond, _&&_}
 use lib.ListN.{length}
-use Rattle.model.specs.Word.{up, later}
 use Rattle.model.specs.Lists.{update, any, isEmpty}
 use Rattle.model.specs.State.{unheld, Lane, Engine, isHeld}
-use Rattle.model.specs.Engine.{noQueues, freshLane, awaiting, isPending, emptied, laneAt, setPending, setOnline, withGlobal, atLane, runs, started, released, quiesced, sampled, clocked, taken, wentOff, ended}
+use Rattle.model.specs.Word.{up}
+use Rattle.model.specs.Engine.{withCurrent, noQueues, freshLane, awaiting, isPending, emptied, laneAt, setPending, setOnline, withGlobal, atLane, runs, started, released, quiesced, sampled, clocked, taken, wentOff}
 use Rattle.model.specs.Rules.{isOnline}
 use Rattle.laws.specs.Tests.{and-true, cond-cases}
 use Rattle.laws.specs.Lists.{update-cases, getD-update-same, map-cases, any-update-same, any-update-alike}
-use Rattle.representation.specs.Frame.{frame-released}
-use Rattle.representation.specs.Ages.{none, old, now, soon, Strict, Clean, Level, rests, goes, Disciplined, LooseAt, LooseGlobal, age-map}
+use Rattle.representation.specs.Frame.{ended-cases, frame-released}
+use Rattle.representation.specs.Ages.{none, old, now, soon, Strict, Clean, Disciplined, LooseAt, LooseGlobal, age-map, level-anew, strict-anew, OffEmpty}
 use Rattle.representation.specs.Advances.{tidy-advancedLane, tidy-advancedGlobal}
 use Rattle.representation.specs.Releases.{strict-in, tidy-released}
 
@@ -26,8 +26,8 @@ unfolding started
 own-started e = map-cases freshLane (λ (j : ℕ) (l : Lane). Own (laneAt e j) l) (e .lanes) awaiting (λ j. record { online = refl; queues = refl }) (λ j b. record { online = refl; queues = refl })
 
 pub own-released : (i : ℕ) (e : Engine) (j : ℕ) → Own (laneAt e j) (laneAt (released i e) j)
-unfolding ended released started
-own-released i e j = cond-cases P (laneAt e i .pending && not (runs f)) (λ r. cond-cases P (later (up (e .current)) (e .largest)) (λ q. a) (λ q. let b = own-started f j in record { online = b .online ∙ a .online; queues = b .queues ∙ a .queues })) (λ r. a)
+unfolding released
+own-released i e j = cond-cases P (laneAt e i .pending && not (runs f)) (λ r. ended-cases P f (λ q. a) (λ q. let b = own-started (withCurrent (up (f .current)) f) j in record { online = b .online ∙ a .online; queues = b .queues ∙ a .queues })) (λ r. a)
   where
     f : Engine
     f = atLane i (setPending false unheld) e
@@ -42,9 +42,9 @@ own-released i e j = cond-cases P (laneAt e i .pending && not (runs f)) (λ r. c
 tidy-alike : (i : ℕ) (f : Lane → Lane) (e : Engine) → ((l : Lane) → (f l .online ≡ l .online) × (f l .pending ≡ l .pending) × (f l .queues ≡ l .queues)) → Disciplined e → Disciplined (atLane i f e)
 tidy-alike i f e h t = record {
   word = t .word;
-  level = level (t .level);
+  level = level-anew e (g .lanes) (e .global) same (t .level);
   some = any-update-same isOnline f (e .lanes) i (λ l. h l .0) ∙ t .some;
-  off = update-cases freshLane (λ (j : ℕ) (l : Lane). l .online ≡ false → isEmpty (l .queues .current) ≡ true) (e .lanes) i f (t .off) (λ o. rw (h (laneAt e i) .2) (t .off i (sym (h (laneAt e i) .0) ∙ o)));
+  off = update-cases freshLane (λ (j : ℕ). OffEmpty) (e .lanes) i f (t .off) (λ o. rw (h (laneAt e i) .2) (t .off i (sym (h (laneAt e i) .0) ∙ o)));
   lanes = λ j. inl (update-cases freshLane (λ (j : ℕ) (l : Lane). Strict g l) (e .lanes) i f (λ j. strict (laneAt e j) (laneAt e j) refl refl (strict-in i e t j))
       (strict (laneAt e i) (f (laneAt e i)) (h (laneAt e i) .1) (h (laneAt e i) .2) (strict-in i e t i)) j);
   global = t .global;
@@ -55,10 +55,6 @@ tidy-alike i f e h t = record {
 
     same : runs g ≡ runs e
     same = any-update-same isPending f (e .lanes) i (λ l. h l .1)
-
-    level : Level e → Level g
-    level (rests a b d) = rests (same ∙ a) b d
-    level (goes a b) = goes (same ∙ a) b
 
     strict : (l k : Lane) → k .pending ≡ l .pending → k .queues ≡ l .queues → Strict e l → Strict g k
     strict l k p q a = rw q (age-map (e .largest) (λ y u. record { word = u .word; before = u .before; waits = λ r. p ∙ u .waits (sym same ∙ r) }) (λ x. x) (λ x. x) a)
@@ -97,13 +93,6 @@ tidy-wentOff i e b s t = tidy-advancedGlobal _ shut
     same : runs g ≡ runs e
     same = any-update-same isPending emptied (e .lanes) i (λ l. refl)
 
-    level : Level e → Level g
-    level (rests a b d) = rests (same ∙ a) b d
-    level (goes a b) = goes (same ∙ a) b
-
-    strict : (l : Lane) → Strict e l → Strict g l
-    strict l a = age-map (e .largest) (λ y u. record { word = u .word; before = u .before; waits = λ r. u .waits (sym same ∙ r) }) (λ x. x) (λ x. x) a
-
     retype : Clean e (e .global) → Clean g (g .global)
     retype (none a b) = none a b
     retype (old a b) = old a b
@@ -113,10 +102,10 @@ tidy-wentOff i e b s t = tidy-advancedGlobal _ shut
     tg : Disciplined g
     tg = record {
       word = t .word;
-      level = level (t .level);
+      level = level-anew e (g .lanes) (g .global) same (t .level);
       some = any-update-alike isOnline emptied (setOnline false) (e .lanes) i (λ l. refl) ∙ s;
-      off = update-cases freshLane (λ (j : ℕ) (l : Lane). l .online ≡ false → isEmpty (l .queues .current) ≡ true) (e .lanes) i emptied (t .off) (λ o. refl);
-      lanes = λ j. inl (update-cases freshLane (λ (j : ℕ) (l : Lane). Strict g l) (e .lanes) i emptied (λ j. strict (laneAt e j) (strict-in i e t j)) (none refl refl) j);
+      off = update-cases freshLane (λ (j : ℕ). OffEmpty) (e .lanes) i emptied (t .off) (λ o. refl);
+      lanes = λ j. inl (update-cases freshLane (λ (j : ℕ) (l : Lane). Strict g l) (e .lanes) i emptied (λ j. strict-anew e (g .lanes) (g .global) (λ r. sym same ∙ r) (laneAt e j) (strict-in i e t j)) (none refl refl) j);
       global = ⊎-elim (λ a. inl (retype a)) (λ a. absurd (a .0)) (t .global);
     }
 

@@ -4,15 +4,16 @@ use mathlib.Core.Path.{_≡_, refl, sym, ap, _∙_}
 use mathlib.Core.Logic.{inl, ⊎-elim}
 use mathlib.Core.Bool.{Bool, true, false, not, cond, _&&_}
 use lib.ListN.{length}
-use Rattle.model.specs.Word.{up, later}
+use Rattle.model.specs.Word.{up}
 use Rattle.model.specs.Lists.{update, any, isEmpty}
 use Rattle.model.specs.State.{Snapshot, unheld, held, Queues, Lane, Engine, isHeld}
-use Rattle.model.specs.Engine.{freshLane, awaiting, isPending, emptied, laneAt, setPending, setQueues, setOnline, withCurrent, withLargest, withGlobal, atLane, runs, started, released, settled, ready, target, batched, requested, advancedLane, advancedGlobal, quiesced, sampled, clocked, taken, wentOff, ended}
+use Rattle.model.specs.Engine.{freshLane, awaiting, isPending, emptied, laneAt, setPending, setQueues, setOnline, withCurrent, withLargest, withGlobal, atLane, runs, started, released, settled, ready, target, batched, requested, advancedLane, advancedGlobal, quiesced, sampled, clocked, taken, wentOff}
 use Rattle.model.specs.Rules.{isOnline}
 use Rattle.laws.specs.Tests.{clash, and-true, cond-cases}
 use Rattle.laws.specs.Lists.{update-cases, update-update, map-cases, any-update-same, any-true}
+use Rattle.representation.specs.Frame.{ended-cases}
 use Rattle.representation.specs.Requests.{raised}
-use Rattle.representation.specs.Ages.{none as noneA, old, now, soon, Strict, Clean, Level, rests, goes, Disciplined}
+use Rattle.representation.specs.Ages.{none as noneA, old, now, soon, Strict, Clean, Disciplined, level-anew, strict-anew}
 use Rattle.representation.specs.Discipline.{own-released, tidy-clocked, tidy-wentOff}
 use Rattle.representation.specs.WellFormed.{LaneFits, SnapshotFits, Generations}
 
@@ -45,8 +46,8 @@ module _ (n : ℕ) where
 
   -- lane i is dropped already
   fits-released : (i : ℕ) (e : Engine) → Fits (atLane i (setPending false unheld) e) → Fits (released i e)
-  unfolding ended later released
-  fits-released i e f = cond-cases Fits (laneAt e i .pending && not (runs g)) (λ r. cond-cases Fits (later (up (e .current)) (e .largest)) (λ q. f) (λ q. fits-started (withCurrent (up (e .current)) g) f)) (λ r. f)
+  unfolding released
+  fits-released i e f = cond-cases Fits (laneAt e i .pending && not (runs g)) (λ r. ended-cases Fits g (λ q. f) (λ q. fits-started (withCurrent (up (e .current)) g) f)) (λ r. f)
     where
       g : Engine
       g = atLane i (setPending false unheld) e
@@ -59,7 +60,7 @@ module _ (n : ℕ) where
   queued-fits q l o f = record { counts = f .counts; lookup = f .lookup; snapshot = f .snapshot; off = λ x. clash o x }
 
   fits-advancedLane : (i : ℕ) (e : Engine) → laneAt e i .online ≡ true → Fits e → Fits (advancedLane i e)
-  unfolding advancedLane ready settled target
+  unfolding advancedLane
   fits-advancedLane i e o f = cond-cases Fits (ready q)
       (λ r. fits-requested (target e) (atLane i (setQueues (batched (target e) q)) e) (fits-at i (setQueues (batched (target e) q)) e (queued-fits _ (laneAt e i) o (f i)) f))
       (λ r. fits-at i (setQueues q) e (queued-fits _ (laneAt e i) o (f i)) f)
@@ -68,20 +69,20 @@ module _ (n : ℕ) where
       q = settled (e .current) (laneAt e i .queues)
 
   fits-advancedGlobal : (e : Engine) → Fits e → Fits (advancedGlobal e)
-  unfolding advancedGlobal ready settled target
+  unfolding advancedGlobal
   fits-advancedGlobal e f = cond-cases Fits (ready q) (λ r. fits-requested (target e) (withGlobal (batched (target e) q) e) f) (λ r. f)
     where
       q : Queues
       q = settled (e .current) (e .global)
 
   sampled-fits : (l : Lane) → LaneFits n l → LaneFits n (sampled l)
-  unfolding isHeld sampled
+  unfolding sampled
   sampled-fits l f = cond-cases (LaneFits n) (l .pending && not (isHeld (l .snapshot)))
       (λ r. record { counts = f .counts; lookup = f .lookup; snapshot = (refl, f .counts); off = λ o. clash (and-true (l .pending) (not (isHeld (l .snapshot))) r .0) (f .off o .pending) })
       (λ r. f)
 
   pub fits-clocked : (i : ℕ) (e : Engine) → laneAt e i .online ≡ true → Fits e → Fits (clocked i e)
-  unfolding advancedGlobal advancedLane clocked released sampled update
+  unfolding clocked
   fits-clocked i e o f = fits-at i sampled h (sampled-fits (laneAt h i) (k i)) k
     where
       g : Engine
@@ -100,7 +101,7 @@ module _ (n : ℕ) where
       k = fits-advancedGlobal (advancedLane i g) (fits-advancedLane i g lit j)
 
   pub fits-wentOff : (i : ℕ) (e : Engine) → laneAt e i .reading ≡ false → Fits e → Fits (wentOff i e)
-  unfolding advancedGlobal released wentOff
+  unfolding wentOff
   fits-wentOff i e r f = fits-advancedGlobal (released i (atLane i emptied d)) (fits-released i (atLane i emptied d) (rw (update-update (e .lanes) i emptied (setPending false unheld)) (fits-at i (λ (l : Lane). setPending false unheld (emptied l)) e gone f)))
     where
       d : Engine
@@ -124,7 +125,7 @@ pub record Steady (l k : Lane) : Type 0 where
 pub generations-at : (i : ℕ) (f : Lane → Lane) (e : Engine) → ((l : Lane) → Steady l (f l)) → Generations e → Generations (atLane i f e)
 generations-at i f e h t = record {
   word = t .word;
-  largest = level (t .largest);
+  largest = level-anew e (g .lanes) (e .global) alike (t .largest);
   lanes = update-cases freshLane (λ (j : ℕ) (l : Lane). Strict g l) (e .lanes) i f (λ j. strict (laneAt e j) (laneAt e j) (record { pending = refl; current = refl; generation = refl }) (t .lanes j)) (strict (laneAt e i) (f (laneAt e i)) (h (laneAt e i)) (t .lanes i));
   global = t .global;
 }
@@ -135,10 +136,6 @@ generations-at i f e h t = record {
     alike : runs g ≡ runs e
     alike = any-update-same isPending f (e .lanes) i (λ l. h l .pending)
 
-    level : Level e → Level g
-    level (rests a b d) = rests (alike ∙ a) b d
-    level (goes a b) = goes (alike ∙ a) b
-
     strict : (l k : Lane) → Steady l k → Strict e l → Strict g k
     strict l k u (noneA a b) = noneA (ap isEmpty (u .current) ∙ a) (u .generation ∙ b)
     strict l k u (old a b) = old (ap isEmpty (u .current) ∙ a) (record { word = rw (u .generation) (b .word); before = ap up (u .generation) ∙ b .before; waits = λ r. u .pending ∙ b .waits (sym alike ∙ r) })
@@ -146,20 +143,10 @@ generations-at i f e h t = record {
     strict l k u (soon a b d) = soon (ap isEmpty (u .current) ∙ a) (u .generation ∙ b) d
 
 pub generations-global : (q : Queues) (e : Engine) → q .current ≡ e .global .current → q .generation ≡ e .global .generation → Generations e → Generations (withGlobal q e)
-generations-global q e a b t = record { word = t .word; largest = level (t .largest); lanes = λ i. strict (laneAt e i) (t .lanes i); global = clean (t .global) }
+generations-global q e a b t = record { word = t .word; largest = level-anew e (e .lanes) q refl (t .largest); lanes = λ i. strict-anew e (e .lanes) q (λ r. r) (laneAt e i) (t .lanes i); global = clean (t .global) }
   where
     g : Engine
     g = withGlobal q e
-
-    level : Level e → Level g
-    level (rests a b d) = rests a b d
-    level (goes a b) = goes a b
-
-    strict : (l : Lane) → Strict e l → Strict g l
-    strict l (noneA a b) = noneA a b
-    strict l (old a b) = old a (record { word = b .word; before = b .before; waits = b .waits })
-    strict l (now a b d) = now a b d
-    strict l (soon a b d) = soon a b d
 
     clean : Clean e (e .global) → Clean g q
     clean (noneA c d) = noneA (ap isEmpty a ∙ c) (b ∙ d)

@@ -24,6 +24,7 @@ inLane x l = inQueues x (l .queues)
 abbrev pub queued : ℕ → Engine → ℕ
 queued x e = inQueues x (e .global) + sum (inLane x) (e .lanes)
 
+-- f has the sections and lookups of e and queues each slot as often; a reading lane stays on
 pub record Frame (e f : Engine) : Type 0 where
   pub size : length (f .lanes) ≡ length (e .lanes)
   pub reading : (i : ℕ) → laneAt f i .reading ≡ laneAt e i .reading
@@ -89,9 +90,14 @@ frame-started e = record {
 frame-numbers : (c m : ℕ) (e : Engine) → Frame e (withCurrent c (withLargest m e))
 frame-numbers c m e = record { size = refl; reading = λ i. refl; lookup = λ i. refl; online = λ i r o. o; once = λ x. refl }
 
-frame-ended : (e : Engine) → Frame e (ended e)
+-- the end of a period: the current generation is one more, and if the largest requested is not earlier, a period begins
+pub ended-cases : (P : Engine → Type 0) (e : Engine) → (later (up (e .current)) (e .largest) ≡ true → P (withCurrent (up (e .current)) e))
+    → (later (up (e .current)) (e .largest) ≡ false → P (started (withCurrent (up (e .current)) e))) → P (ended e)
 unfolding ended
-frame-ended e = cond-cases (Frame e) (later (up (e .current)) (e .largest)) (λ t. n) (λ t. frame-trans n (frame-started _))
+ended-cases P e f g = cond-cases P (later (up (e .current)) (e .largest)) f g
+
+frame-ended : (e : Engine) → Frame e (ended e)
+frame-ended e = ended-cases (Frame e) e (λ t. n) (λ t. frame-trans n (frame-started _))
   where
     n : Frame e (withCurrent (up (e .current)) e)
     n = frame-numbers (up (e .current)) (e .largest) e
@@ -124,7 +130,7 @@ in-batched x g q h = omega (arith, count-empty x (q .current) (and-true (isEmpty
 frame-queues : (i : ℕ) (q : Queues) (e : Engine) → ((x : ℕ) → inQueues x q ≡ inLane x (laneAt e i)) → Frame e (atLane i (setQueues q) e)
 frame-queues i q e h = frame-lane i (setQueues q) e (record { reading = refl; lookup = refl; online = λ r o. o }) h
 
-pub frame-advancedLane : (i : ℕ) (e : Engine) → Frame e (advancedLane i e)
+frame-advancedLane : (i : ℕ) (e : Engine) → Frame e (advancedLane i e)
 unfolding advancedLane
 frame-advancedLane i e = cond-cases (Frame e) (ready q)
     (λ t. frame-trans (frame-queues i (batched (target e) q) e (λ x. in-batched x (target e) q t ∙ in-settled x (e .current) (laneAt e i .queues))) (frame-requested (target e) _))
@@ -133,7 +139,7 @@ frame-advancedLane i e = cond-cases (Frame e) (ready q)
     q : Queues
     q = settled (e .current) (laneAt e i .queues)
 
-pub frame-advancedGlobal : (e : Engine) → Frame e (advancedGlobal e)
+frame-advancedGlobal : (e : Engine) → Frame e (advancedGlobal e)
 unfolding advancedGlobal
 frame-advancedGlobal e = cond-cases (Frame e) (ready q)
     (λ t. frame-trans (frame-global (batched (target e) q) e (λ x. in-batched x (target e) q t ∙ in-settled x (e .current) (e .global))) (frame-requested (target e) _))

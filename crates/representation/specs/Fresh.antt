@@ -23,7 +23,7 @@ use Rattle.representation.specs.Ages.{none as noneA, rests}
 use Rattle.representation.specs.WellFormed.{WellFormed, LaneFits, chained}
 
 nothing-queued : (x n : ℕ) → sum (inLane x) (replicate n freshLane) ≡ 0
-unfolding count fresh sizesFit
+unfolding count
 nothing-queued x zero = refl
 nothing-queued x (suc n) = omega (arith, nothing-queued x n)
 
@@ -54,7 +54,7 @@ module _ (z : Sizes) where
   unchained x = refl
 
   pub fresh-wellFormed : sizesFit z ≡ true → WellFormed (fresh z)
-  unfolding count fresh sizesFit isEmpty
+  unfolding count fresh isEmpty
   fresh-wellFormed h = record {
     sizes = h;
     lanes = length-replicate (laneCount z) freshLane;

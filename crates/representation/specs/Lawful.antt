@@ -18,7 +18,7 @@ use Rattle.model.specs.Table.{productAt}
 use Rattle.model.specs.Memory.{at, low as lowWord, high as highWord, sizes, wide, wholeOf, flag, flags, contents, lookupCode, lookupPosition, snapshotCount, cabinetMask, pendingAt, isNotZero, laneWords, laneWord, slotWords, slotWord, allQueues, readProduct}
 use Rattle.model.specs.Rules.{wrongCode, wrongProduct}
 use Rattle.model.specs.Legal.{legal, codeOf, periodRuns, largestFits}
-use Rattle.laws.specs.Tests.{clash, or-left, or-right}
+use Rattle.laws.specs.Tests.{clash, not-not, or-left, or-right}
 use Rattle.laws.specs.Lists.{take-map-from, map-from-getD}
 use Rattle.laws.specs.Counts.{count-append, distinct-map-intro}
 use Rattle.laws.specs.Successors.{successorIn-out}
@@ -27,7 +27,8 @@ use Rattle.laws.specs.Masks.{mask-lt, mask-from-lt}
 use Rattle.representation.specs.Ages.{none as noneA, old, now, soon, Age, Strict, Clean, Level, rests, goes}
 use Rattle.representation.specs.WellFormed.{WellFormed, LookupFits, SnapshotFits, SlotOrNone}
 use Rattle.representation.specs.Ranges.{code-right, product-right}
-use Rattle.representation.specs.Sentences.{Facts, ContentsFit, LookupRest, Bare, Blank, Near, NearGlobal, facts-legal}
+use Rattle.representation.specs.Facts.{Facts, ContentsFit, LookupRest, Bare, Blank, Near, NearGlobal}
+use Rattle.representation.specs.Sentences.{facts-legal}
 use Rattle.representation.specs.Fields.{top, head, end, mask, lane, slot, value, endWords}
 use Rattle.representation.specs.Writes.{Image}
 use Rattle.representation.specs.Standing.{fit, stands, chain-once, head-range, chainLink-range, queueLink-range, position-range, free-ends, global-ends, lane-ends}
@@ -218,11 +219,7 @@ module _ (e : Engine) (t : Table) (m : List ℕ) (w : WellFormed (sized e t m)) 
   mask-word = holds (top cabinetMaskAt) (omega arith)
 
   runs-is : periodRuns m ≡ runs e
-  runs-is = ap (λ (x : ℕ). not (eqb x 0)) mask-word ∙ ap not (cabinetMask-runs s (fit s w .somePlaces) (w .lanes)) ∙ twice (runs e)
-    where
-      twice : (b : Bool) → not (not b) ≡ b
-      twice true = refl
-      twice false = refl
+  runs-is = ap (λ (x : ℕ). not (eqb x 0)) mask-word ∙ ap not (cabinetMask-runs s (fit s w .somePlaces) (w .lanes)) ∙ not-not (runs e)
 
   -- ---- slots
 

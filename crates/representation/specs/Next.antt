@@ -61,7 +61,7 @@ module _ (s : State) (w : WellFormed s) where
     generations = a .generations;
   }
 
-  -- ---- one laneOf anew
+  -- ---- one lane anew
 
   at-lane : (i : ℕ) (f : Lane → Lane) → ((l : Lane) → f l .pending ≡ l .pending) → ((l : Lane) → f l .queues ≡ l .queues) → LaneFits n (f (laneOf s i)) → WellFormed (withLane s i f)
   at-lane i f p q k = anew (atLane i f e) t (record {
@@ -100,7 +100,7 @@ module _ (s : State) (w : WellFormed s) where
   well-start i c r h = at-lane i (setLookup (running c (first (chainOf t c)))) (λ l. refl) (λ l. refl) (looks i _ (r, h, head-range s w (c % chainCount)))
 
   well-step : (i : ℕ) → WellFormed (withLane s i (stepped t))
-  unfolding continued outcome
+  unfolding continued
   well-step i = at-lane i (stepped t) (λ l. refl) (λ l. refl) (looks i (continued t (laneOf s i .lookup) (outcome t (laneOf s i .lookup))) (go (laneOf s i .lookup) (w .fits i .lookup) (outcome t (laneOf s i .lookup))))
     where
       go : (k : Lookup) → LookupFits n (laneOf s i .reading) k → (o : Outcome) → LookupFits n (laneOf s i .reading) (continued t k o)
@@ -142,7 +142,7 @@ module _ (s : State) (w : WellFormed s) where
   -- ---- the table anew
 
   well-add : (p : Product) → isEmpty (t .free) ≡ false → present t (p .code) ≡ false → ProductFits p → WellFormed (with s e (added p t))
-  unfolding added isEmpty
+  unfolding added
   well-add p f a h = anew e (added p t) (record {
     size = refl;
     fits = w .fits;
@@ -152,7 +152,7 @@ module _ (s : State) (w : WellFormed s) where
     generations = w .generations;
   })
 
-  -- slot o leaves its chain for laneOf i's next queue
+  -- slot o leaves its chain for lane i's next queue
   well-retire : (i o : ℕ) (u : Table) → i < laneCount (s .sizes) → laneOf s i .online ≡ true → TableFits n u → ((x : ℕ) → inTable x u + mark x o ≡ inTable x t) → u .links ≡ set (t .links) o (linkOf t o)
       → WellFormed (with s (retired s i o) u)
   well-retire i o u b lit h same l = anew (retired s i o) u (record {
@@ -170,7 +170,7 @@ module _ (s : State) (w : WellFormed s) where
 
   well-replace : (i : ℕ) (p : Product) → i < laneCount (s .sizes) → laneOf s i .online ≡ true → isEmpty (t .free) ≡ false → present t (p .code) ≡ true → ProductFits p
       → WellFormed (with s (retired s i (slotOf t (p .code))) (replaced p t))
-  unfolding isEmpty replaced
+  unfolding replaced
   well-replace i p b o f h k = well-retire i (slotOf t (p .code)) (replaced p t) b o (replaced-fits n t (w .table) (fit s w .fewSlots) (table-once s w) (table-below s w) p f h k) (λ x. in-replaced t (w .table .chains) x p f h) refl
 
   well-delete : (i c : ℕ) → i < laneCount (s .sizes) → laneOf s i .online ≡ true → present t c ≡ true → WellFormed (with s (retired s i (slotOf t c)) (deleted c t))
@@ -179,7 +179,7 @@ module _ (s : State) (w : WellFormed s) where
 
   well-back : (i : ℕ) → i < laneCount (s .sizes) → laneOf s i .online ≡ true → (isEmpty (laneOf s i .queues .done) && isEmpty (e .global .done)) ≡ false
       → WellFormed (with s (lessHandedBack s i) (reclaimed (handedBack s i) t))
-  unfolding isEmpty reclaimed
+  unfolding reclaimed
   well-back i b o h = anew (lessHandedBack s i) (reclaimed k t) (record {
     size = cond-cases (λ (f : Engine). length (f .lanes) ≡ length (e .lanes)) (fromGlobal s i) (λ r. refl) (λ r. length-update (e .lanes) i _);
     fits = cond-cases (Fits n) (fromGlobal s i) (λ r. w .fits)
@@ -207,7 +207,7 @@ module _ (s : State) (w : WellFormed s) where
   -- ---- all calls
 
   well-performed : (o : Op) → firstOf (causes s o) ≡ 0 → WellFormed (performed s o)
-  unfolding causes firstOf performed added any clocked continued counted deleted first isEmpty isRunning next outcome reclaimed replaced update wentOff
+  unfolding causes performed
   well-performed (add i c d m) h =
       let (known, (online, (inRange, (missing, (some, rest))))) = clear (causes s (add i c d m)) (omega arith) h in
       well-add (product c d m) some missing (product-fits c d m inRange)

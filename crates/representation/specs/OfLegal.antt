@@ -17,14 +17,15 @@ use Rattle.model.specs.Engine.{freshLane, laneAt, runs}
 use Rattle.model.specs.Table.{blank, productAt}
 use Rattle.model.specs.Memory.{Words, at, wide, flag, sizes, allQueues, contents, slotWord, readLane, readLookup, readSnapshot, readCounts, readProduct, state}
 use Rattle.model.specs.Legal.{codeOf, periodRuns, largestFits}
-use Rattle.laws.specs.Tests.{clash, or-cases}
+use Rattle.laws.specs.Tests.{clash, not-not, or-cases}
 use Rattle.laws.specs.Counts.{distinct-map, count-concat, member-true, member-false}
 use Rattle.laws.specs.Generations.{up-down, up-later, up-up-later}
 use Rattle.representation.specs.Frame.{queued}
 use Rattle.representation.specs.Ages.{none as noneA, old, now, soon, Strict, Clean, Level, rests, goes}
 use Rattle.representation.specs.WellFormed.{WellFormed, LaneFits, TableFits, ProductFits, Counts, LookupFits, SnapshotFits, Off, SlotOrNone, standing, chained}
 use Rattle.representation.specs.Ranges.{code-fits, product-fits}
-use Rattle.representation.specs.Sentences.{Facts, Legal, Near, NearGlobal, sizes-fit}
+use Rattle.representation.specs.Facts.{Facts, Legal, Near, NearGlobal}
+use Rattle.representation.specs.Sentences.{sizes-fit}
 use Rattle.representation.specs.Fields.{top}
 use Rattle.representation.specs.Reading.{state-lanes, state-lane, state-chains, state-products, state-product, state-links, state-link}
 use Rattle.representation.specs.Walked.{stands-once, stands-below}
@@ -83,17 +84,17 @@ module _ (m : List ℕ) (l : Legal m) (word : Words m) where
   abbrev s : State
   s = state m
 
-  abbrev z : Sizes
-  z = sizes m
-
-  abbrev f : Facts m s
-  f = l .facts
-
   abbrev e : Engine
   e = s .engine
 
   abbrev t : Table
   t = s .table
+
+  abbrev z : Sizes
+  z = sizes m
+
+  abbrev f : Facts m s
+  f = l .facts
 
   -- ---- lanes
 
@@ -245,11 +246,7 @@ module _ (m : List ℕ) (l : Legal m) (word : Words m) where
   runs-is =
       ap (λ (x : ℕ). not (eqb x 0)) (state-image m l word (top cabinetMaskAt) (omega arith))
       ∙ ap not (cabinetMask-runs s (sizes-fit z (l .contents .inRange) .somePlaces) (state-lanes m))
-      ∙ twice (runs e)
-    where
-      twice : (b : Bool) → not (not b) ≡ b
-      twice true = refl
-      twice false = refl
+      ∙ not-not (runs e)
 
   current-word : e .current < wordLimit
   unfolding state

@@ -18,8 +18,7 @@ use Rattle.laws.specs.Counts.{mark, count-append, count-first, count-swapped, c
 use Rattle.representation.specs.Frame.{inLane, queued}
 use Rattle.representation.specs.Searches.{slotIn-in}
 
--- ---- slots in chains and queues
-
+-- how often slot x stands in chains and in the free queue
 abbrev pub inTable : ℕ → Table → ℕ
 inTable x t = sum (count x) (t .chains) + count x (t .free)
 

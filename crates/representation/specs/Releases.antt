@@ -6,15 +6,15 @@ use mathlib.Core.Logic.{_⊎_, inl, inr, ⊎-elim, _≢_}
 use mathlib.Core.Bool.{Bool, true, false}
 use lib.Dec.{eqb}
 use Rattle.model.specs.Word.{up, later}
-use Rattle.model.specs.Lists.{isEmpty}
 use Rattle.model.specs.State.{unheld, Lane, Engine}
-use Rattle.model.specs.Engine.{freshLane, isPending, laneAt, setPending, withCurrent, atLane, runs, started, released, ended}
+use Rattle.model.specs.Engine.{freshLane, isPending, laneAt, setPending, withCurrent, atLane, runs, started, released}
 use Rattle.model.specs.Rules.{isOnline}
 use Rattle.laws.specs.Generations.{later-self, up-later, up-word, up-up-later}
-use Rattle.laws.specs.Tests.{clash, cond-cases, same-or}
+use Rattle.laws.specs.Tests.{clash, same-or}
 use Rattle.laws.specs.Lists.{update-cases, getD-update-other, any-update-same, any-false-intro}
+use Rattle.representation.specs.Frame.{ended-cases}
 use Rattle.representation.specs.Requests.{none-pending}
-use Rattle.representation.specs.Ages.{Strict, Loose, Level, rests, goes, Tidy, Disciplined, LooseAt, age-map, age-next, loosen, level-moving}
+use Rattle.representation.specs.Ages.{Strict, Loose, Level, rests, goes, Tidy, Disciplined, LooseAt, age-map, age-next, loosen, level-moving, OffEmpty}
 use Rattle.representation.specs.Advances.{runs-of, tidy-started}
 
 module _ (i : ℕ) (e : Engine) (t : Disciplined e) where
@@ -50,7 +50,7 @@ module _ (i : ℕ) (e : Engine) (t : Disciplined e) where
     word = t .word;
     level = l;
     some = any-update-same isOnline (setPending false unheld) (e .lanes) i (λ l. refl) ∙ t .some;
-    off = update-cases freshLane (λ (j : ℕ) (l : Lane). l .online ≡ false → isEmpty (l .queues .current) ≡ true) (e .lanes) i (setPending false unheld) (t .off) (t .off i);
+    off = update-cases freshLane (λ (j : ℕ). OffEmpty) (e .lanes) i (setPending false unheld) (t .off) (t .off i);
     lanes = λ j. lanes j (same-or j i);
     global = ⊎-elim (λ a. inl a) (λ a. absurd (a .0)) (t .global);
   }
@@ -67,7 +67,7 @@ module _ (i : ℕ) (e : Engine) (t : Disciplined e) where
     word = up-word (e .current);
     level = tt;
     some = any-update-same isOnline (setPending false unheld) (e .lanes) i (λ l. refl) ∙ t .some;
-    off = update-cases freshLane (λ (j : ℕ) (l : Lane). l .online ≡ false → isEmpty (l .queues .current) ≡ true) (e .lanes) i (setPending false unheld) (t .off) (t .off i);
+    off = update-cases freshLane (λ (j : ℕ). OffEmpty) (e .lanes) i (setPending false unheld) (t .off) (t .off i);
     lanes = λ j. lanes j (same-or j i);
     global = inr (tt, ⊎-elim (λ a. age-next (λ y u. absurd u) (λ g y. rw g (up-later (t .word))) a) (λ a. absurd (a .0)) (t .global));
   }
@@ -81,7 +81,7 @@ module _ (i : ℕ) (e : Engine) (t : Disciplined e) where
           (age-next (λ y u. clash (u .waits r) (sym (less-kept j .3 (d .0)) ∙ none-pending less n j)) (λ g y. record { word = rw g (t .word); before = ap up g; waits = λ x. clash x n }) (strict-in j)))
 
   pub tidy-released : LooseAt i (released i e)
-  unfolding less ended released
+  unfolding less released
   tidy-released = go (laneAt e i .pending) (runs less) refl refl
     where
       go : (a b : Bool) → laneAt e i .pending ≡ a → runs less ≡ b → LooseAt i (released i e)
@@ -96,7 +96,7 @@ module _ (i : ℕ) (e : Engine) (t : Disciplined e) where
               each : (j : ℕ) → (j ≡ i) ⊎ ((j ≢ i) × (eqb j i ≡ false)) → laneAt e j .pending ≡ false
               each j (inl d) = rw d p
               each j (inr d) = sym (less-kept j .3 (d .0)) ∙ none-pending less r j
-      go true false p r = rw (p, r) (cond-cases (LooseAt i) (later (up (e .current)) (e .largest)) stops starts)
+      go true false p r = rw (p, r) (ended-cases (LooseAt i) less stops starts)
         where
           w : Tidy (λ (e : Engine). Unit {0}) (λ (j : ℕ). j ≡ i) (Unit {0}) (withCurrent (up (e .current)) less)
           w = tidy-over (runs-of e i p) r

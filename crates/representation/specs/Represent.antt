@@ -1,24 +1,23 @@
--- A legal memory holds the words of the state that it reads as: `words-state`.
+-- The fields of a legal memory of words are those of the state that it reads as.
 use Prim.Native.Nat.{ℕ, zero, suc, _+_, _*_, _<_}
 use mathlib.Core.Bool.{Bool, true, false}
 use mathlib.Core.Path.{_≡_, refl, ap, ap₂, sym, _∙_}
 use mathlib.Core.List.{List, [], _∷_, _++_, map}
 use native.Mathlib.Omega.{arith}
-use lib.ListN.{getD, take, drop}
-use lib.Seq.{take-at}
+use lib.ListN.{getD}
 use lib.Arith.{digits-lt, digits-div, digits-mod}
 use Rattle.model.specs.Lists.{first, last, from, mask as maskOf}
 use Rattle.model.specs.State.{Sizes, State, Product, Lane, laneCount}
-use Rattle.model.specs.Layout.{chainCount, kinds, queueWidth, queuesWidth, currentOffset, doneOffset, lastOffset, contentsLength, headsAt, freeAt, currentGenerationAt, largestGenerationAt, cabinetMaskAt, flagsAt, quiescentAt, snapshotAt, generationAt, queuesAt, lookupAt, positionAt, chainLinkAt, queueLinkAt, laneLength, slotLength, slotAddress, laneAddress, total}
-use Rattle.model.specs.Memory.{Words, words, at, wide, flag, flags, pendingAt, isNotZero, maskWord, laneMask, laneMasks, cabinetMask, laneWords, laneWord, slotWords, slotWord, low, high, headOf, readLookup, readSnapshot, snapshotCount, lookupCode, lookupPosition, state, sizes, contents, readProduct, readLane}
+use Rattle.model.specs.Layout.{chainCount, kinds, queueWidth, queuesWidth, currentOffset, doneOffset, lastOffset, contentsLength, headsAt, freeAt, currentGenerationAt, largestGenerationAt, cabinetMaskAt, flagsAt, quiescentAt, snapshotAt, generationAt, queuesAt, lookupAt, positionAt, chainLinkAt, queueLinkAt, laneLength, slotLength, slotAddress, laneAddress}
+use Rattle.model.specs.Memory.{Words, at, wide, flag, flags, pendingAt, isNotZero, maskWord, laneMask, laneMasks, cabinetMask, laneWords, laneWord, slotWords, slotWord, low, high, headOf, readLookup, readSnapshot, snapshotCount, lookupCode, lookupPosition, state, sizes, contents, readProduct, readQueue, readLane}
 use Rattle.laws.specs.Lists.{map-from-alike, map-map-from, getD-map-below, take-map-from}
 use Rattle.laws.specs.Masks.{mask-flags}
 use Rattle.representation.specs.WellFormed.{SlotOrNone}
-use Rattle.representation.specs.Sentences.{Facts, Legal}
+use Rattle.representation.specs.Facts.{Facts, Legal}
 use Rattle.representation.specs.Reading.{state-lane, state-chain, state-product, isRunning-readLookup, isHeld-readSnapshot}
-use Rattle.representation.specs.Walked.{walkBy, walkBy-first, chain-link, queue-link}
+use Rattle.representation.specs.Walked.{slotWalk-first, chain-link, queue-link}
 use Rattle.representation.specs.Fields.{top, head, end, mask, lane, slot, value, endsLength, endWords, topWords}
-use Rattle.representation.specs.Writes.{Image, writes-none, writes-done, length-words}
+use Rattle.representation.specs.Writes.{Image}
 
 cons : {x y : ℕ} {xs ys : List ℕ} → x ≡ y → xs ≡ ys → x ∷ xs ≡ y ∷ ys
 cons e f = ap₂ (λ (a : ℕ) (r : List ℕ). a ∷ r) e f
@@ -36,11 +35,10 @@ module _ (m : List ℕ) (l : Legal m) (w : Words m) where
   -- ---- the global body
 
   head-is : (k : ℕ) → k < chainCount → headOf (s .table) k ≡ at m (headsAt + k)
-  unfolding first
-  head-is k b = ap first (state-chain m k b) ∙ walkBy-first m chainLinkAt (at m (headsAt + k)) (f .globalLinks k (omega arith))
+  head-is k b = ap first (state-chain m k b) ∙ slotWalk-first m chainLinkAt (at m (headsAt + k)) _ (omega arith) (f .globalLinks k (omega arith))
 
-  first-is : (k : ℕ) → k < queueWidth + queuesWidth → first (walkBy m queueLinkAt (at m (freeAt + k))) ≡ at m (freeAt + k)
-  first-is k b = walkBy-first m queueLinkAt (at m (freeAt + k)) (ends k b)
+  first-is : (k : ℕ) → k < queueWidth + queuesWidth → first (readQueue m (freeAt + k)) ≡ at m (freeAt + k)
+  first-is k b = slotWalk-first m queueLinkAt (at m (freeAt + k)) _ (omega arith) (ends k b)
     where
       ends : (k : ℕ) → k < queueWidth + queuesWidth → SlotOrNone (z .slots) (at m (freeAt + k))
       ends k b = let e : headsAt + (chainCount + k) ≡ freeAt + k = omega arith in let h = f .globalLinks (chainCount + k) (omega arith) in rw e at h
@@ -129,8 +127,8 @@ module _ (m : List ℕ) (l : Legal m) (w : Words m) where
     lookup-is true e = record { low = low-wide _; high = high-wide _ ∙ word _ (lookupAt + 1) (omega arith); position = word _ positionAt (omega arith) }
     lookup-is false e = let r = f .lookupsRest i b (flag-clear 2 e) in record { low = sym (r .low); high = sym (r .high); position = sym (r .position) }
 
-    end-is : (k : ℕ) → k < queuesWidth → (x : ℕ) → x ≡ a + (queuesAt + k) → first (walkBy m queueLinkAt (at m x)) ≡ laneWord m i (queuesAt + k)
-    end-is k h x e = ap (λ (y : ℕ). first (walkBy m queueLinkAt (at m y))) e ∙ walkBy-first m queueLinkAt (laneWord m i (queuesAt + k)) (f .laneEnds i b k h)
+    end-is : (k : ℕ) → k < queuesWidth → (x : ℕ) → x ≡ a + (queuesAt + k) → first (readQueue m x) ≡ laneWord m i (queuesAt + k)
+    end-is k h x e = ap (λ (y : ℕ). first (readQueue m y)) e ∙ slotWalk-first m queueLinkAt (laneWord m i (queuesAt + k)) _ (omega arith) (f .laneEnds i b k h)
 
     lane-words : laneWords (readLane m i) ≡ map (laneWord m i) (from 0 laneLength)
     unfolding laneWords readLane from
@@ -186,10 +184,3 @@ module _ (m : List ℕ) (l : Legal m) (w : Words m) where
       ∙ ap (λ (r : List ℕ). getD r k 0) (lane-words i (b .0))
       ∙ getD-map-below (laneWord m i) laneLength k 0 (b .1))
   state-image (slot i k) b = sym (ap (λ (r : List ℕ). getD r k 0) (slot-words i (b .0)) ∙ getD-map-below (λ k. slotWord m k i) slotLength k 0 (b .1))
-
-  -- the words of the state are the memory's, up to the total
-  pub words-state-facts : words s ≡ take (total z) m
-  unfolding state
-  words-state-facts =
-      sym (take-at (words s) (drop (total z) m) (total z) (length-words s))
-      ∙ sym (ap (take (total z)) (writes-done s m m (value s) (l .contents .long) (writes-none z m (l .contents .long) (value s) state-image) (λ f p. refl)))

@@ -9,7 +9,7 @@ use lib.ListN.{length, getD}
 use Rattle.model.specs.Word.{none}
 use Rattle.model.specs.Lists.{first, from, concat, concatMap, count, successor, successorIn}
 use Rattle.model.specs.State.{Sizes, laneCount, Lookup, idle, running, Snapshot, unheld, held, Lane, Engine, Table, State, isHeld, isRunning}
-use Rattle.model.specs.Layout.{maxSlots, chainCount, kinds, currentOffset, doneOffset, cabinetsAt, placesAt, slotsAt, currentGenerationAt, largestGenerationAt, freeAt, globalQueuesAt, globalGenerationAt, quiescentAt, snapshotAt, generationAt, queuesAt, lookupAt, positionAt, depositAt, materialAt, chainLinkAt, queueLinkAt, laneLength, slotLength, laneAddress, slotAddress}
+use Rattle.model.specs.Layout.{headsAt, maxSlots, chainCount, kinds, currentOffset, doneOffset, cabinetsAt, placesAt, slotsAt, currentGenerationAt, largestGenerationAt, freeAt, globalQueuesAt, globalGenerationAt, quiescentAt, snapshotAt, generationAt, queuesAt, lookupAt, positionAt, depositAt, materialAt, chainLinkAt, queueLinkAt, laneLength, slotLength, laneAddress, slotAddress}
 use Rattle.model.specs.Engine.{laneAt, freshLane}
 use Rattle.model.specs.Table.{blank, productAt}
 use Rattle.model.specs.Memory.{at, contents, sizes, walk, wholeOf, low, high, flag, flags, lookupCode, lookupPosition, snapshotCount, laneWords, slotWords, slotWord, slotField, laneQueues, allQueues, maskWord, readChain, readChains, readQueue, readQueues, readLane, readLookup, readCounts, readSnapshot, readProduct, readLink, state}
@@ -22,7 +22,6 @@ use Rattle.representation.specs.WellFormed.{WellFormed, SnapshotFits}
 use Rattle.representation.specs.Fields.{top, head, end, mask, lane, slot, value}
 use Rattle.representation.specs.Writes.{Image}
 use Rattle.representation.specs.Reading.{length-slotField, getD-slotField}
-use Rattle.representation.specs.Walked.{walkBy}
 use Rattle.representation.specs.Standing.{fit, stands, chain-once, chain-below, queue-once, queue-below}
 use Rattle.representation.specs.Periods.{cabinet-below, flag-laneMask}
 
@@ -31,8 +30,8 @@ use Rattle.representation.specs.Periods.{cabinet-below, flag-laneMask}
 module _ (links : List ℕ) (n : ℕ) (xss : List (List ℕ)) (rest : ℕ → ℕ) (size : length links ≡ n) (few : n ≤ maxSlots)
     (once : (i : ℕ) → count i (concat xss) ≤ 1) (below : (i : ℕ) → 0 < count i (concat xss) → i < n)
     (links-are : (i : ℕ) → i < n → getD links i none ≡ successorIn xss i (rest i)) where
-  walked : (j : ℕ) → walk links (first (getD xss j [])) (suc n) ≡ getD xss j []
-  walked j = walk-back links xs (suc n) (omega arith) (omega (arith, length-at-most n xs inside most)) (λ i b. omega (arith, inside i b)) (linked links xs most next)
+  walked : (j steps : ℕ) → n < steps → walk links (first (getD xss j [])) steps ≡ getD xss j []
+  walked j steps enough = walk-back links xs steps (omega arith) (omega (arith, length-at-most n xs inside most)) (λ i b. omega (arith, inside i b)) (linked links xs most next)
     where
       xs : List ℕ
       xs = getD xss j []
@@ -85,23 +84,26 @@ module _ (e : Engine) (t : Table) (m : List ℕ) where
   module _ (w : WellFormed sized) (holds : Image z m (value sized)) where
     -- ---- chains and queues
 
+    -- a walk that begins at the first of list j, of more steps than there are slots
     walk-link : (k : ℕ) (xss : List (List ℕ)) (rest : ℕ → ℕ) → ((i : ℕ) → count i (concat xss) ≤ 1) → ((i : ℕ) → 0 < count i (concat xss) → i < z .slots)
-        → ((i : ℕ) → i < z .slots → slotWord m k i ≡ successorIn xss i (rest i)) → (j : ℕ) → walkBy m k (first (getD xss j [])) ≡ getD xss j []
-    walk-link k xss rest o b h =
-        walked (slotField m k) (z .slots) xss rest (length-slotField m k) (fit sized w .fewSlots) o b (λ i p. getD-slotField m k i p ∙ h i p)
+        → ((i : ℕ) → i < z .slots → slotWord m k i ≡ successorIn xss i (rest i))
+        → (j h steps : ℕ) → h ≡ first (getD xss j []) → z .slots < steps → walk (slotField m k) h steps ≡ getD xss j []
+    walk-link k xss rest o b g j h steps e enough =
+        ap (λ (i : ℕ). walk (slotField m k) i steps) e
+        ∙ walked (slotField m k) (z .slots) xss rest (length-slotField m k) (fit sized w .fewSlots) o b (λ i p. getD-slotField m k i p ∙ g i p) j steps enough
 
     chains-are : readChains m ≡ t .chains
     unfolding readChains slotWords
     chains-are =
         map-from-getD (readChain m) [] (t .chains) chainCount (w .table .chains)
-        (λ k b. ap (walkBy m chainLinkAt) (holds (head k) b)
-        ∙ walk-link chainLinkAt (t .chains) (λ i. getD (t .links) i none) (chain-once sized w) (chain-below sized w) (λ i p. holds (slot i chainLinkAt) (p, omega arith)) k)
+        (λ k b. walk-link chainLinkAt (t .chains) (λ i. getD (t .links) i none) (chain-once sized w) (chain-below sized w) (λ i p. holds (slot i chainLinkAt) (p, omega arith))
+        k (at m (headsAt + k)) _ (holds (head k) b) (omega arith))
 
     queue-is : (a k : ℕ) → at m a ≡ first (getD (allQueues sized) k []) → readQueue m a ≡ getD (allQueues sized) k []
     unfolding slotWords
     queue-is a k h =
-        ap (walkBy m queueLinkAt) h
-        ∙ walk-link queueLinkAt (allQueues sized) (λ i. none) (queue-once sized w) (queue-below sized w) (λ i p. holds (slot i queueLinkAt) (p, omega arith)) k
+        walk-link queueLinkAt (allQueues sized) (λ i. none) (queue-once sized w) (queue-below sized w) (λ i p. holds (slot i queueLinkAt) (p, omega arith))
+        k (at m a) _ h (omega arith)
 
     global-is : readQueues m globalGenerationAt globalQueuesAt ≡ e .global
     global-is = λ i. record {
@@ -233,7 +235,7 @@ module _ (e : Engine) (t : Table) (m : List ℕ) where
 -- ---- any state that the memory holds has its sizes
 
 module _ (s : State) (m : List ℕ) (holds : Image (s .sizes) m (value s)) where
-  pub sizes-are : sizes m ≡ s .sizes
+  sizes-are : sizes m ≡ s .sizes
   unfolding contents
   sizes-are = λ i. record { cabinets = holds (top cabinetsAt) (omega arith) i; places = holds (top placesAt) (omega arith) i; slots = holds (top slotsAt) (omega arith) i }
 

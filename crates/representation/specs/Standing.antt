@@ -19,7 +19,8 @@ use Rattle.representation.specs.Frame.{inQueues, inLane, queued}
 use Rattle.representation.specs.Places.{inTable}
 use Rattle.representation.specs.WellFormed.{WellFormed, LookupFits, SlotOrNone, standing, chained}
 use Rattle.representation.specs.Ranges.{first-range, last-range, successorIn-range}
-use Rattle.representation.specs.Sentences.{SizesFit, sizes-fit}
+use Rattle.representation.specs.Facts.{SizesFit}
+use Rattle.representation.specs.Sentences.{sizes-fit}
 
 -- ---- counts over all queues
 

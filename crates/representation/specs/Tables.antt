@@ -11,7 +11,7 @@ use lib.Seq.{getD-set-same, getD-set-other}
 use lib.Dec.{eqb}
 use borrow.Author.Tests.{not-true, not-false, eq-eqb, eqb-true}
 use Rattle.model.specs.Word.{none}
-use Rattle.model.specs.Lists.{count, isEmpty, first, tail, without, swapped, update}
+use Rattle.model.specs.Lists.{count, isEmpty, first, tail, without, swapped}
 use Rattle.model.specs.State.{Product, Table}
 use Rattle.model.specs.Layout.{maxSlots, chainCount}
 use Rattle.model.specs.Table.{blank, productAt, chainOf, slotOf, present, linkOf, added, replaced, deleted, reclaimed}
@@ -151,7 +151,7 @@ module _ (n : ℕ) (t : Table) (fits : TableFits n t) (few : n ≤ maxSlots) (on
       other-code x h e = h .notOld (fits .distinct x o (h .was) o-chained (e ∙ sym o-code))
 
       pub replaced-fits : ProductFits p → TableFits n (replaced p t)
-      unfolding count replaced swapped
+      unfolding replaced
       replaced-fits f = record {
         chains = length-update (t .chains) (p .code % chainCount) (swapped o s) ∙ fits .chains;
         products = length-set (t .products) s p ∙ fits .products;
@@ -178,11 +178,11 @@ module _ (n : ℕ) (t : Table) (fits : TableFits n t) (few : n ≤ maxSlots) (on
     d = slotOf t c
 
     fewer : (x : ℕ) → chained x (deleted c t) ≤ chained x t
-    unfolding count deleted without
+    unfolding deleted
     fewer x = omega (arith, sum-update (count x) [] (t .chains) (c % chainCount) (without d) (spot c), count-without x d (chainOf t c) (present-in t c here))
 
     pub deleted-fits : TableFits n (deleted c t)
-    unfolding count deleted update without
+    unfolding deleted
     deleted-fits = record {
       chains = length-update (t .chains) (c % chainCount) (without d) ∙ fits .chains;
       products = fits .products;
@@ -209,11 +209,11 @@ module _ (n : ℕ) (t : Table) (fits : TableFits n t) (few : n ≤ maxSlots) (on
     reclaimed-fits = record {
       chains = fits .chains;
       products = length-set (t .products) h blank ∙ fits .products;
-      links = length-set (t .links) h none ∙ fits .links;
+      links = length-set (t .links) h _ ∙ fits .links;
       onChain = λ k x b. ap (λ (q : Product). q .code % chainCount) (cleared-chained x (omega (arith, chain-le k x))) ∙ fits .onChain k x b;
       distinct = λ x y a b e. fits .distinct x y a b (sym (ap (λ (q : Product). q .code) (cleared-chained x a)) ∙ e ∙ ap (λ (q : Product). q .code) (cleared-chained y b));
       inRange = set-cases blank (λ (x : ℕ) (q : Product). ProductFits q) (t .products) h blank (fits .inRange) (record { code = omega arith; deposit = omega arith; material = omega arith });
-      linkRange = set-cases none (λ (x : ℕ) (v : ℕ). SlotOrNone n v) (t .links) h none (fits .linkRange) (inr refl);
+      linkRange = set-cases none (λ (x : ℕ) (v : ℕ). SlotOrNone n v) (t .links) h _ (fits .linkRange) (inr refl);
       blanks = λ x b. blank-at x b (same-or x h);
     }
       where

@@ -19,48 +19,46 @@ use Rattle.laws.specs.Counts.{count-append, each-below, length-once, member-fal
 use Rattle.laws.specs.Successors.{successorIn-out, successorIn-each}
 use Rattle.laws.specs.Walks.{walk-first, walk-below, walk-successor}
 use Rattle.representation.specs.WellFormed.{SlotOrNone}
-use Rattle.representation.specs.Sentences.{Legal}
+use Rattle.representation.specs.Facts.{Legal}
 use Rattle.representation.specs.Reading.{length-slotField, getD-slotField, state-link}
 
--- ---- a walk by the slots' word k, from h
-
-abbrev pub walkBy : List ℕ → ℕ → ℕ → List ℕ
-walkBy m k h = walk (slotField m k) h (suc (sizes m .slots))
+-- ---- a walk by the slots' word k, from h, of more steps than there are slots
 
 past-none : (n x : ℕ) → SlotOrNone n x → n ≤ x → x ≡ none
 past-none n x (inl p) b = absurd (omega arith)
 past-none n x (inr p) b = p
 
 module _ (m : List ℕ) where
-  pub walkBy-first : (k h : ℕ) → SlotOrNone (sizes m .slots) h → first (walkBy m k h) ≡ h
-  walkBy-first k h r = walk-first (slotField m k) h (suc (sizes m .slots)) (omega arith) (λ b. past-none (sizes m .slots) h r (omega (arith, length-slotField m k)))
+  pub slotWalk-first : (k h n : ℕ) → sizes m .slots < n → SlotOrNone (sizes m .slots) h → first (walk (slotField m k) h n) ≡ h
+  slotWalk-first k h n g r = walk-first (slotField m k) h n (omega arith) (λ b. past-none (sizes m .slots) h r (omega (arith, length-slotField m k)))
 
-  walkBy-below : (k h i : ℕ) → 0 < count i (walkBy m k h) → i < sizes m .slots
-  walkBy-below k h i b = omega (arith, walk-below (slotField m k) h (suc (sizes m .slots)) i b, length-slotField m k)
+  slotWalk-below : (k h n i : ℕ) → 0 < count i (walk (slotField m k) h n) → i < sizes m .slots
+  slotWalk-below k h n i b = omega (arith, walk-below (slotField m k) h n i b, length-slotField m k)
 
-  walkBy-successor : (k : ℕ) → ((i : ℕ) → i < sizes m .slots → SlotOrNone (sizes m .slots) (slotWord m k i))
-      → (h : ℕ) → length (walkBy m k h) ≤ sizes m .slots → (i d : ℕ) → 0 < count i (walkBy m k h) → successor (walkBy m k h) i d ≡ slotWord m k i
-  walkBy-successor k r h l i d b =
+  slotWalk-successor : (k : ℕ) → ((i : ℕ) → i < sizes m .slots → SlotOrNone (sizes m .slots) (slotWord m k i))
+      → (h n : ℕ) → sizes m .slots < n → length (walk (slotField m k) h n) ≤ sizes m .slots
+      → (i d : ℕ) → 0 < count i (walk (slotField m k) h n) → successor (walk (slotField m k) h n) i d ≡ slotWord m k i
+  slotWalk-successor k r h n g l i d b =
       walk-successor (slotField m k)
       (λ j p q. let p′ : j < sizes m .slots = omega (arith, length-slotField m k) in
       getD-slotField m k j p′ ∙ past-none (sizes m .slots) _ (r j p′) (omega (arith, getD-slotField m k j p′, length-slotField m k)))
-      h (suc (sizes m .slots)) i d (omega arith) b
-      ∙ getD-slotField m k i (walkBy-below k h i b)
+      h n i d (omega arith) b
+      ∙ getD-slotField m k i (slotWalk-below k h n i b)
 
   -- what holds of every walk holds of each chain and of each queue
-  each-chain : (P : List ℕ → Type 0) → ((h : ℕ) → P (walkBy m chainLinkAt h)) → (a n : ℕ) → Each P (map (readChain m) (from a n))
+  each-chain : (P : List ℕ → Type 0) → ((h n : ℕ) → sizes m .slots < n → P (walk (slotField m chainLinkAt) h n)) → (a n : ℕ) → Each P (map (readChain m) (from a n))
   unfolding from
   each-chain P f a zero = tt
-  each-chain P f a (suc n) = (f (at m (headsAt + a)), each-chain P f (suc a) n)
+  each-chain P f a (suc n) = (f (at m (headsAt + a)) _ (omega arith), each-chain P f (suc a) n)
 
-  each-lane : (P : List ℕ → Type 0) → ((h : ℕ) → P (walkBy m queueLinkAt h)) → (a n : ℕ) → Each P (concatMap laneQueues (map (readLane m) (from a n)))
+  each-lane : (P : List ℕ → Type 0) → ((h n : ℕ) → sizes m .slots < n → P (walk (slotField m queueLinkAt) h n)) → (a n : ℕ) → Each P (concatMap laneQueues (map (readLane m) (from a n)))
   unfolding concatMap from readLane
   each-lane P f a zero = tt
-  each-lane P f a (suc n) = (f _, (f _, (f _, each-lane P f (suc a) n)))
+  each-lane P f a (suc n) = (f _ _ (omega arith), (f _ _ (omega arith), (f _ _ (omega arith), each-lane P f (suc a) n)))
 
-  each-queue : (P : List ℕ → Type 0) → ((h : ℕ) → P (walkBy m queueLinkAt h)) → Each P (allQueues (state m))
+  each-queue : (P : List ℕ → Type 0) → ((h n : ℕ) → sizes m .slots < n → P (walk (slotField m queueLinkAt) h n)) → Each P (allQueues (state m))
   unfolding state
-  each-queue P f = (f _, (f _, (f _, (f _, each-lane P f 0 (laneCount (sizes m))))))
+  each-queue P f = (f _ _ (omega arith), (f _ _ (omega arith), (f _ _ (omega arith), (f _ _ (omega arith), each-lane P f 0 (laneCount (sizes m))))))
 
   -- ---- where slots stand
 
@@ -70,12 +68,12 @@ module _ (m : List ℕ) where
   abbrev queued : List ℕ
   queued = concat (allQueues (state m))
 
-  pub chained-below : (i : ℕ) → 0 < count i chained → i < sizes m .slots
+  chained-below : (i : ℕ) → 0 < count i chained → i < sizes m .slots
   unfolding readChains state
-  chained-below = each-below (sizes m .slots) (readChains m) (each-chain (λ xs. (i : ℕ) → 0 < count i xs → i < sizes m .slots) (walkBy-below chainLinkAt) 0 chainCount)
+  chained-below = each-below (sizes m .slots) (readChains m) (each-chain (λ xs. (i : ℕ) → 0 < count i xs → i < sizes m .slots) (λ h n g. slotWalk-below chainLinkAt h n) 0 chainCount)
 
-  pub queued-below : (i : ℕ) → 0 < count i queued → i < sizes m .slots
-  queued-below = each-below (sizes m .slots) (allQueues (state m)) (each-queue (λ xs. (i : ℕ) → 0 < count i xs → i < sizes m .slots) (walkBy-below queueLinkAt))
+  queued-below : (i : ℕ) → 0 < count i queued → i < sizes m .slots
+  queued-below = each-below (sizes m .slots) (allQueues (state m)) (each-queue (λ xs. (i : ℕ) → 0 < count i xs → i < sizes m .slots) (λ h n g. slotWalk-below queueLinkAt h n))
 
 -- ---- in a legal memory
 
@@ -109,7 +107,7 @@ module _ (m : List ℕ) (l : Legal m) where
       elim (decLt 0 (count i (chained m))) [
         | yes p ↦
             successorIn-each (slotWord m chainLinkAt) (sizes m .slots) (readChains m)
-            (each-chain m (λ xs. length xs ≤ sizes m .slots → (i d : ℕ) → 0 < count i xs → successor xs i d ≡ slotWord m chainLinkAt i) (walkBy-successor m chainLinkAt (l .facts .chainLinks)) 0 chainCount)
+            (each-chain m (λ xs. length xs ≤ sizes m .slots → (i d : ℕ) → 0 < count i xs → successor xs i d ≡ slotWord m chainLinkAt i) (slotWalk-successor m chainLinkAt (l .facts .chainLinks)) 0 chainCount)
             (omega (arith, length-standing, length-append (chained m) (queued m))) i _ p
         | no p ↦
             successorIn-out (readChains m) i _ (omega arith)
@@ -122,7 +120,7 @@ module _ (m : List ℕ) (l : Legal m) where
       elim (decLt 0 (count i (queued m))) [
         | yes p ↦
             successorIn-each (slotWord m queueLinkAt) (sizes m .slots) (allQueues (state m))
-            (each-queue m (λ xs. length xs ≤ sizes m .slots → (i d : ℕ) → 0 < count i xs → successor xs i d ≡ slotWord m queueLinkAt i) (walkBy-successor m queueLinkAt (l .facts .queueLinks)))
+            (each-queue m (λ xs. length xs ≤ sizes m .slots → (i d : ℕ) → 0 < count i xs → successor xs i d ≡ slotWord m queueLinkAt i) (slotWalk-successor m queueLinkAt (l .facts .queueLinks)))
             (omega (arith, length-standing, length-append (chained m) (queued m))) i none p
         | no p ↦ successorIn-out (allQueues (state m)) i none (omega arith) ∙ sym (l .facts .queueLinksRest i b (omega arith))
       ]

@@ -15,6 +15,7 @@ use Rattle.model.specs.Layout.{maxPlaces, total}
 use Rattle.model.specs.Engine.{laneAt}
 use Rattle.model.specs.Memory.{Words, at, low, high, contents, flags, pendingAt, laneWords, slotWords, lookupCode, snapshotCount, words}
 use Rattle.model.specs.Calls.{stored}
+use Rattle.laws.specs.Tests.{_&_}
 use Rattle.laws.specs.Lists.{getD-right, Each, each-getD}
 use Rattle.laws.specs.Masks.{mask-lt, mask-from-lt}
 use Rattle.representation.specs.Ages.{none as noneA, old, now, soon, Level, rests, goes, Strict, Clean}
@@ -73,75 +74,31 @@ module _ (s : State) (w : WellFormed s) where
 
   -- ---- fields
 
+  -- the contents' twelve words are bounded by the sizes
   top-words : Each Word (topWords s)
   unfolding contents
   top-words =
-      let f = fit s w in (
-        omega arith,
-        (
-          omega arith,
-          (
-            omega arith,
-            (
-              omega arith,
-              (
-                omega arith,
-                (
-                  omega arith,
-                  (
-                    omega arith,
-                    (
-                      omega arith,
-                      (
-                        omega arith,
-                        (
-                          omega arith,
-                          (
-                            omega arith,
-                            (
-                              omega arith,
-                              (w .generations .word, (largest-word (w .generations .largest), (subst Word (sym (cabinetMask-from s)) (mask-word _ (z .cabinets) (f .fewCabinets)), tt))),
-                            ),
-                          ),
-                        ),
-                      ),
-                    ),
-                  ),
-                ),
-              ),
-            ),
-          ),
-        ),
-      )
+      let f = fit s w in
+      omega arith & omega arith & omega arith & omega arith
+      & omega arith & omega arith
+      & omega arith & omega arith
+      & omega arith & omega arith
+      & omega arith & omega arith
+      & w .generations .word
+      & largest-word (w .generations .largest)
+      & subst Word (sym (cabinetMask-from s)) (mask-word _ (z .cabinets) (f .fewCabinets))
+      & tt
 
   end-words : Each Word (endWords s)
   end-words =
       let f = free-ends s w in
-      let g = global-ends s w in (
-        slot-word _ (f .first),
-        (
-          slot-word _ (f .last),
-          (
-            slot-word _ (g .next .first),
-            (
-              slot-word _ (g .next .last),
-              (
-                slot-word _ (g .current .first),
-                (
-                  slot-word _ (g .current .last),
-                  (
-                    slot-word _ (g .done .first),
-                    (
-                      slot-word _ (g .done .last),
-                      (global-generation (w .generations .global), tt),
-                    ),
-                  ),
-                ),
-              ),
-            ),
-          ),
-        ),
-      )
+      let g = global-ends s w in
+      slot-word _ (f .first) & slot-word _ (f .last)
+      & slot-word _ (g .next .first) & slot-word _ (g .next .last)
+      & slot-word _ (g .current .first) & slot-word _ (g .current .last)
+      & slot-word _ (g .done .first) & slot-word _ (g .done .last)
+      & global-generation (w .generations .global)
+      & tt
 
   lane-words : (i : ℕ) → Each Word (laneWords (laneAt e i))
   unfolding laneWords flags
@@ -151,61 +108,23 @@ module _ (s : State) (w : WellFormed s) where
       let r = lane-ends s w i in
       let c = f .counts .words in
       let d = snapshot-word (l .pending) (l .snapshot) (f .snapshot) in
-      let k = code-words (l .reading) (l .lookup) (f .lookup) in (
-        omega (arith, mask-lt (l .online ∷ l .reading ∷ isRunning (l .lookup) ∷ isHeld (l .snapshot) ∷ [])),
-        (
-          c 0,
-          (
-            c 1,
-            (
-              c 2,
-              (
-                c 3,
-                (
-                  d 0,
-                  (
-                    d 1,
-                    (
-                      d 2,
-                      (
-                        d 3,
-                        (
-                          lane-generation l (w .generations .lanes i),
-                          (
-                            slot-word _ (r .next .first),
-                            (
-                              slot-word _ (r .next .last),
-                              (
-                                slot-word _ (r .current .first),
-                                (
-                                  slot-word _ (r .current .last),
-                                  (
-                                    slot-word _ (r .done .first),
-                                    (
-                                      slot-word _ (r .done .last),
-                                      (k .low, (k .high, (slot-word _ (position-range s w i), tt))),
-                                    ),
-                                  ),
-                                ),
-                              ),
-                            ),
-                          ),
-                        ),
-                      ),
-                    ),
-                  ),
-                ),
-              ),
-            ),
-          ),
-        ),
-      )
+      let k = code-words (l .reading) (l .lookup) (f .lookup) in
+      let v : Word (flags l) = omega (arith, mask-lt (l .online ∷ l .reading ∷ isRunning (l .lookup) ∷ isHeld (l .snapshot) ∷ [])) in
+      v
+      & c 0 & c 1 & c 2 & c 3
+      & d 0 & d 1 & d 2 & d 3
+      & lane-generation l (w .generations .lanes i)
+      & slot-word _ (r .next .first) & slot-word _ (r .next .last)
+      & slot-word _ (r .current .first) & slot-word _ (r .current .last)
+      & slot-word _ (r .done .first) & slot-word _ (r .done .last)
+      & k .low & k .high & slot-word _ (position-range s w i)
+      & tt
 
   slot-words : (x : ℕ) → Each Word (slotWords s x)
   unfolding slotWords
   slot-words x =
       let f = w .table .inRange x in
-      (omega arith, (omega (arith, f .code), (omega (arith, f .deposit), (omega (arith, f .material), (slot-word _ (chainLink-range s w x), (slot-word _ (queueLink-range s w x), tt))))))
+      omega arith & omega (arith, f .code) & omega (arith, f .deposit) & omega (arith, f .material) & slot-word _ (chainLink-range s w x) & slot-word _ (queueLink-range s w x) & tt
 
   value-word : (f : Field) → Inside z f → Word (value s f)
   unfolding contents laneWords slotWords

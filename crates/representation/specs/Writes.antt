@@ -41,7 +41,7 @@ module _ (s : State) where
       ∷ []
 
   words-areas : words s ≡ laidOut (fixedAreas ++ sizedAreas)
-  unfolding fixedAreas sizedAreas words contents globalWords concatMap from
+  unfolding fixedAreas sizedAreas words globalWords concatMap from
   words-areas =
       sym
       (laidOut-append fixedAreas sizedAreas
