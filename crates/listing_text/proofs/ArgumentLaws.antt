@@ -1,0 +1,242 @@
+-- The arguments of a line: what the machine makes of each word after the first is what `asked` makes of their values, or the line is bad. Assumes nothing.
+use Prim.Native.Nat.{ℕ, suc, _+_, _-_, _*_, _^_, _≤_, _<_, min}
+use mathlib.Core.Bool.{Bool, true, false, cond}
+use mathlib.Core.List.{List, [], _∷_, _++_, map, append-nil, append-assoc}
+use mathlib.Core.Logic.{_⊎_, inl, inr}
+use mathlib.Core.Path.{_≡_, refl, sym, ap, _∙_}
+use native.Mathlib.Nat.{le-trans}
+use native.Mathlib.Numerals.{add-one}
+use native.Mathlib.Decide.{decLt, decLe}
+use native.Mathlib.Omega.{arith}
+use lib.ListN.{length, take, set, length-set, length-append, length-take}
+use lib.Seq.{take-suc-set}
+use lib.Dec.{leb, ltb}
+use borrow.Author.Tests.{le-ltb, le-leb, leb-true}
+use Rattle.model.specs.Lists.{isEmpty, all}
+use Rattle.listing_text.specs.Number.{isDigit, isNumber, value, valueFrom}
+use Rattle.listing_text.specs.Call.{Parsed, bad, limits, fit, callOf, asked}
+use Rattle.listing_text.specs.Machine.{arguing, refused, counted, grown, argued, ended, commandOf, within, askedOf, requested}
+use Rattle.listing_text.specs.declared.line.Line.{Line}
+use Rattle.listing_text.specs.declared.line.Command.{Command}
+use Rattle.listing_text.specs.declared.line.Command.the-variants.{Setup, Add, Replace, Delete, Begin, End, Start, Step, Pass, Clock, On, Off, HandBack, Awaited, Unknown}
+use Rattle.listing_text.proofs.Bools.{either, true-false, and-left, and-right, and-true, and-false, cond-same}
+use Rattle.listing_text.proofs.NumberLaws.{valueFrom-grows}
+use Rattle.listing_text.proofs.MachineLaws.{counted-below, counted-above, counted-digit, counted-full, grown-named, argued-empty, argued-more, argued-full, ended-named, grownAll, wordsFed, grownAll-bad, word-bad, end-bad}
+use Rattle.listing_text.proofs.LimitLaws.{fit-count}
+
+-- ---- limits
+
+limits-few : (c : Command) → length (limits c) ≤ 4
+unfolding limits
+limits-few Setup = omega arith
+limits-few Add = omega arith
+limits-few Replace = omega arith
+limits-few Delete = omega arith
+limits-few Begin = omega arith
+limits-few End = omega arith
+limits-few Start = omega arith
+limits-few Step = omega arith
+limits-few Pass = omega arith
+limits-few Clock = omega arith
+limits-few On = omega arith
+limits-few Off = omega arith
+limits-few HandBack = omega arith
+limits-few Awaited = omega arith
+limits-few Unknown = omega arith
+
+abbrev isNarrow : ℕ → Bool
+isNarrow l = leb l (2 ^ 64)
+
+limits-narrow : (c : Command) → all isNarrow (limits c) ≡ true
+unfolding limits all
+limits-narrow Setup = refl
+limits-narrow Add = refl
+limits-narrow Replace = refl
+limits-narrow Delete = refl
+limits-narrow Begin = refl
+limits-narrow End = refl
+limits-narrow Start = refl
+limits-narrow Step = refl
+limits-narrow Pass = refl
+limits-narrow Clock = refl
+limits-narrow On = refl
+limits-narrow Off = refl
+limits-narrow HandBack = refl
+limits-narrow Awaited = refl
+limits-narrow Unknown = refl
+
+-- a number of more than 64 bits fits nowhere
+fit-wide : (ls us : List ℕ) (v : ℕ) (ws : List ℕ) → all isNarrow ls ≡ true → 2 ^ 64 ≤ v → fit ls (us ++ v ∷ ws) ≡ false
+unfolding fit all
+fit-wide [] [] v ws h k = refl
+fit-wide [] (u ∷ us) v ws h k = refl
+fit-wide (l ∷ ls) [] v ws h k =
+    let e : l ≤ 2 ^ 64 = leb-true l (2 ^ 64) (and-left (isNarrow l) (all isNarrow ls) h) in
+    rw (le-ltb v l (le-trans e k))
+fit-wide (l ∷ ls) (u ∷ us) v ws h k = and-false (ltb u l) (fit-wide ls us v ws (and-right (isNarrow l) (all isNarrow ls) h) k)
+
+asked-unfit : (c : Command) (ns : List ℕ) → fit (limits c) ns ≡ false → asked c ns ≡ bad
+unfolding asked
+asked-unfit c ns e = rw e
+
+pub asked-unknown : (ns : List ℕ) → asked Unknown ns ≡ bad
+unfolding asked callOf
+asked-unknown ns = cond-same (fit (limits Unknown) ns) bad
+
+-- within four, the machine asks for what the numbers ask for
+askedOf-asked : (c : Command) (n : ℕ) (vs : List ℕ) → n ≤ 4 → askedOf c n vs ≡ asked c (take n vs)
+unfolding askedOf asked within
+askedOf-asked c n vs h = rw (le-leb n 4 h)
+
+-- ---- an argument
+
+-- a digit after v
+digit-read : (w n v : ℕ) (vs : List ℕ) (d : Bool) (b : ℕ) → isDigit b ≡ true → v * 10 + (b - 48) < 2 ^ 64 → grown (arguing w n vs v d) b ≡ arguing w n vs (v * 10 + (b - 48)) true
+digit-read w n v vs d b h k =
+    let lo : 48 ≤ b = leb-true 48 b (and-left (leb 48 b) (leb b 57) h) in
+    let hi : b ≤ 57 = leb-true b 57 (and-right (leb 48 b) (leb b 57) h) in
+    grown-named (arguing w n vs v d) b refl refl ∙ counted-digit (arguing w n vs v d) b lo hi (omega arith)
+
+digits-read : (w n v : ℕ) (vs : List ℕ) (x : List ℕ) → all isDigit x ≡ true → valueFrom v x < 2 ^ 64 → grownAll (arguing w n vs v true) x ≡ arguing w n vs (valueFrom v x) true
+unfolding grownAll all valueFrom
+digits-read w n v vs [] h k = refl
+digits-read w n v vs (b ∷ x) h k =
+    let g : v * 10 + (b - 48) ≤ valueFrom (v * 10 + (b - 48)) x = valueFrom-grows (v * 10 + (b - 48)) x in
+    let e : v * 10 + (b - 48) < 2 ^ 64 = omega arith in
+    ap (λ (l : Line). grownAll l x) (digit-read w n v vs true b (and-left (isDigit b) (all isDigit x) h) e)
+    ∙ digits-read w n (v * 10 + (b - 48)) vs x (and-right (isDigit b) (all isDigit x) h) k
+
+-- a byte that makes the line bad
+grown-refused : (l : Line) (b : ℕ) (x : List ℕ) → grown l b ≡ refused l → grownAll l (b ∷ x) .bad ≡ true
+unfolding grownAll refused
+grown-refused l b x e = ap (λ (y : Line). grownAll y x .bad) e ∙ ap (λ (y : Line). y .bad) (grownAll-bad (refused l) x refl)
+
+no-digit : (w n v : ℕ) (vs : List ℕ) (d : Bool) (b : ℕ) → isDigit b ≡ false → grown (arguing w n vs v d) b ≡ refused (arguing w n vs v d)
+no-digit w n v vs d b h = grown-named (arguing w n vs v d) b refl refl ∙ go (decLe 48 b) (decLe b 57)
+  where
+    go : Dec (48 ≤ b) → Dec (b ≤ 57) → counted (arguing w n vs v d) b ≡ refused (arguing w n vs v d)
+    go (no p) q = counted-below (arguing w n vs v d) b (omega arith)
+    go (yes p) (no q) = counted-above (arguing w n vs v d) b p (omega arith)
+    go (yes p) (yes q) = absurd (true-false (isDigit b) (and-true (le-leb 48 b p) (le-leb b 57 q)) h)
+
+too-wide : (w n v : ℕ) (vs : List ℕ) (d : Bool) (b : ℕ) → isDigit b ≡ true → 2 ^ 64 ≤ v * 10 + (b - 48) → grown (arguing w n vs v d) b ≡ refused (arguing w n vs v d)
+too-wide w n v vs d b h k =
+    let lo : 48 ≤ b = leb-true 48 b (and-left (leb 48 b) (leb b 57) h) in
+    let hi : b ≤ 57 = leb-true b 57 (and-right (leb 48 b) (leb b 57) h) in
+    grown-named (arguing w n vs v d) b refl refl ∙ counted-full (arguing w n vs v d) b lo hi (omega arith)
+
+-- a word that is no digits, or too large a number, makes the line bad
+digits-bad : (w n v : ℕ) (vs : List ℕ) (d : Bool) (x : List ℕ) → v < 2 ^ 64 → (all isDigit x ≡ true → 2 ^ 64 ≤ valueFrom v x) → grownAll (arguing w n vs v d) x .bad ≡ true
+unfolding grownAll all valueFrom
+digits-bad w n v vs d [] h k = absurd (let z : 2 ^ 64 ≤ v = k refl in omega arith)
+digits-bad w n v vs d (b ∷ x) h k = go (either (isDigit b)) (decLt (v * 10 + (b - 48)) (2 ^ 64)) (digits-bad w n (v * 10 + (b - 48)) vs true x)
+  where
+    go : (isDigit b ≡ true) ⊎ (isDigit b ≡ false) → Dec (v * 10 + (b - 48) < 2 ^ 64)
+        → (v * 10 + (b - 48) < 2 ^ 64 → (all isDigit x ≡ true → 2 ^ 64 ≤ valueFrom (v * 10 + (b - 48)) x) → grownAll (arguing w n vs (v * 10 + (b - 48)) true) x .bad ≡ true)
+        → grownAll (arguing w n vs v d) (b ∷ x) .bad ≡ true
+    go (inr f) j ih = grown-refused (arguing w n vs v d) b x (no-digit w n v vs d b f)
+    go (inl t) (yes j) ih =
+        ap (λ (l : Line). grownAll l x .bad) (digit-read w n v vs d b t j) ∙ ih j (λ e. k (and-true t e))
+    go (inl t) (no j) ih = grown-refused (arguing w n vs v d) b x (too-wide w n v vs d b t (omega arith))
+
+-- ---- arguments
+
+-- what the arguments ws ask for after ns
+abbrev pub asks : Command → List ℕ → List (List ℕ) → Parsed
+asks c ns ws = cond (all isNumber ws) (asked c (ns ++ map value ws)) bad
+
+asks-unfit : (c : Command) (ns : List ℕ) (ws : List (List ℕ)) → fit (limits c) (ns ++ map value ws) ≡ false → asks c ns ws ≡ bad
+asks-unfit c ns ws e = ap (λ (p : Parsed). cond (all isNumber ws) p bad) (asked-unfit c (ns ++ map value ws) e) ∙ cond-same (all isNumber ws) bad
+
+asks-no-number : (c : Command) (ns x : List ℕ) (ws : List (List ℕ)) → isNumber x ≡ false → asks c ns (x ∷ ws) ≡ bad
+unfolding all
+asks-no-number c ns x ws e = rw e
+
+asks-number : (c : Command) (ns x : List ℕ) (ws : List (List ℕ)) → isNumber x ≡ true → asks c ns (x ∷ ws) ≡ asks c (ns ++ (value x ∷ [])) ws
+unfolding all
+asks-number c ns x ws e = rw (e, append-assoc ns (value x ∷ []) (map value ws))
+
+value-wide : (x : List ℕ) → 2 ^ 64 ≤ value x → 2 ^ 64 ≤ valueFrom 0 x
+unfolding value
+value-wide x h = h
+
+is-number : (b : ℕ) (x : List ℕ) → isNumber (b ∷ x) ≡ all isDigit (b ∷ x)
+unfolding isNumber isEmpty
+is-number b x = refl
+
+-- a number that fits 64 bits
+number-read : (w n : ℕ) (vs : List ℕ) (b : ℕ) (x : List ℕ) → all isDigit (b ∷ x) ≡ true → value (b ∷ x) < 2 ^ 64
+    → ended (grownAll (arguing w n vs 0 false) (b ∷ x)) ≡ argued (arguing w n vs (value (b ∷ x)) true)
+unfolding value valueFrom grownAll all
+number-read w n vs b x e k =
+    let g : 0 * 10 + (b - 48) ≤ valueFrom (0 * 10 + (b - 48)) x = valueFrom-grows (0 * 10 + (b - 48)) x in
+    let j : 0 * 10 + (b - 48) < 2 ^ 64 = omega arith in
+    ap (λ (l : Line). ended (grownAll l x)) (digit-read w n 0 vs false b (and-left (isDigit b) (all isDigit x) e) j)
+    ∙ ap ended (digits-read w n (0 * 10 + (b - 48)) vs x (and-right (isDigit b) (all isDigit x) e) k)
+    ∙ ended-named (arguing w n vs (valueFrom 0 (b ∷ x)) true) refl refl
+
+-- it is an argument more where there is room, and makes the line bad where there is none
+argument-read : (w n : ℕ) (vs : List ℕ) (b : ℕ) (x : List ℕ) → n < 4 → all isDigit (b ∷ x) ≡ true → value (b ∷ x) < 2 ^ 64
+    → ended (grownAll (arguing w n vs 0 false) (b ∷ x)) ≡ arguing w (n + 1) (set vs n (value (b ∷ x))) 0 false
+argument-read w n vs b x h e k = number-read w n vs b x e k ∙ argued-more (arguing w n vs (value (b ∷ x)) true) refl h
+
+argument-full : (w n : ℕ) (vs : List ℕ) (b : ℕ) (x : List ℕ) → 4 ≤ n → all isDigit (b ∷ x) ≡ true → value (b ∷ x) < 2 ^ 64
+    → ended (grownAll (arguing w n vs 0 false) (b ∷ x)) .bad ≡ true
+unfolding refused
+argument-full w n vs b x h e k = ap (λ (l : Line). l .bad) (number-read w n vs b x e k ∙ argued-full (arguing w n vs (value (b ∷ x)) true) refl h)
+
+-- no argument between two spaces
+argument-empty : (w n : ℕ) (vs : List ℕ) → ended (grownAll (arguing w n vs 0 false) []) .bad ≡ true
+unfolding grownAll refused
+argument-empty w n vs = ap (λ (l : Line). l .bad) (ended-named (arguing w n vs 0 false) refl refl ∙ argued-empty (arguing w n vs 0 false) refl)
+
+-- the numbers so far, and one more
+take-more : (n v : ℕ) (vs : List ℕ) → length vs ≡ 4 → n < 4 → take (n + 1) (set vs n v) ≡ take n vs ++ (v ∷ [])
+take-more n v vs e h = rw add-one (take-suc-set vs n v (omega arith))
+
+-- no argument is left
+arguments-none : (w n : ℕ) (vs : List ℕ) → n ≤ 4 → requested (wordsFed (arguing w n vs 0 false) []) ≡ asks (commandOf w) (take n vs) []
+unfolding requested wordsFed all
+arguments-none w n vs h = askedOf-asked (commandOf w) n vs h ∙ ap (asked (commandOf w)) (sym (append-nil (take n vs)))
+
+no-number : isNumber [] ≡ false
+unfolding isNumber isEmpty
+no-number = refl
+
+-- more than four do not fit
+too-many : (c : Command) (n : ℕ) (vs : List ℕ) (v : ℕ) (ns : List ℕ) → length vs ≡ 4 → 4 ≤ n → fit (limits c) (take n vs ++ v ∷ ns) ≡ false
+too-many c n vs v ns e h =
+    fit-count (limits c) (take n vs ++ v ∷ ns)
+    (λ q. let f : length (limits c) ≤ 4 = limits-few c in
+    let g : min n (length vs) + suc (length ns) ≡ length (limits c) = simp (length-append, length-take) at q in
+    omega arith)
+
+-- one argument more, given what those after it ask for
+argument-more : (w n : ℕ) (vs : List ℕ) (b : ℕ) (x : List ℕ) (ws : List (List ℕ)) → length vs ≡ 4
+    → (all isDigit (b ∷ x) ≡ true) ⊎ (all isDigit (b ∷ x) ≡ false) → Dec (value (b ∷ x) < 2 ^ 64) → Dec (n < 4)
+    → (length (set vs n (value (b ∷ x))) ≡ 4 → n + 1 ≤ 4 → requested (wordsFed (arguing w (n + 1) (set vs n (value (b ∷ x))) 0 false) ws) ≡ asks (commandOf w) (take (n + 1) (set vs n (value (b ∷ x)))) ws)
+    → requested (wordsFed (arguing w n vs 0 false) ((b ∷ x) ∷ ws)) ≡ asks (commandOf w) (take n vs) ((b ∷ x) ∷ ws)
+unfolding wordsFed
+argument-more w n vs b x ws e (inr f) j k ih =
+    word-bad (arguing w n vs 0 false) (b ∷ x) ws (digits-bad w n 0 vs false (b ∷ x) (omega arith) (λ t. absurd (true-false (all isDigit (b ∷ x)) t f)))
+    ∙ sym (asks-no-number (commandOf w) (take n vs) (b ∷ x) ws (is-number b x ∙ f))
+argument-more w n vs b x ws e (inl t) (no j) k ih =
+    let o : 2 ^ 64 ≤ value (b ∷ x) = omega arith in
+    word-bad (arguing w n vs 0 false) (b ∷ x) ws (digits-bad w n 0 vs false (b ∷ x) (omega arith) (λ s. value-wide (b ∷ x) o))
+    ∙ sym (asks-unfit (commandOf w) (take n vs) ((b ∷ x) ∷ ws) (fit-wide (limits (commandOf w)) (take n vs) (value (b ∷ x)) (map value ws) (limits-narrow (commandOf w)) o))
+argument-more w n vs b x ws e (inl t) (yes j) (no k) ih =
+    end-bad (arguing w n vs 0 false) (b ∷ x) ws (argument-full w n vs b x (omega arith) t j)
+    ∙ sym (asks-unfit (commandOf w) (take n vs) ((b ∷ x) ∷ ws) (too-many (commandOf w) n vs (value (b ∷ x)) (map value ws) e (omega arith)))
+argument-more w n vs b x ws e (inl t) (yes j) (yes k) ih =
+    ap (λ (l : Line). requested (wordsFed l ws)) (argument-read w n vs b x k t j)
+    ∙ ih (length-set vs n (value (b ∷ x)) ∙ e) (omega arith)
+    ∙ ap (λ (ns : List ℕ). asks (commandOf w) ns ws) (take-more n (value (b ∷ x)) vs e k)
+    ∙ sym (asks-number (commandOf w) (take n vs) (b ∷ x) ws (is-number b x ∙ t))
+
+pub arguments-read : (w : ℕ) (ws : List (List ℕ)) (n : ℕ) (vs : List ℕ) → length vs ≡ 4 → n ≤ 4
+    → requested (wordsFed (arguing w n vs 0 false) ws) ≡ asks (commandOf w) (take n vs) ws
+arguments-read w [] n vs e h = arguments-none w n vs h
+arguments-read w ([] ∷ ws) n vs e h =
+    end-bad (arguing w n vs 0 false) [] ws (argument-empty w n vs) ∙ sym (asks-no-number (commandOf w) (take n vs) [] ws no-number)
+arguments-read w ((b ∷ x) ∷ ws) n vs e h =
+    argument-more w n vs b x ws e (either (all isDigit (b ∷ x))) (decLt (value (b ∷ x)) (2 ^ 64)) (decLt n 4) (arguments-read w ws (n + 1) (set vs n (value (b ∷ x))))

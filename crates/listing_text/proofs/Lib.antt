@@ -1,0 +1,10 @@
+pub mod Cases
+pub mod NumberLaws
+pub mod BufferLaws
+mod Bools
+pub mod MachineLaws
+pub mod LimitLaws
+pub mod BlockLaws
+pub mod CommandLaws
+pub mod ArgumentLaws
+pub mod LineLaws

@@ -1,0 +1,34 @@
+-- `line::end_argument` meets its contract: its tests are those of `argued`, and the store is the one that `withArgument` states.
+-- Assumes nothing.
+use borrow.Author.Needs.{needs}
+use mathlib.Core.Path.{sym, _∙_}
+use Rattle.listing_text.proofs.MachineLaws.{argued-empty, argued-more, argued-full}
+use Rattle.listing_text.proofs.line.end_argument.Statement.{statement}
+use Rattle.listing_text.proofs.line.end_argument.Tie as tie
+
+mul-next : tie.Need-mul-next
+mul-next c = search needs
+
+element-write-next : tie.Need-element-write-next
+element-write-next c = search needs
+
+add-next : tie.Need-add-next
+add-next c = search needs
+
+refuse-requires : tie.Need-refuse-requires
+refuse-requires c κs = search needs
+
+refuse-requires-2 : tie.Need-refuse-requires-2
+refuse-requires-2 c κs = search needs
+
+returns : tie.Need-returns
+returns c = sym (argued-more _ (c .before .if1 .taken) (c .if2 .taken))
+
+returns-2 : tie.Need-returns-2
+returns-2 c = c .refuse .ensures ∙ sym (argued-full _ (c .before .before .if1 .taken) (c .before .if2 .left))
+
+returns-3 : tie.Need-returns-3
+returns-3 c = c .refuse2 .ensures ∙ sym (argued-empty _ (c .before .if1 .left))
+
+pub end-argument-spec : {M : Type 1} → statement M
+end-argument-spec = tie.close (tie.spec mul-next element-write-next add-next refuse-requires refuse-requires-2 returns returns-2 returns-3)

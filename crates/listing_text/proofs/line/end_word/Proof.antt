@@ -1,0 +1,22 @@
+-- `line::end_word` meets its contract: its tests are those of `ended`.
+-- Assumes nothing.
+use borrow.Author.Needs.{needs}
+use mathlib.Core.Path.{sym, _∙_}
+use Rattle.listing_text.proofs.MachineLaws.{ended-bad, ended-named, ended-unnamed}
+use Rattle.listing_text.proofs.line.end_word.Statement.{statement}
+use Rattle.listing_text.proofs.line.end_word.Tie as tie
+
+returns : tie.Need-returns
+returns c = sym (ended-bad _ (c .if1 .taken))
+
+end-argument-requires : tie.Need-end-argument-requires
+end-argument-requires c κs = search needs
+
+returns-2 : tie.Need-returns-2
+returns-2 c = c .end-argument .ensures ∙ sym (ended-named _ (c .before .before .if1 .left) (c .before .if2 .taken))
+
+returns-3 : tie.Need-returns-3
+returns-3 c = sym (ended-unnamed _ (c .before .if1 .left) (c .if2 .left))
+
+pub end-word-spec : {M : Type 1} → statement M
+end-word-spec = tie.close (tie.spec returns end-argument-requires returns-2 returns-3)

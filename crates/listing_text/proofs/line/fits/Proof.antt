@@ -1,0 +1,93 @@
+-- `line::fits` meets its contract. The loop's invariant: each number passed is below its limit. The measure is how many are left.
+-- Assumes nothing.
+use Prim.Native.Nat.{ℕ, _≤_, _<_, _-_}
+use native.Mathlib.Omega.{arith}
+use borrow.Author.Needs.{needs}
+use borrow.Author.Count.{below-more}
+use mathlib.Core.Path.{_≡_}
+use lib.ListN.{length, getD}
+use Rattle.listing_text.specs.Machine.{limitsOf}
+use Rattle.listing_text.proofs.LimitLaws.{within-other, within-below, within-above}
+use Rattle.listing_text.proofs.line.fits.Statement.{statement}
+use Rattle.listing_text.proofs.line.fits.Tie as tie
+
+abbrev Inv-loop : tie.InvT-loop
+Inv-loop given values shape i₀ i = (i ≤ given) × ((k : ℕ) → k < i → getD values k 0 < getD (limitsOf 4 (shape .1)) k 0)
+
+abbrev μ-loop : tie.MeasureT-loop
+μ-loop given values shape i₀ i = given - i
+
+shape-of-requires : tie.Need-shape-of-requires Inv-loop μ-loop
+shape-of-requires c κs = search needs
+
+returns : tie.Need-returns Inv-loop μ-loop
+returns c =
+    let called = c .before .before in
+    let len : length (called .before .args .t3) ≡ 4 = search needs in
+    within-other _ _ (called .shape-of .ensures) _ _ len (c .if1 .taken)
+
+loop-holds : tie.Need-loop-holds Inv-loop μ-loop
+loop-holds c = (omega arith, λ k h. absurd (omega arith))
+
+largest-requires : tie.Need-largest-requires Inv-loop μ-loop
+largest-requires c κs = search needs
+
+mul-if2 : tie.Need-mul-if2 Inv-loop μ-loop
+mul-if2 c =
+    let called = c .before .before .before .before .before in
+    omega (arith, called .shape-of .ensures .few)
+
+array-read-if2 : tie.Need-array-read-if2 Inv-loop μ-loop
+array-read-if2 c =
+    let called = c .before .before .before .before .before in
+    omega (arith, called .shape-of .ensures .few)
+
+returns-2 : tie.Need-returns-2 Inv-loop μ-loop
+returns-2 c =
+    let head = c .before .before .before in
+    let called = head .before .before .before in
+    let few : head .loop .i < 4 = omega (arith, called .shape-of .ensures .few) in
+    let len : length (called .before .args .t3) ≡ 4 = search needs in
+    let above : getD (limitsOf 4 (called .shape-of .result .1)) (head .loop .i) 0 ≤ getD (called .before .args .t3) (head .loop .i) 0 = omega (arith, c .before .largest .ensures few) in
+    within-above _ _ (called .shape-of .ensures) _ _ len (head .before .if1 .left) (head .loop .i) (c .before .before .loop-test .taken) above
+
+add-i : tie.Need-add-i Inv-loop μ-loop
+add-i c =
+    let called = c .before .before .before .before .before .before in
+    omega (arith, called .shape-of .ensures .few)
+
+loop-less : tie.Need-loop-less Inv-loop μ-loop
+loop-less c = omega arith
+
+loop-again : tie.Need-loop-again Inv-loop μ-loop
+loop-again c =
+    let head = c .before .before .before in
+    let called = head .before .before .before in
+    let few : head .loop .i < 4 = omega (arith, called .shape-of .ensures .few) in
+    let below : getD (called .before .args .t3) (head .loop .i) 0 < getD (limitsOf 4 (called .shape-of .result .1)) (head .loop .i) 0 = omega (arith, c .before .largest .ensures few) in
+    (omega arith, below-more _ _ (head .loop .inv .1) below)
+
+returns-3 : tie.Need-returns-3 Inv-loop μ-loop
+returns-3 c =
+    let head = c .before in
+    let called = head .before .before .before in
+    let len : length (called .before .args .t3) ≡ 4 = search needs in
+    within-below _ _ (called .shape-of .ensures) _ _ len (head .before .if1 .left) (λ k h. head .loop .inv .1 k (omega arith))
+
+pub fits-spec : {M : Type 1} → statement M
+fits-spec =
+    tie.close
+    (tie.spec
+    Inv-loop
+    μ-loop
+    shape-of-requires
+    returns
+    loop-holds
+    largest-requires
+    mul-if2
+    array-read-if2
+    returns-2
+    add-i
+    loop-less
+    loop-again
+    returns-3)

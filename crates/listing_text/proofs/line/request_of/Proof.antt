@@ -1,0 +1,24 @@
+-- `line::request_of` meets its contract: numbers that fit are the call's, and others make the line bad.
+-- Assumes nothing.
+use borrow.Author.Needs.{needs}
+use mathlib.Core.Path.{sym, _∙_}
+use Rattle.listing_text.specs.Reading.{requestParsed}
+use Rattle.listing_text.proofs.LimitLaws.{askedOf-within, askedOf-other}
+use Rattle.listing_text.proofs.line.request_of.Statement.{statement}
+use Rattle.listing_text.proofs.line.request_of.Tie as tie
+
+fits-requires : tie.Need-fits-requires
+fits-requires c κs = search needs
+
+make-request-requires : tie.Need-make-request-requires
+make-request-requires c κs = search needs
+
+returns : tie.Need-returns
+returns c = c .make-request .ensures ∙ askedOf-within _ _ _ (sym (c .before .before .fits2 .ensures) ∙ c .before .if1 .taken)
+
+returns-2 : tie.Need-returns-2
+unfolding requestParsed
+returns-2 c = askedOf-other _ _ _ (sym (c .before .fits2 .ensures) ∙ c .if1 .left)
+
+pub request-of-spec : {M : Type 1} → statement M
+request-of-spec = tie.close (tie.spec fits-requires make-request-requires returns returns-2)

@@ -1,0 +1,5 @@
+pub mod Number
+pub mod Call
+pub mod Answer
+pub mod Machine
+pub mod Reading

@@ -1,0 +1,126 @@
+-- The machine that the code of `line` is: what a line has been read as, byte by byte. That it reads what `parsed` says is a theorem (`parses` of
+-- proofs/LineLaws.antt), so nothing here needs to be believed. Assumes nothing.
+use Prim.Native.Nat.{ℕ, suc, _+_, _-_, _*_, _/_, _%_, _^_, _≤_}
+use mathlib.Core.Bool.{Bool, true, false, cond, _&&_}
+use mathlib.Core.List.{List, [], _∷_}
+use mathlib.Core.Path.{_≡_}
+use lib.ListN.{take, set, getD}
+use lib.Dec.{leb, ltb, eqb}
+use Rattle.listing_text.specs.Number.{space}
+use Rattle.listing_text.specs.Call.{Parsed, bad, Named, names, word, code, limits, fit, callOf}
+use Rattle.listing_text.specs.declared.line.Command.{Command}
+use Rattle.listing_text.specs.declared.line.Command.the-variants.{Unknown}
+use Rattle.listing_text.specs.declared.line.Line.{Line}
+use Rattle.listing_text.specs.declared.line.Shape.{Shape}
+
+-- ---- states
+
+-- a line whose command has the letters w so far
+abbrev pub naming : ℕ → Line
+naming w = record { bad = false; named = false; word = w; digits = false; value = 0; given = 0; values = 0 ∷ 0 ∷ 0 ∷ 0 ∷ [] }
+
+-- nothing read
+abbrev pub started : Line
+started = naming 0
+
+-- the command w, n of the arguments vs, and an argument of value v so far, with a digit or none yet
+abbrev pub arguing : ℕ → ℕ → List ℕ → ℕ → Bool → Line
+arguing w n vs v d = record { bad = false; named = true; word = w; digits = d; value = v; given = n; values = vs }
+
+unfoldable pub refused : Line → Line
+refused l = record { bad = true; named = l .named; word = l .word; digits = l .digits; value = l .value; given = l .given; values = l .values }
+
+-- ---- steps
+
+abbrev pub withWord : Line → ℕ → Line
+withWord l w = record { bad = l .bad; named = l .named; word = w; digits = l .digits; value = l .value; given = l .given; values = l .values }
+
+abbrev pub withValue : Line → ℕ → Line
+withValue l v = record { bad = l .bad; named = l .named; word = l .word; digits = true; value = v; given = l .given; values = l .values }
+
+abbrev pub withArgument : Line → Line
+withArgument l = record { bad = l .bad; named = l .named; word = l .word; digits = false; value = 0; given = l .given + 1; values = set (l .values) (l .given) (l .value) }
+
+abbrev pub withName : Line → Line
+withName l = record { bad = l .bad; named = true; word = l .word; digits = l .digits; value = l .value; given = l .given; values = l .values }
+
+-- a letter of the command
+unfoldable pub lettered : Line → ℕ → Line
+lettered l b =
+    cond (ltb b 97) (refused l) (cond (ltb 122 b) (refused l) (cond (ltb (l .word) (2 ^ 48)) (withWord l (l .word * 256 + b)) (refused l)))
+
+-- a digit of an argument
+unfoldable pub counted : Line → ℕ → Line
+counted l b =
+    cond (ltb b 48) (refused l)
+    (cond (ltb 57 b) (refused l)
+    (cond (leb (l .value) ((2 ^ 64 - 1 - (b - 48)) / 10)) (withValue l (l .value * 10 + (b - 48))) (refused l)))
+
+-- a byte that is no space
+unfoldable pub grown : Line → ℕ → Line
+grown l b = cond (l .bad) l (cond (l .named) (counted l b) (lettered l b))
+
+-- the end of an argument
+unfoldable pub argued : Line → Line
+argued l = cond (l .digits) (cond (ltb (l .given) 4) (withArgument l) (refused l)) (refused l)
+
+-- the end of a word
+unfoldable pub ended : Line → Line
+ended l = cond (l .bad) l (cond (l .named) (argued l) (withName l))
+
+unfoldable pub fed : Line → ℕ → Line
+fed l b = cond (eqb b space) (ended l) (grown l b)
+
+-- several bytes, one after the other
+unfoldable pub fedAll : Line → List ℕ → Line
+fedAll l [] = l
+fedAll l (b ∷ bs) = fedAll (fed l b) bs
+
+-- ---- the end of a line
+
+-- letters in base 256, after those of p
+unfoldable pub packedFrom : ℕ → List ℕ → ℕ
+packedFrom p [] = p
+packedFrom p (b ∷ w) = packedFrom (p * 256 + b) w
+
+-- the command of those letters
+unfoldable pub lookupPacked : ℕ → List Named → Command
+lookupPacked p [] = Unknown
+lookupPacked p (n ∷ ns) = cond (eqb p (packedFrom 0 (n .name))) (n .command) (lookupPacked p ns)
+
+unfoldable pub commandOf : ℕ → Command
+commandOf p = lookupPacked p names
+
+-- the second argument of the command is a code
+unfoldable pub coded : Command → Bool
+coded c = eqb (getD (limits c) 1 0) code
+
+-- the first n of vs are what the command takes
+unfoldable pub within : Command → ℕ → List ℕ → Bool
+within c n vs = leb n 4 && fit (limits c) (take n vs)
+
+-- the call of a command with the first n of vs
+unfoldable pub askedOf : Command → ℕ → List ℕ → Parsed
+askedOf c n vs = cond (within c n vs) (callOf c (take n vs)) bad
+
+-- the call of a command with as many of vs as it takes, cut to their widths
+unfoldable pub made : Command → List ℕ → Parsed
+made c vs = callOf c (getD vs 0 0 % word ∷ cond (coded c) (getD vs 1 0) (getD vs 1 0 % word) ∷ getD vs 2 0 % word ∷ getD vs 3 0 % word ∷ [])
+
+-- what a line whose last word has ended asks for
+unfoldable pub requested : Line → Parsed
+requested l = cond (l .bad) bad (askedOf (commandOf (l .word)) (l .given) (l .values))
+
+unfoldable pub finished : Line → Parsed
+finished l = requested (ended l)
+
+-- ---- limits
+
+-- the limits of a command's arguments, by how many they are and the largest second
+abbrev pub limitsOf : ℕ → ℕ → List ℕ
+limitsOf n s = take n (word ∷ suc s ∷ word ∷ word ∷ [])
+
+-- the shape r gives the limits of the command c
+pub record Shapes (c : Command) (r : Shape) : Type 0 where
+  pub few : r .0 ≤ 4
+  pub limits : limits c ≡ limitsOf (r .0) (r .1)
