@@ -1,0 +1,1 @@
+// Laws only: what the words' functions of queues, chains and slots do to the state.

@@ -1,0 +1,10 @@
+mod Bits
+mod Loops
+mod LaneLoops
+mod ContentsLaws
+mod LaneLaws
+mod EngineLaws
+mod StepsRead
+mod TableSaid
+mod TableLaws
+mod LegalLaws

@@ -1,0 +1,107 @@
+-- One lane's part of legality's sentences, for a lane whose words begin at b in a memory m of S slots, pending or not. An empty queue is one whose
+-- first is no slot's number.
+use Prim.Native.Nat.{ℕ, _+_, _*_, _^_}
+use mathlib.Core.Bool.{Bool, true, not, cond, _&&_, _||_}
+use mathlib.Core.List.{List}
+use lib.Dec.{leb, ltb, eqb}
+use Rattle.model.specs.Word.{none, up, down, later}
+use Rattle.model.specs.Lists.{all, from}
+use Rattle.model.specs.Layout.{chainCount, queueWidth, queuesWidth, headsAt, currentGenerationAt, largestGenerationAt, cabinetMaskAt, globalQueuesAt, globalGenerationAt, snapshotAt, generationAt, queuesAt, currentOffset, doneOffset, lastOffset, lookupAt, positionAt, laneLength}
+use Rattle.model.specs.Rules.{wrongCode}
+use Rattle.model.specs.Memory.{at, wide, maskWord, flag}
+use Rattle.model.specs.Legal.{implies, largestFits, periodRuns}
+
+-- a slot's number or none
+abbrev pub slotOrNone : ℕ → ℕ → Bool
+slotOrNone S x = ltb x S || eqb x none
+
+module _ (m : List ℕ) (S b : ℕ) where
+  -- flags and links are in range
+  abbrev pub laneInRange : Bool
+  laneInRange =
+      ltb (at m b) 16
+      && ((slotOrNone S (at m (b + queuesAt))
+      && (slotOrNone S (at m (b + (queuesAt + lastOffset)))
+      && (slotOrNone S (at m (b + (queuesAt + currentOffset)))
+      && (slotOrNone S (at m (b + (queuesAt + currentOffset + lastOffset)))
+      && (slotOrNone S (at m (b + (queuesAt + doneOffset)))
+      && (slotOrNone S (at m (b + (queuesAt + doneOffset + lastOffset))) && true))))))
+      && slotOrNone S (at m (b + positionAt)))
+
+module _ (m : List ℕ) (b : ℕ) where
+  -- the lookup code is in range
+  abbrev pub lookupInRange : Bool
+  lookupInRange = not (wrongCode (wide m (b + lookupAt)))
+
+  -- snapshot counts and lookup words that are not used hold their rest value
+  abbrev pub laneAtRest : Bool
+  laneAtRest =
+      (flag 3 (at m b)
+      || (eqb (at m (b + snapshotAt)) 0 && (eqb (at m (b + (snapshotAt + 1))) 0 && (eqb (at m (b + (snapshotAt + 2))) 0 && (eqb (at m (b + (snapshotAt + 3))) 0 && true)))))
+      && (flag 2 (at m b) || (eqb (at m (b + lookupAt)) 0 && (eqb (at m (b + (lookupAt + 1))) 0 && (eqb (at m (b + positionAt)) none && true))))
+
+-- the queue whose first is x is empty
+abbrev pub emptyFirst : ℕ → ℕ → Bool
+emptyFirst S x = leb S x
+
+module _ (m : List ℕ) (S b : ℕ) (pending : Bool) where
+  -- an off lane has no section, no queues and no bit; a lookup runs in a section; a snapshot is held with the bit
+  abbrev pub laneAgrees : Bool
+  laneAgrees =
+      (flag 0 (at m b)
+      || (not (flag 1 (at m b))
+      && (emptyFirst S (at m (b + queuesAt)) && emptyFirst S (at m (b + (queuesAt + currentOffset))) && emptyFirst S (at m (b + (queuesAt + doneOffset))))
+      && not pending))
+      && implies (flag 2 (at m b)) (flag 1 (at m b))
+      && implies (flag 3 (at m b)) pending
+
+-- generation g of a lane's current queue, empty or not, against the current one, the largest requested, and whether a period runs
+abbrev pub generationFits : ℕ → Bool → Bool → ℕ → ℕ → Bool → Bool
+generationFits g empty pending current largest runs =
+    (not empty || eqb g 0)
+    && (empty || ((eqb g (down current) || eqb g current || eqb g (up current)) && not (later g largest) && implies (eqb g (down current) && runs) pending))
+
+-- the same of the global queues
+abbrev pub globalFits : ℕ → Bool → ℕ → ℕ → Bool
+globalFits g empty current largest =
+    (not empty || eqb g 0) && (empty || ((eqb g current || eqb g (up current)) && not (later g largest)))
+
+module _ (m : List ℕ) (S b : ℕ) (pending : Bool) where
+  unfoldable pub laneFits : Bool
+  laneFits =
+      laneInRange m S b
+      && lookupInRange m b
+      && laneAtRest m b
+      && laneAgrees m S b pending
+      && generationFits (at m (b + generationAt)) (emptyFirst S (at m (b + (queuesAt + currentOffset)))) pending (at m currentGenerationAt) (at m largestGenerationAt) (periodRuns m)
+
+-- the lanes of a cabinet: P of them, the first at b, with this lane mask
+unfoldable pub cabinetLanes : List ℕ → ℕ → ℕ → ℕ → ℕ → Bool
+cabinetLanes m S P b mask = all (λ (p : ℕ). laneFits m S (b + laneLength * p) (flag p mask)) (from 0 P)
+
+-- the lanes of C cabinets, the first lane at b
+unfoldable pub allLanes : List ℕ → ℕ → ℕ → ℕ → ℕ → Bool
+allLanes m S C P b = all (λ (c : ℕ). cabinetLanes m S P (b + laneLength * P * c) (maskWord m c)) (from 0 C)
+
+-- ---- cabinets
+
+-- a cabinet's lane mask is in range, and the cabinet's bit is set exactly when it is not 0
+unfoldable pub cabinetFits : ℕ → ℕ → Bool → Bool
+cabinetFits P mask bit = ltb mask (2 ^ P) && cond bit (ltb 0 mask) (eqb mask 0)
+
+unfoldable pub allCabinets : List ℕ → ℕ → ℕ → Bool
+allCabinets m C P = all (λ (c : ℕ). cabinetFits P (maskWord m c) (flag c (at m cabinetMaskAt))) (from 0 C)
+
+-- ---- global words
+
+-- chain heads and the ends of the free and the global queues are in range
+unfoldable pub headsFit : List ℕ → ℕ → Bool
+headsFit m S = all (λ (a : ℕ). slotOrNone S (at m a)) (from headsAt (chainCount + queueWidth + queuesWidth))
+
+-- the global words, for C cabinets
+unfoldable pub globalWordsFit : List ℕ → ℕ → ℕ → Bool
+globalWordsFit m C S =
+    ltb (at m cabinetMaskAt) (2 ^ C)
+    && largestFits (at m currentGenerationAt) (at m largestGenerationAt) (periodRuns m)
+    && globalFits (at m globalGenerationAt) (emptyFirst S (at m (globalQueuesAt + currentOffset))) (at m currentGenerationAt) (at m largestGenerationAt)
+    && headsFit m S
