@@ -1,4 +1,5 @@
-// The grace-period engine over the lent words: periods, advance, clock and off. Every function takes the sizes of the
-// table as parameters, and its contract says what it leaves of the memory, word by word; the laws of specs/ say which
-// change of the state that is.
+// The grace-period engine over the lent words: grace periods, the release of a lane, and the advance of an owner's
+// queues. Every function takes the sizes of the table or addresses as parameters, and its contract says what it leaves
+// of the memory, word by word; the laws of specs/ say which change of the state that is.
+pub mod advance;
 pub mod period;

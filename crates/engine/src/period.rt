@@ -1,11 +1,12 @@
-// Grace periods: begin, end, and the request for one (document 01, "Generations and passes"). `cabinets` and `places`
+// Grace periods: begin, end, the request for one, and the release of a lane (document 01, "Generations and passes"). `cabinets` and `places`
 // are the sizes of the table.
 ghost use mathlib.Core.Path.{_≡_};
-ghost use Prim.Native.Nat.{_+_, _*_, _<_, _≤_};
+ghost use Prim.Native.Nat.{_<_};
 ghost use lib.ListN.{length};
-ghost use Rattle.model.specs.Layout.{masksAt, largestGenerationAt, laneLength, maxCabinets, maxPlaces};
-ghost use Rattle.lanes.specs.Cabinet.{cabinetAt};
+ghost use Rattle.model.specs.Layout.{largestGenerationAt};
+ghost use Rattle.lanes.specs.Cabinet.{sampledAt, droppedAt};
 ghost use Rattle.engine.specs.Period.{Lent, CabinetLent, onlineWord, Awaited, startedWords, endedWords, raisedWords, requestedWords};
+ghost use Rattle.engine.specs.Release.{Awaits, LaneLent, laneIn, overWords, clearedWords, passedWords, releasedWords};
 
 // The mask of the lanes of a cabinet that are on.
 fn cabinet_online(m: &[u32], cabinets: usize, places: usize, cabinet: usize) -> u32
@@ -78,4 +79,70 @@ pub fn request(m: &mut [u32], cabinets: usize, places: usize, g: u32)
     if waiting == 0 {
         start_period(m, cabinets, places);
     }
+}
+
+// If no lane is awaited any more, the period ends.
+fn end_if_over(m: &mut [u32], cabinets: usize, places: usize)
+    requires { ⌜ Lent (now m) cabinets places ⌝ }
+    ensures { λ _. ⌜ now (m .exit) ≡ overWords (now (m .entry)) cabinets places ⌝ }
+{
+    if m[words::CABINET_MASK_AT] == 0 {
+        end_period(m, cabinets, places);
+    }
+}
+
+// The bit of a lane goes, and its cabinet's bit with the last of them.
+fn clear_pending(m: &mut [u32], cabinet: u32, place: u32)
+    requires { ⌜ Awaits (now m) cabinet place ⌝ }
+    ensures { λ _. ⌜ now (m .exit) ≡ clearedWords (now (m .entry)) cabinet place ⌝ }
+{
+    let i = words::MASKS_AT + words::index(cabinet);
+    let rest = masks::clear_bit(m[i], place);
+    m[i] = rest;
+    if rest == 0 {
+        m[words::CABINET_MASK_AT] = masks::clear_bit(m[words::CABINET_MASK_AT], cabinet);
+    }
+}
+
+// The lane at a place of a cabinet drops its snapshot: the cabinet's part is handed on.
+fn drop_in(m: &mut [u32], cabinets: usize, places: usize, cabinet: usize, place: usize)
+    requires { ⌜ LaneLent (now m) cabinets places cabinet place ⌝ }
+    ensures { λ _. ⌜ now (m .exit) ≡ droppedAt (now (m .entry)) (laneIn cabinets places cabinet place) ⌝ }
+{
+    let start = lanes::cabinet::cabinet_start(words::MASKS_AT + cabinets, places, cabinet);
+    let end = start + words::LANE_LENGTH * places;
+    lanes::cabinet::drop_snapshot(&mut m[start..end], place);
+}
+
+// The lane at a place of a cabinet copies its counts: the cabinet's part is handed on.
+pub fn sample_in(m: &mut [u32], cabinets: usize, places: usize, cabinet: usize, place: usize)
+    requires { ⌜ LaneLent (now m) cabinets places cabinet place ⌝ }
+    ensures { λ _. ⌜ now (m .exit) ≡ sampledAt (now (m .entry)) (laneIn cabinets places cabinet place) ⌝ }
+{
+    let start = lanes::cabinet::cabinet_start(words::MASKS_AT + cabinets, places, cabinet);
+    let end = start + words::LANE_LENGTH * places;
+    lanes::cabinet::take_snapshot(&mut m[start..end], place);
+}
+
+// The bit of a lane goes if it is set, and the period ends if it was the last.
+fn pass_period(m: &mut [u32], cabinets: usize, places: usize, cabinet: u32, place: u32)
+    requires { ⌜ (Lent (now m) cabinets places) × ((cabinet < cabinets) × (place < places)) ⌝ }
+    ensures { λ _. ⌜ now (m .exit) ≡ passedWords (now (m .entry)) cabinets places cabinet place ⌝ }
+{
+    let c = words::index(cabinet);
+    if masks::test(m[words::MASKS_AT + c], place) {
+        clear_pending(m, cabinet, place);
+        end_if_over(m, cabinets, places);
+    }
+}
+
+// The lane at a place of a cabinet drops its snapshot and its bit, and the period ends if that was the last.
+pub fn release(m: &mut [u32], cabinets: usize, places: usize, cabinet: u32, place: u32)
+    requires { ⌜ (Lent (now m) cabinets places) × ((cabinet < cabinets) × (place < places)) ⌝ }
+    ensures { λ _. ⌜ now (m .exit) ≡ releasedWords (now (m .entry)) cabinets places cabinet place ⌝ }
+{
+    let c = words::index(cabinet);
+    let p = words::index(place);
+    drop_in(m, cabinets, places, c, p);
+    pass_period(m, cabinets, places, cabinet, place);
 }

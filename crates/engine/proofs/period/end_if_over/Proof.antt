@@ -1,0 +1,29 @@
+-- `engine::period::end_if_over` meets its contract: its test is that of `overWords`. Assumes nothing.
+use denote.Ref.{now}
+use borrow.Author.Needs.{needs}
+use Rattle.engine.specs.ReleaseWords.{over-ends, over-goes}
+use Rattle.engine.proofs.period.end_if_over.Statement.{statement}
+use Rattle.engine.proofs.period.end_if_over.Tie as tie
+
+slice-read-if1 : tie.Need-slice-read-if1
+slice-read-if1 c = search needs
+
+end-period-requires : tie.Need-end-period-requires
+end-period-requires c κs = search needs
+
+same-length : tie.Need-same-length
+same-length c = search needs
+
+returns : tie.Need-returns
+returns c =
+    let s = c .before .before .before .before .before .before .before .args in
+    over-ends (now (s .m)) (s .cabinets) (s .places) (c .before .before .before .before .if1 .taken) (c .before .before .end-period .last .0) (c .before .before .end-period .ensures)
+
+returns-2 : tie.Need-returns-2
+returns-2 c =
+    let s = c .before .before .before .args in
+    over-goes (now (s .m)) (s .cabinets) (s .places) (c .if1 .left)
+
+pub end-if-over-spec : {M : Type 1} → statement M
+end-if-over-spec =
+    tie.close (tie.spec slice-read-if1 end-period-requires same-length returns returns-2)

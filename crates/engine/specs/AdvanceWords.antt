@@ -1,0 +1,69 @@
+-- Laws of the words of Advance: what the code's steps give. Assumes nothing.
+use Prim.Native.Nat.{ℕ, _+_, _<_, _≤_}
+use mathlib.Core.Bool.{Bool, true, false, cond}
+use mathlib.Core.Path.{_≡_, ap, ap₂, sym, _∙_}
+use mathlib.Core.List.{List}
+use lib.Dec.{ltb}
+use borrow.Author.Tests.{eq-eqb, ne-eqb, lt-ltb, le-ltb}
+use Rattle.model.specs.Word.{up, later}
+use Rattle.model.specs.Layout.{currentOffset, currentGenerationAt, cabinetMaskAt}
+use Rattle.model.specs.Memory.{at}
+use Rattle.engine.specs.Period.{requestedWords}
+use Rattle.engine.specs.Advance.{targetWord, finishedWords, settledWords, batchedWords, begunWords, advancedWords}
+
+module _ (m : List ℕ) where
+  -- no period runs, or one does
+  pub target-rests : at m cabinetMaskAt ≡ 0 → at m currentGenerationAt ≡ targetWord m
+  unfolding targetWord
+  target-rests t = sym (ap (λ (d : Bool). cond d (at m currentGenerationAt) (up (at m currentGenerationAt))) (eq-eqb (at m cabinetMaskAt) 0 t))
+
+  pub target-runs : (at m cabinetMaskAt ≡ 0 → ⊥) → (r : ℕ) → r ≡ up (at m currentGenerationAt) → r ≡ targetWord m
+  unfolding targetWord
+  target-runs t r e = e ∙ sym (ap (λ (d : Bool). cond d (at m currentGenerationAt) (up (at m currentGenerationAt))) (ne-eqb (at m cabinetMaskAt) 0 t))
+
+module _ (m : List ℕ) (base slots ends generation : ℕ) where
+  abbrev finished : List ℕ
+  finished = finishedWords m base slots ends generation
+
+  -- the current queue is empty
+  pub settled-empty : slots ≤ at m (ends + currentOffset) → m ≡ settledWords m base slots ends generation
+  unfolding settledWords
+  settled-empty h =
+      sym (ap (λ (d : Bool). cond d (cond (later (at m currentGenerationAt) (at m generation)) finished m) m) (le-ltb (at m (ends + currentOffset)) slots h))
+
+  -- it is not, and its generation is earlier, or not
+  module _ (h : at m (ends + currentOffset) < slots) (b : Bool) (f : b ≡ later (at m currentGenerationAt) (at m generation)) where
+    pub settled-finished : b ≡ true → (n : List ℕ) → n ≡ finished → n ≡ settledWords m base slots ends generation
+    unfolding settledWords
+    settled-finished t n q = q ∙ sym (ap₂ (λ (d e : Bool). cond d (cond e finished m) m) (lt-ltb (at m (ends + currentOffset)) slots h) (sym f ∙ t))
+
+    pub settled-waits : b ≡ false → m ≡ settledWords m base slots ends generation
+    unfolding settledWords
+    settled-waits t = sym (ap₂ (λ (d e : Bool). cond d (cond e finished m) m) (lt-ltb (at m (ends + currentOffset)) slots h) (sym f ∙ t))
+
+module _ (m : List ℕ) (cabinets places base slots ends generation : ℕ) where
+  abbrev asked : ℕ → List ℕ
+  asked g = requestedWords (batchedWords m base slots ends generation g) cabinets places g
+
+  -- current is not empty
+  pub begun-busy : at m (ends + currentOffset) < slots → m ≡ begunWords m cabinets places base slots ends generation
+  unfolding begunWords
+  begun-busy h = sym (ap (λ (d : Bool). cond d m (cond (ltb (at m ends) slots) (asked (targetWord m)) m)) (lt-ltb (at m (ends + currentOffset)) slots h))
+
+  -- it is, and next is not, or is too
+  module _ (h : slots ≤ at m (ends + currentOffset)) where
+    pub begun-begins : at m ends < slots → (g : ℕ) → g ≡ targetWord m → (x y : List ℕ) → x ≡ batchedWords m base slots ends generation g
+        → y ≡ requestedWords x cabinets places g → y ≡ begunWords m cabinets places base slots ends generation
+    unfolding begunWords
+    begun-begins k g e x y p q =
+        q ∙ ap (λ (l : List ℕ). requestedWords l cabinets places g) p ∙ ap asked e
+        ∙ sym (ap₂ (λ (d f : Bool). cond d m (cond f (asked (targetWord m)) m)) (le-ltb (at m (ends + currentOffset)) slots h) (lt-ltb (at m ends) slots k))
+
+    pub begun-idle : slots ≤ at m ends → m ≡ begunWords m cabinets places base slots ends generation
+    unfolding begunWords
+    begun-idle k = sym (ap₂ (λ (d f : Bool). cond d m (cond f (asked (targetWord m)) m)) (le-ltb (at m (ends + currentOffset)) slots h) (le-ltb (at m ends) slots k))
+
+  pub advanced-by : (x y : List ℕ) → x ≡ settledWords m base slots ends generation → y ≡ begunWords x cabinets places base slots ends generation
+      → y ≡ advancedWords m cabinets places base slots ends generation
+  unfolding advancedWords
+  advanced-by x y p q = q ∙ ap (λ (l : List ℕ). begunWords l cabinets places base slots ends generation) p

@@ -1,0 +1,57 @@
+-- `write_contents` meets its contract: three calls of `write_four`, one after another. Assumes nothing.
+use mathlib.Core.Path.{refl}
+use native.Mathlib.Omega.{arith}
+use borrow.Author.Needs.{needs}
+use Rattle.model.specs.Calls.{sized}
+use Rattle.set_up.specs.Written.{after, renamed}
+use Rattle.set_up.specs.FreshWords.{contents-are}
+use Rattle.set_up.proofs.write_contents.Statement.{statement}
+use Rattle.set_up.proofs.write_contents.Tie as tie
+
+add-lanes-body : tie.Need-add-lanes-body
+add-lanes-body c = search needs
+
+mul-lanes-length : tie.Need-mul-lanes-length
+mul-lanes-length c = search needs
+
+add-slots-body : tie.Need-add-slots-body
+add-slots-body c = search needs
+
+write-four-requires : tie.Need-write-four-requires
+write-four-requires c κs = search needs
+
+write-four-requires-2 : tie.Need-write-four-requires-2
+write-four-requires-2 c κs = search needs
+
+add-write-four : tie.Need-add-write-four
+add-write-four c = search needs
+
+mul-write-four : tie.Need-mul-write-four
+mul-write-four c = search needs
+
+write-four-requires-3 : tie.Need-write-four-requires-3
+write-four-requires-3 c κs = search needs
+
+same-length : tie.Need-same-length
+same-length c = search needs
+
+returns : tie.Need-returns
+returns c =
+    let a = c .before .before .before .before .before .before .before .before .before .before .before .before .before .args in
+    renamed (after (after (c .before .before .before .before .before .before .before .before .before .before .write-four .ensures) (c .before .before .before .before .before .before .write-four2 .ensures) refl) (c .before .before .write-four3 .ensures) refl)
+    (contents-are (sized (a .cabinets) (a .places) (a .slots)) (a .lanes) (omega arith))
+
+pub write-contents-spec : {M : Type 1} → statement M
+write-contents-spec =
+    tie.close
+    (tie.spec
+    add-lanes-body
+    mul-lanes-length
+    add-slots-body
+    write-four-requires
+    write-four-requires-2
+    add-write-four
+    mul-write-four
+    write-four-requires-3
+    same-length
+    returns)

@@ -1,0 +1,94 @@
+-- `write_fresh` meets its contract: the bodies are written one after another. Assumes nothing.
+use mathlib.Core.Path.{refl}
+use native.Mathlib.Omega.{arith}
+use borrow.Author.Needs.{needs}
+use Rattle.model.specs.Calls.{sized}
+use Rattle.representation.specs.Sentences.{sizes-fit}
+use Rattle.set_up.specs.FreshWords.{all-written}
+use Rattle.set_up.proofs.write_fresh.Statement.{statement}
+use Rattle.set_up.proofs.write_fresh.Tie as tie
+
+mul-lanes : tie.Need-mul-lanes
+mul-lanes c =
+    let a = c .before .args in
+    let f = sizes-fit (sized (a .cabinets) (a .places) (a .slots)) (c .before .pre .0) in
+    omega arith
+
+index-requires : tie.Need-index-requires
+index-requires c κs = search needs
+
+index-requires-2 : tie.Need-index-requires-2
+index-requires-2 c κs = search needs
+
+write-contents-requires : tie.Need-write-contents-requires
+write-contents-requires c κs =
+    let a = c .before .before .before .before .args in
+    let f = sizes-fit (sized (a .cabinets) (a .places) (a .slots)) (c .before .before .before .before .pre .0) in
+    (omega arith, omega arith, omega arith, omega arith, refl)
+
+write-global-requires : tie.Need-write-global-requires
+write-global-requires c κs =
+    let a = c .before .before .before .before .before .before .before .before .args in
+    let f = sizes-fit (sized (a .cabinets) (a .places) (a .slots)) (c .before .before .before .before .before .before .before .before .pre .0) in
+    (omega arith, omega arith)
+
+fill-requires : tie.Need-fill-requires
+fill-requires c κs = search needs
+
+add-write-lanes : tie.Need-add-write-lanes
+add-write-lanes c = search needs
+
+write-lanes-requires : tie.Need-write-lanes-requires
+write-lanes-requires c κs = search needs
+
+add-write-slots : tie.Need-add-write-slots
+add-write-slots c = search needs
+
+mul-write-slots : tie.Need-mul-write-slots
+mul-write-slots c = search needs
+
+add-write-slots-2 : tie.Need-add-write-slots-2
+add-write-slots-2 c = search needs
+
+write-slots-requires : tie.Need-write-slots-requires
+write-slots-requires c κs = search needs
+
+same-length : tie.Need-same-length
+same-length c = search needs
+
+returns : tie.Need-returns
+returns c =
+    let a = c .before .before .before .before .before .before .before .before .before .before .before .before .before .before .before .before .before .before .before .before .before .before .before .args in
+    let f = sizes-fit (sized (a .cabinets) (a .places) (a .slots)) (c .before .before .before .before .before .before .before .before .before .before .before .before .before .before .before .before .before .before .before .before .before .before .before .pre .0) in
+    all-written
+    (sized (a .cabinets) (a .places) (a .slots))
+    (c .before .before .before .before .before .before .before .before .before .before .before .before .before .before .before .before .before .before .before .before .before .index .result)
+    (c .before .before .before .before .before .before .before .before .before .before .before .before .before .before .before .before .before .before .before .before .index2 .result)
+    (c .before .before .before .before .before .before .before .before .before .before .before .before .before .before .before .before .before .before .before .before .before .index .ensures)
+    (c .before .before .before .before .before .before .before .before .before .before .before .before .before .before .before .before .before .before .before .before .index2 .ensures)
+    (omega arith)
+    (c .before .before .before .before .before .before .before .before .before .before .before .before .before .before .before .before .before .before .before .before .before .before .before .pre .1)
+    (c .before .before .before .before .before .before .before .before .before .before .before .before .before .before .before .before .before .before .write-contents .ensures)
+    (c .before .before .before .before .before .before .before .before .before .before .before .before .before .before .write-global .ensures)
+    (c .before .before .before .before .before .before .before .before .before .before .fill .ensures)
+    (c .before .before .before .before .before .before .write-lanes .ensures)
+    (c .before .before .write-slots .ensures)
+
+pub write-fresh-spec : {M : Type 1} → statement M
+write-fresh-spec =
+    tie.close
+    (tie.spec
+    mul-lanes
+    index-requires
+    index-requires-2
+    write-contents-requires
+    write-global-requires
+    fill-requires
+    add-write-lanes
+    write-lanes-requires
+    add-write-slots
+    mul-write-slots
+    add-write-slots-2
+    write-slots-requires
+    same-length
+    returns)

@@ -1,0 +1,64 @@
+-- `write_global` meets its contract: runs of one word, one after another. Assumes nothing.
+use mathlib.Core.Path.{refl}
+use borrow.Author.Needs.{needs}
+use Rattle.set_up.specs.Written.{after, renamed}
+use Rattle.set_up.specs.FreshWords.{freshGlobal}
+use Rattle.set_up.proofs.write_global.Statement.{statement}
+use Rattle.set_up.proofs.write_global.Tie as tie
+
+fill-requires : tie.Need-fill-requires
+fill-requires c κs = search needs
+
+fill-requires-2 : tie.Need-fill-requires-2
+fill-requires-2 c κs = search needs
+
+fill-requires-3 : tie.Need-fill-requires-3
+fill-requires-3 c κs = search needs
+
+fill-requires-4 : tie.Need-fill-requires-4
+fill-requires-4 c κs = search needs
+
+add-fill : tie.Need-add-fill
+add-fill c = search needs
+
+sub-fill : tie.Need-sub-fill
+sub-fill c = search needs
+
+fill-requires-5 : tie.Need-fill-requires-5
+fill-requires-5 c κs = search needs
+
+fill-requires-6 : tie.Need-fill-requires-6
+fill-requires-6 c κs = search needs
+
+fill-requires-7 : tie.Need-fill-requires-7
+fill-requires-7 c κs = search needs
+
+same-length : tie.Need-same-length
+same-length c = search needs
+
+returns : tie.Need-returns
+unfolding freshGlobal
+returns c =
+    renamed (after (after (after (after (after (after (c .before .before .before .before .before .before .before .before .before .before .before .before .before .before .before .before .before .before .before .before .before .before .before .before .before .before .fill .ensures)
+    (c .before .before .before .before .before .before .before .before .before .before .before .before .before .before .before .before .before .before .before .before .before .before .fill2 .ensures) refl)
+    (c .before .before .before .before .before .before .before .before .before .before .before .before .before .before .before .before .before .before .fill3 .ensures) refl)
+    (c .before .before .before .before .before .before .before .before .before .before .before .before .before .before .fill4 .ensures) refl)
+    (c .before .before .before .before .before .before .before .before .before .before .fill5 .ensures) refl)
+    (c .before .before .before .before .before .before .fill6 .ensures) refl)
+    (c .before .before .fill7 .ensures) refl) refl
+
+pub write-global-spec : {M : Type 1} → statement M
+write-global-spec =
+    tie.close
+    (tie.spec
+    fill-requires
+    fill-requires-2
+    fill-requires-3
+    fill-requires-4
+    add-fill
+    sub-fill
+    fill-requires-5
+    fill-requires-6
+    fill-requires-7
+    same-length
+    returns)

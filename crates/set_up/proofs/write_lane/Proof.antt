@@ -1,0 +1,62 @@
+-- `write_lane` meets its contract: runs of one word, one after another. Assumes nothing.
+use mathlib.Core.Path.{refl}
+use borrow.Author.Needs.{needs}
+use Rattle.set_up.specs.Written.{after, renamed}
+use Rattle.set_up.specs.FreshWords.{freshLaneWords}
+use Rattle.set_up.proofs.write_lane.Statement.{statement}
+use Rattle.set_up.proofs.write_lane.Tie as tie
+
+fill-requires : tie.Need-fill-requires
+fill-requires c κs = search needs
+
+add-fill : tie.Need-add-fill
+add-fill c = search needs
+
+fill-requires-2 : tie.Need-fill-requires-2
+fill-requires-2 c κs = search needs
+
+add-fill-2 : tie.Need-add-fill-2
+add-fill-2 c = search needs
+
+fill-requires-3 : tie.Need-fill-requires-3
+fill-requires-3 c κs = search needs
+
+add-fill-3 : tie.Need-add-fill-3
+add-fill-3 c = search needs
+
+fill-requires-4 : tie.Need-fill-requires-4
+fill-requires-4 c κs = search needs
+
+add-fill-4 : tie.Need-add-fill-4
+add-fill-4 c = search needs
+
+fill-requires-5 : tie.Need-fill-requires-5
+fill-requires-5 c κs = search needs
+
+same-length : tie.Need-same-length
+same-length c = search needs
+
+returns : tie.Need-returns
+unfolding freshLaneWords
+returns c =
+    renamed (after (after (after (after (c .before .before .before .before .before .before .before .before .before .before .before .before .before .before .before .before .before .before .fill .ensures)
+    (c .before .before .before .before .before .before .before .before .before .before .before .before .before .before .fill2 .ensures) refl)
+    (c .before .before .before .before .before .before .before .before .before .before .fill3 .ensures) refl)
+    (c .before .before .before .before .before .before .fill4 .ensures) refl)
+    (c .before .before .fill5 .ensures) refl) refl
+
+pub write-lane-spec : {M : Type 1} → statement M
+write-lane-spec =
+    tie.close
+    (tie.spec
+    fill-requires
+    add-fill
+    fill-requires-2
+    add-fill-2
+    fill-requires-3
+    add-fill-3
+    fill-requires-4
+    add-fill-4
+    fill-requires-5
+    same-length
+    returns)

@@ -1,0 +1,51 @@
+-- `write_slot` meets its contract: runs of one word, one after another. Assumes nothing.
+use Prim.Native.Nat.{ℕ}
+use mathlib.Core.Path.{refl, ap}
+use mathlib.Core.List.{[], _∷_}
+use borrow.Author.Needs.{needs}
+use Rattle.model.specs.Word.{none}
+use Rattle.set_up.specs.Written.{after, renamed}
+use Rattle.set_up.specs.FreshWords.{freshSlotWords}
+use Rattle.set_up.proofs.write_slot.Statement.{statement}
+use Rattle.set_up.proofs.write_slot.Tie as tie
+
+link-after-requires : tie.Need-link-after-requires
+link-after-requires c κs = search needs
+
+fill-requires : tie.Need-fill-requires
+fill-requires c κs = search needs
+
+add-fill : tie.Need-add-fill
+add-fill c = search needs
+
+fill-requires-2 : tie.Need-fill-requires-2
+fill-requires-2 c κs = search needs
+
+add-fill-2 : tie.Need-add-fill-2
+add-fill-2 c = search needs
+
+fill-requires-3 : tie.Need-fill-requires-3
+fill-requires-3 c κs = search needs
+
+same-length : tie.Need-same-length
+same-length c = search needs
+
+returns : tie.Need-returns
+unfolding freshSlotWords
+returns c =
+    renamed (after (after (c .before .before .before .before .before .before .before .before .before .before .fill .ensures)
+    (c .before .before .before .before .before .before .fill2 .ensures) refl)
+    (c .before .before .fill3 .ensures) refl) (ap (λ (l : ℕ). 0 ∷ 0 ∷ 0 ∷ 0 ∷ none ∷ l ∷ []) (c .before .before .before .before .before .before .before .before .before .before .before .before .link-after .ensures))
+
+pub write-slot-spec : {M : Type 1} → statement M
+write-slot-spec =
+    tie.close
+    (tie.spec
+    link-after-requires
+    fill-requires
+    add-fill
+    fill-requires-2
+    add-fill-2
+    fill-requires-3
+    same-length
+    returns)

@@ -1,0 +1,249 @@
+// The words of a fresh table, one body after another.
+ghost use mathlib.Core.Path.{_≡_};
+ghost use mathlib.Core.Bool.{true};
+ghost use mathlib.Core.List.{[], _∷_};
+ghost use Prim.Native.Nat.{_+_, _*_, _≤_};
+ghost use lib.ListN.{length, replicate};
+ghost use Rattle.model.specs.Layout.{maxCabinets, maxPlaces, maxSlots, contentsLength, globalBody, masksAt, laneLength, slotLength, total};
+ghost use Rattle.model.specs.Memory.{contents};
+ghost use Rattle.model.specs.Rules.{fresh};
+ghost use Rattle.model.specs.Legal.{sizesFit};
+ghost use Rattle.model.specs.Calls.{sized, stored, set-up};
+ghost use Rattle.set_up.specs.Written.{Written, rows};
+ghost use Rattle.set_up.specs.Replied.{Replied};
+ghost use Rattle.set_up.specs.FreshWords.{freshGlobal, freshLaneWords, linkAfter, freshSlotWords};
+
+// first word and length of the bodies, as words of the contents
+const GLOBAL_BODY: u32 = words::CONTENTS_LENGTH as u32;
+
+const MASKS_BODY: u32 = words::MASKS_AT as u32;
+
+const GLOBAL_LENGTH: u32 = MASKS_BODY - GLOBAL_BODY;
+
+const LANE_LENGTH: u32 = words::LANE_LENGTH as u32;
+
+const SLOT_LENGTH: u32 = words::SLOT_LENGTH as u32;
+
+// the largest generation and the cabinet mask
+const REST_LENGTH: usize = words::HEADS_AT - words::LARGEST_GENERATION_AT;
+
+// a lane's counts, its snapshot's, and the generation; the code of its lookup
+const COUNTS_LENGTH: usize = words::QUEUES_AT - words::QUIESCENT_AT;
+
+const CODE_LENGTH: usize = words::POSITION_AT - words::LOOKUP_AT;
+
+// a fresh lane is on
+const FRESH_FLAGS: u32 = 1;
+
+const FRESH_GENERATION: u32 = 1;
+
+// The five words of an answer.
+pub struct Answer {
+    pub status: u32,
+    pub a: u32,
+    pub b: u32,
+    pub c: u32,
+    pub d: u32,
+}
+
+// Writes v to the n words from at on.
+fn fill(m: &mut [u32], at: usize, n: usize, v: u32)
+    requires { ⌜ at + n ≤ length (now m) ⌝ }
+    ensures { λ _. ⌜ Written (now (m .entry)) at (replicate n v) (now (m .exit)) ⌝ }
+{
+    let mut i: usize = 0;
+    while i < n {
+        m[at + i] = v;
+        i = i + 1;
+    }
+}
+
+// Writes four words from at on.
+fn write_four(m: &mut [u32], at: usize, a: u32, b: u32, c: u32, d: u32)
+    requires { ⌜ at + 4 ≤ length (now m) ⌝ }
+    ensures { λ _. ⌜ Written (now (m .entry)) at (a ∷ b ∷ c ∷ d ∷ []) (now (m .exit)) ⌝ }
+{
+    m[at] = a;
+    m[at + 1] = b;
+    m[at + 2] = c;
+    m[at + 3] = d;
+}
+
+// Writes the contents of a table with these sizes.
+fn write_contents(m: &mut [u32], cabinets: u32, places: u32, lanes: u32, slots: u32)
+    requires { ⌜ (contentsLength ≤ length (now m)) × (cabinets ≤ maxCabinets) × (lanes ≤ maxCabinets * maxPlaces) × (slots ≤ maxSlots) × (lanes ≡ cabinets * places) ⌝ }
+    ensures { λ _. ⌜ Written (now (m .entry)) 0 (contents (sized cabinets places slots)) (now (m .exit)) ⌝ }
+{
+    let lanes_body = MASKS_BODY + cabinets;
+    let lanes_length = LANE_LENGTH * lanes;
+    let slots_body = lanes_body + lanes_length;
+    write_four(
+        m,
+        words::VERSION_AT,
+        words::VERSION,
+        cabinets,
+        places,
+        slots,
+    );
+    write_four(
+        m,
+        words::BODIES_AT,
+        GLOBAL_BODY,
+        GLOBAL_LENGTH,
+        MASKS_BODY,
+        cabinets,
+    );
+    write_four(
+        m,
+        words::BODIES_AT + 4,
+        lanes_body,
+        lanes_length,
+        slots_body,
+        SLOT_LENGTH * slots,
+    );
+}
+
+// Writes the global words: generations, chain heads, and the ends of the queues.
+fn write_global(m: &mut [u32], slots: u32)
+    requires { ⌜ (masksAt ≤ length (now m)) × (1 ≤ slots) ⌝ }
+    ensures { λ _. ⌜ Written (now (m .entry)) globalBody (freshGlobal slots) (now (m .exit)) ⌝ }
+{
+    fill(m, words::CURRENT_GENERATION_AT, 1, FRESH_GENERATION);
+    fill(m, words::LARGEST_GENERATION_AT, REST_LENGTH, 0);
+    fill(m, words::HEADS_AT, words::CHAIN_COUNT, words::NONE);
+    fill(m, words::FREE_AT, 1, 0);
+    fill(m, words::FREE_AT + words::LAST_OFFSET, 1, slots - 1);
+    fill(m, words::GLOBAL_QUEUES_AT, words::QUEUES_WIDTH, words::NONE);
+    fill(m, words::GLOBAL_GENERATION_AT, 1, 0);
+}
+
+// Writes a lane's record from at on.
+fn write_lane(m: &mut [u32], at: usize)
+    requires { ⌜ at + laneLength ≤ length (now m) ⌝ }
+    ensures { λ _. ⌜ Written (now (m .entry)) at (freshLaneWords 0) (now (m .exit)) ⌝ }
+{
+    fill(m, at, 1, FRESH_FLAGS);
+    fill(m, at + words::QUIESCENT_AT, COUNTS_LENGTH, 0);
+    fill(m, at + words::QUEUES_AT, words::QUEUES_WIDTH, words::NONE);
+    fill(m, at + words::LOOKUP_AT, CODE_LENGTH, 0);
+    fill(m, at + words::POSITION_AT, 1, words::NONE);
+}
+
+// Writes the records of n lanes from first on.
+fn write_lanes(m: &mut [u32], first: usize, n: usize)
+    requires { ⌜ first + laneLength * n ≤ length (now m) ⌝ }
+    ensures { λ _. ⌜ Written (now (m .entry)) first (rows freshLaneWords n) (now (m .exit)) ⌝ }
+{
+    let mut i: usize = 0;
+    let mut at = first;
+    while i < n {
+        write_lane(m, at);
+        at = at + words::LANE_LENGTH;
+        i = i + 1;
+    }
+}
+
+// The queue link of slot i of the free queue.
+fn link_after(slots: u32, i: u32) -> u32
+    requires { ⌜ i + 1 ≤ slots ⌝ }
+    ensures { λ r. ⌜ r ≡ linkAfter slots i ⌝ }
+{
+    if i + 1 < slots { i + 1 } else { words::NONE }
+}
+
+// Writes the record of slot i from at on.
+fn write_slot(m: &mut [u32], at: usize, slots: u32, i: u32)
+    requires { ⌜ (at + slotLength ≤ length (now m)) × (i + 1 ≤ slots) ⌝ }
+    ensures { λ _. ⌜ Written (now (m .entry)) at (freshSlotWords slots i) (now (m .exit)) ⌝ }
+{
+    let link = link_after(slots, i);
+    fill(m, at, words::CHAIN_LINK_AT, 0);
+    fill(m, at + words::CHAIN_LINK_AT, 1, words::NONE);
+    fill(m, at + words::QUEUE_LINK_AT, 1, link);
+}
+
+// Writes the records of all slots from first on.
+fn write_slots(m: &mut [u32], first: usize, slots: u32)
+    requires { ⌜ first + slotLength * slots ≤ length (now m) ⌝ }
+    ensures { λ _. ⌜ Written (now (m .entry)) first (rows (freshSlotWords slots) slots) (now (m .exit)) ⌝ }
+{
+    let mut i: u32 = 0;
+    let mut at = first;
+    while i < slots {
+        write_slot(m, at, slots, i);
+        at = at + words::SLOT_LENGTH;
+        i = i + 1;
+    }
+}
+
+// Writes the words of a fresh table of these sizes. All words past its total stay.
+pub fn write_fresh(m: &mut [u32], cabinets: u32, places: u32, slots: u32)
+    requires { ⌜ (sizesFit (sized cabinets places slots) ≡ true) × (total (sized cabinets places slots) ≤ length (now m)) ⌝ }
+    ensures { λ _. ⌜ now (m .exit) ≡ stored (fresh (sized cabinets places slots)) (now (m .entry)) ⌝ }
+{
+    let lanes = cabinets * places;
+    let masks = words::index(cabinets);
+    let records = words::index(lanes);
+    write_contents(m, cabinets, places, lanes, slots);
+    write_global(m, slots);
+    fill(m, words::MASKS_AT, masks, 0);
+    write_lanes(m, words::MASKS_AT + masks, records);
+    write_slots(
+        m,
+        words::MASKS_AT + masks + words::LANE_LENGTH * records,
+        slots,
+    );
+}
+
+// Cabinets 1 to 8, lanes per cabinet 1 to 8, slots 1 to 1,024.
+pub fn sizes_fit(cabinets: u32, places: u32, slots: u32) -> bool
+    ensures { λ r. ⌜ r ≡ sizesFit (sized cabinets places slots) ⌝ }
+{
+    (1 <= cabinets)
+        & ((cabinets <= words::MAX_CABINETS)
+            & ((1 <= places)
+                & ((places <= words::MAX_PLACES)
+                    & ((1 <= slots) & ((slots <= words::MAX_SLOTS) & true)))))
+}
+
+// The number of words of a table of these sizes.
+pub fn total_words(cabinets: u32, places: u32, slots: u32) -> u32
+    requires { ⌜ sizesFit (sized cabinets places slots) ≡ true ⌝ }
+    ensures { λ r. ⌜ r ≡ total (sized cabinets places slots) ⌝ }
+{
+    MASKS_BODY + cabinets + LANE_LENGTH * (cabinets * places) + SLOT_LENGTH * slots
+}
+
+// Set-up: refused where the sizes are out of range (cause 1) or the memory is too short (cause 2), and
+// then no word changes; otherwise the fresh table is written, and its total answered.
+pub fn set_up(m: &mut [u32], cabinets: u32, places: u32, slots: u32) -> Answer
+    ensures { λ r. ⌜ Replied (now (m .entry)) (set-up cabinets places slots) r (now (m .exit)) ⌝ }
+{
+    if !sizes_fit(cabinets, places, slots) {
+        return Answer {
+            status: 1,
+            a: 0,
+            b: 0,
+            c: 0,
+            d: 0,
+        };
+    }
+    let total = total_words(cabinets, places, slots);
+    if m.len() < words::index(total) {
+        return Answer {
+            status: 2,
+            a: 0,
+            b: 0,
+            c: 0,
+            d: 0,
+        };
+    }
+    write_fresh(m, cabinets, places, slots);
+    Answer {
+        status: 0,
+        a: total,
+        b: 0,
+        c: 0,
+        d: 0,
+    }
+}

@@ -1,0 +1,45 @@
+-- `begin_legal` meets its contract: a law for each way out. Assumes nothing.
+use native.Mathlib.Omega.{arith}
+use Rattle.model.specs.Rules.{begin}
+use Rattle.table.specs.Ways.{refuses}
+use Rattle.table.specs.Lanes.{begin-lane, begin-done}
+use borrow.Author.Needs.{needs}
+use Rattle.table.proofs.begin_legal.Statement.{statement}
+use Rattle.table.proofs.begin_legal.Tie as tie
+
+begin-refusal-requires : tie.Need-begin-refusal-requires
+begin-refusal-requires c κs = search needs
+
+refused-requires : tie.Need-refused-requires
+refused-requires c κs = search needs
+
+same-length : tie.Need-same-length
+same-length c = search needs
+
+returns : tie.Need-returns
+returns c = refuses _ (begin (c .before .before .before .before .before .args .lane)) (c .before .before .before .before .before .pre) _ _ (c .before .before .begin-refusal .ensures) (c .before .if1 .taken) (c .refused .ensures)
+
+set-flag-requires : tie.Need-set-flag-requires
+set-flag-requires c κs = (begin-lane _ (c .before .before .before .before .before .pre) (c .before .before .before .before .before .args .lane) _ (c .before .before .begin-refusal .ensures) (c .before .if1 .left), omega arith)
+
+accepted-requires : tie.Need-accepted-requires
+accepted-requires c κs = search needs
+
+same-length-2 : tie.Need-same-length-2
+same-length-2 c = search needs
+
+returns-2 : tie.Need-returns-2
+returns-2 c = begin-done _ (c .before .before .before .before .before .before .before .before .before .pre) (c .before .before .before .before .before .before .before .before .before .args .lane) _ _ _ (c .before .before .before .before .before .if1 .left) (c .accepted .ensures) (c .before .before .before .before .before .before .begin-refusal .ensures) (c .before .before .before .set-flag .ensures)
+
+pub begin-legal-spec : {M : Type 1} → statement M
+begin-legal-spec =
+    tie.close
+    (tie.spec
+    begin-refusal-requires
+    refused-requires
+    same-length
+    returns
+    set-flag-requires
+    accepted-requires
+    same-length-2
+    returns-2)
