@@ -1,3 +1,5 @@
+-- Laws on plain lists and numbers, for the proofs of this crate, from the parts to the whole: bits and loops; the contents; a lane, then the
+-- engine; the steps that mark the slots, then the table; legality.
 mod Bits
 mod Loops
 mod LaneLoops

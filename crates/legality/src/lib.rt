@@ -1,5 +1,6 @@
 // The legality check: whether a memory is legal (document 01, "The memory", last paragraph), for any
-// words and any number of them. It reads each word of the table once, besides following each link once.
+// words and any number of them. It reads no word past the total and follows no link out of range; a
+// walk that comes round again meets a marked slot and ends.
 mod contents;
 mod lanes;
 mod slots;
