@@ -1,0 +1,39 @@
+-- `lane_address` meets its contract: the sizes are in range. Assumes nothing.
+use native.Mathlib.Omega.{arith}
+use Rattle.access.specs.Ways.{inRange, long}
+use borrow.Author.Needs.{needs}
+use Rattle.access.proofs.lane_address.Statement.{statement}
+use Rattle.access.proofs.lane_address.Tie as tie
+
+shared-slice-read-index : tie.Need-shared-slice-read-index
+shared-slice-read-index c = omega (arith, long _ (c .before .before .pre))
+
+index-requires : tie.Need-index-requires
+index-requires c κs = search needs
+
+add-result : tie.Need-add-result
+add-result c = omega (arith, c .index .ensures, inRange _ (c .before .before .before .pre) .fewCabinets)
+
+index-requires-2 : tie.Need-index-requires-2
+index-requires-2 c κs = search needs
+
+mul-result : tie.Need-mul-result
+mul-result c = search needs
+
+add-result-2 : tie.Need-add-result-2
+add-result-2 c = omega (arith, c .before .index .ensures, c .index2 .ensures, inRange _ (c .before .before .before .before .pre) .fewCabinets)
+
+returns : tie.Need-returns
+returns c = search needs
+
+pub lane-address-spec : {M : Type 1} → statement M
+lane-address-spec =
+    tie.close
+    (tie.spec
+    shared-slice-read-index
+    index-requires
+    add-result
+    index-requires-2
+    mul-result
+    add-result-2
+    returns)

@@ -1,0 +1,43 @@
+-- `slots_start` meets its contract. Assumes nothing.
+use native.Mathlib.Omega.{arith}
+use Rattle.access.specs.Ways.{inRange, long}
+use borrow.Author.Needs.{needs}
+use Rattle.access.proofs.slots_start.Statement.{statement}
+use Rattle.access.proofs.slots_start.Tie as tie
+
+shared-slice-read-index : tie.Need-shared-slice-read-index
+shared-slice-read-index c = omega (arith, long _ (c .before .before .pre))
+
+index-requires : tie.Need-index-requires
+index-requires c κs = search needs
+
+add-result : tie.Need-add-result
+add-result c = omega (arith, c .index .ensures, inRange _ (c .before .before .before .pre) .fewCabinets)
+
+lane-count-requires : tie.Need-lane-count-requires
+lane-count-requires c κs = search needs
+
+index-requires-2 : tie.Need-index-requires-2
+index-requires-2 c κs = search needs
+
+mul-result : tie.Need-mul-result
+mul-result c = search needs
+
+add-result-2 : tie.Need-add-result-2
+add-result-2 c = omega (arith, c .index2 .ensures, c .before .lane-count .ensures, c .before .before .index .ensures, inRange _ (c .before .before .before .before .before .pre) .fewCabinets, inRange _ (c .before .before .before .before .before .pre) .fewLanes)
+
+returns : tie.Need-returns
+returns c = search needs
+
+pub slots-start-spec : {M : Type 1} → statement M
+slots-start-spec =
+    tie.close
+    (tie.spec
+    shared-slice-read-index
+    index-requires
+    add-result
+    lane-count-requires
+    index-requires-2
+    mul-result
+    add-result-2
+    returns)

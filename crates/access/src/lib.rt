@@ -1,0 +1,180 @@
+// What every call starts from on a legal memory: the five words of its answer, a lane's record and flags, the causes 4, 5 and 7,
+// and where the chains and the slots stand.
+ghost use mathlib.Core.Path.{_≡_};
+ghost use mathlib.Core.List.{[]};
+ghost use Prim.Native.Nat.{_<_};
+ghost use Rattle.model.specs.State.{laneCount, isRunning};
+ghost use Rattle.model.specs.Layout.{laneAddress, slotsBody};
+ghost use Rattle.model.specs.Lists.{first};
+ghost use Rattle.model.specs.Table.{chainOf};
+ghost use Rattle.model.specs.Rules.{refused as refusedWords, accepted as acceptedWords, firstOf, ofLane, laneOf, refusal, begin as beginning};
+ghost use Rattle.model.specs.Memory.{at, flag, sizes, state};
+ghost use Rattle.representation.specs.Memories.{Sound};
+ghost use Rattle.masks.specs.Bits.{width};
+ghost use Rattle.access.specs.Contract.{five};
+ghost use Rattle.access.specs.Lanes.{LaneIn, flagSet, flagCleared};
+
+// the bits of a lane's flags
+pub const ONLINE: u32 = 0;
+
+pub const READING: u32 = 1;
+
+pub const LOOKUP: u32 = 2;
+
+// ---- answers
+
+// The five words of an answer.
+pub struct Answer {
+    pub status: u32,
+    pub a: u32,
+    pub b: u32,
+    pub c: u32,
+    pub d: u32,
+}
+
+// The cause's number, then four zeros.
+pub fn refused(n: u32) -> Answer
+    ensures { λ r. ⌜ five r ≡ refusedWords n ⌝ }
+{
+    Answer {
+        status: n,
+        a: 0,
+        b: 0,
+        c: 0,
+        d: 0,
+    }
+}
+
+// Status 0, then four words.
+pub fn accepted(a: u32, b: u32, c: u32, d: u32) -> Answer
+    ensures { λ r. ⌜ five r ≡ acceptedWords a b c d ⌝ }
+{
+    Answer {
+        status: 0,
+        a,
+        b,
+        c,
+        d,
+    }
+}
+
+// ---- lanes
+
+// The number of lanes.
+pub fn lane_count(m: &[u32]) -> u32
+    requires { ⌜ Sound (now m) ⌝ }
+    ensures { λ r. ⌜ r ≡ laneCount (sizes (now (m .entry))) ⌝ }
+{
+    m[words::CABINETS_AT] * m[words::PLACES_AT]
+}
+
+// Where the record of a lane begins.
+pub fn lane_address(m: &[u32], lane: u32) -> usize
+    requires { ⌜ Sound (now m) ⌝ }
+    ensures { λ r. ⌜ r ≡ laneAddress (sizes (now (m .entry))) lane ⌝ }
+{
+    words::MASKS_AT + words::index(m[words::CABINETS_AT]) + words::LANE_LENGTH * words::index(lane)
+}
+
+// Bit p of a lane's flags.
+pub fn lane_flag(m: &[u32], lane: u32, p: u32) -> bool
+    requires { ⌜ LaneIn (now m) lane × (p < width) ⌝ }
+    ensures { λ r. ⌜ r ≡ flag p (at (now (m .entry)) (laneAddress (sizes (now (m .entry))) lane)) ⌝ }
+{
+    let a = lane_address(m, lane);
+    masks::test(m[a], p)
+}
+
+// Whether a lane is on.
+pub fn is_online(m: &[u32], lane: u32) -> bool
+    requires { ⌜ LaneIn (now m) lane ⌝ }
+    ensures { λ r. ⌜ r ≡ laneOf (state (now (m .entry))) lane .online ⌝ }
+{
+    lane_flag(m, lane, ONLINE)
+}
+
+// Whether a lane's section is open.
+pub fn is_reading(m: &[u32], lane: u32) -> bool
+    requires { ⌜ LaneIn (now m) lane ⌝ }
+    ensures { λ r. ⌜ r ≡ laneOf (state (now (m .entry))) lane .reading ⌝ }
+{
+    lane_flag(m, lane, READING)
+}
+
+// Whether a lane's lookup is running.
+pub fn is_running(m: &[u32], lane: u32) -> bool
+    requires { ⌜ LaneIn (now m) lane ⌝ }
+    ensures { λ r. ⌜ r ≡ isRunning (laneOf (state (now (m .entry))) lane .lookup) ⌝ }
+{
+    lane_flag(m, lane, LOOKUP)
+}
+
+// Sets bit p of a lane's flags. All other words stay.
+pub fn set_flag(m: &mut [u32], lane: u32, p: u32)
+    requires { ⌜ LaneIn (now m) lane × (p < width) ⌝ }
+    ensures { λ _. ⌜ now (m .exit) ≡ flagSet (now (m .entry)) (laneAddress (sizes (now (m .entry))) lane) p ⌝ }
+{
+    let a = lane_address(m, lane);
+    m[a] = masks::set_bit(m[a], p);
+}
+
+// Clears bit p of a lane's flags. All other words stay.
+pub fn clear_flag(m: &mut [u32], lane: u32, p: u32)
+    requires { ⌜ LaneIn (now m) lane × (p < width) ⌝ }
+    ensures { λ _. ⌜ now (m .exit) ≡ flagCleared (now (m .entry)) (laneAddress (sizes (now (m .entry))) lane) p ⌝ }
+{
+    let a = lane_address(m, lane);
+    m[a] = masks::clear_bit(m[a], p);
+}
+
+// ---- causes
+
+// Causes 4 and 5: the number of the first that applies, 0 where none does.
+pub fn lane_refusal(m: &[u32], lane: u32) -> u32
+    requires { ⌜ Sound (now m) ⌝ }
+    ensures { λ r. ⌜ r ≡ firstOf (ofLane (state (now (m .entry))) lane []) ⌝ }
+{
+    if lane >= lane_count(m) {
+        return 4;
+    }
+    if !is_online(m, lane) {
+        return 5;
+    }
+    0
+}
+
+// The number of the cause that refuses it, 0 where none does.
+pub fn begin_refusal(m: &[u32], lane: u32) -> u32
+    requires { ⌜ Sound (now m) ⌝ }
+    ensures { λ r. ⌜ r ≡ refusal (state (now (m .entry))) (beginning lane) ⌝ }
+{
+    let n = lane_refusal(m, lane);
+    if n > 0 {
+        return n;
+    }
+    if is_reading(m, lane) {
+        return 7;
+    }
+    0
+}
+
+// ---- chains and slots
+
+// The first slot of a code's chain, none where it has none.
+pub fn chain_head(m: &[u32], code: u64) -> u32
+    requires { ⌜ Sound (now m) ⌝ }
+    ensures { λ r. ⌜ r ≡ first (chainOf (state (now (m .entry)) .table) code) ⌝ }
+{
+    let k = (code % 64) as usize;
+    m[words::HEADS_AT + k]
+}
+
+// Where the slots' records begin.
+pub fn slots_start(m: &[u32]) -> usize
+    requires { ⌜ Sound (now m) ⌝ }
+    ensures { λ r. ⌜ r ≡ slotsBody (sizes (now (m .entry))) ⌝ }
+{
+    words::MASKS_AT
+        + words::index(m[words::CABINETS_AT])
+        + words::LANE_LENGTH * words::index(lane_count(m))
+}

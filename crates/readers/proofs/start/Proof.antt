@@ -1,0 +1,65 @@
+-- `start` meets its contract: a law for each way out. Assumes nothing.
+use native.Mathlib.Omega.{arith}
+use Rattle.model.specs.Rules.{start}
+use Rattle.access.specs.Ways.{refuses, inRange, long}
+use Rattle.readers.specs.Lookups.{start-lane, start-done}
+use borrow.Author.Needs.{needs}
+use Rattle.readers.proofs.start.Statement.{statement}
+use Rattle.readers.proofs.start.Tie as tie
+
+start-refusal-requires : tie.Need-start-refusal-requires
+start-refusal-requires c κs = search needs
+
+refused-requires : tie.Need-refused-requires
+refused-requires c κs = search needs
+
+same-length : tie.Need-same-length
+same-length c = search needs
+
+returns : tie.Need-returns
+returns c = refuses _ (start (c .before .before .before .before .before .args .lane) (c .before .before .before .before .before .args .code)) (c .before .before .before .before .before .pre) _ _ (c .before .before .start-refusal .ensures) (c .before .if1 .taken) (c .refused .ensures)
+
+lane-address-requires : tie.Need-lane-address-requires
+lane-address-requires c κs = search needs
+
+chain-head-requires : tie.Need-chain-head-requires
+chain-head-requires c κs = search needs
+
+mul-set-bit : tie.Need-mul-set-bit
+mul-set-bit c = omega (arith, c .before .before .lane-address .ensures, inRange _ (c .before .before .before .before .before .before .before .before .pre) .fewCabinets)
+
+slice-read-set-bit : tie.Need-slice-read-set-bit
+slice-read-set-bit c = omega (arith, c .before .before .before .lane-address .ensures, long _ (c .before .before .before .before .before .before .before .before .before .pre), start-lane _ (c .before .before .before .before .before .before .before .before .before .pre) (c .before .before .before .before .before .before .before .before .before .args .lane) (c .before .before .before .before .before .before .before .before .before .args .code) _ (c .before .before .before .before .before .before .start-refusal .ensures) (c .before .before .before .before .before .if1 .left) .known)
+
+set-bit-requires : tie.Need-set-bit-requires
+set-bit-requires c κs = search needs
+
+put-lookup-requires : tie.Need-put-lookup-requires
+put-lookup-requires c κs = omega (arith, c .before .before .before .before .before .lane-address .ensures, long _ (c .before .before .before .before .before .before .before .before .before .before .before .pre), start-lane _ (c .before .before .before .before .before .before .before .before .before .before .before .pre) (c .before .before .before .before .before .before .before .before .before .before .before .args .lane) (c .before .before .before .before .before .before .before .before .before .before .before .args .code) _ (c .before .before .before .before .before .before .before .before .start-refusal .ensures) (c .before .before .before .before .before .before .before .if1 .left) .known)
+
+accepted-requires : tie.Need-accepted-requires
+accepted-requires c κs = search needs
+
+same-length-2 : tie.Need-same-length-2
+same-length-2 c = search needs
+
+returns-2 : tie.Need-returns-2
+returns-2 c = start-done _ (c .before .before .before .before .before .before .before .before .before .before .before .before .before .before .before .pre) (c .before .before .before .before .before .before .before .before .before .before .before .before .before .before .before .args .lane) (c .before .before .before .before .before .before .before .before .before .before .before .before .before .before .before .args .code) _ (c .before .before .before .before .before .before .before .before .before .before .before .before .start-refusal .ensures) (c .before .before .before .before .before .before .before .before .before .before .before .if1 .left) _ _ _ _ _ (c .before .before .before .before .before .before .before .before .before .lane-address .ensures) (c .before .before .before .before .before .set-bit .ensures) (c .before .before .before .before .before .before .before .chain-head .ensures) (c .accepted .ensures) (c .before .before .before .put-lookup .ensures)
+
+pub start-spec : {M : Type 1} → statement M
+start-spec =
+    tie.close
+    (tie.spec
+    start-refusal-requires
+    refused-requires
+    same-length
+    returns
+    lane-address-requires
+    chain-head-requires
+    mul-set-bit
+    slice-read-set-bit
+    set-bit-requires
+    put-lookup-requires
+    accepted-requires
+    same-length-2
+    returns-2)

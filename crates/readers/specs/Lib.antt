@@ -1,0 +1,3 @@
+-- The ways out of the calls of a reader.
+pub mod Lanes
+pub mod Lookups

@@ -1,0 +1,152 @@
+-- The ways out of start and step.
+use Prim.Native.Nat.{ℕ, _+_, _≤_, _<_}
+use mathlib.Core.Path.{_≡_, refl, ap, ap₂, sym, subst, _∙_}
+use mathlib.Core.Bool.{Bool, true, false, not}
+use mathlib.Core.List.{List, [], _∷_}
+use native.Mathlib.Omega.{arith}
+use lib.ListN.{set}
+use lib.Dec.{ltb}
+use borrow.Author.Tests.{lt-ltb, le-ltb}
+use Rattle.model.specs.Lists.{first}
+use Rattle.model.specs.State.{laneCount, Lookup, idle, running, isRunning, State}
+use Rattle.model.specs.Layout.{maxCode, flagsAt, lookupAt, positionAt, headsAt, laneAddress, slotsBody}
+use Rattle.model.specs.Table.{chainNumber, chainOf}
+use Rattle.model.specs.Engine.{setLookup}
+use Rattle.model.specs.Rules.{end, start, step, zeros, firstOf, ofLane, outOfRange, wrongCode, noLookup, causes, refusal, laneOf, outcome, result, performed}
+use Rattle.model.specs.Memory.{at, wide, wholeOf, low, high, flags, lookupCode, lookupPosition, laneWords, sizes, state}
+use Rattle.model.specs.Calls.{on-state, stored}
+use Rattle.masks.specs.Bits.{withBit}
+use Rattle.representation.specs.Passed.{clear, within}
+use Rattle.representation.specs.WellFormed.{LookupFits}
+use Rattle.representation.specs.Memories.{Sound}
+use Rattle.chains.specs.Outcome.{outcomeAt}
+use Rattle.changes.specs.Shape.{wellFormed-shape}
+use Rattle.changes.specs.ChainChanges.{head-shown}
+use Rattle.changes.specs.Find.{outcome-shown}
+use Rattle.changes.specs.Lanes.{storedFrom}
+use Rattle.changes.specs.LaneWords.{lookupWords}
+use Rattle.changes.specs.LaneCalls.{start-stored}
+use Rattle.access.specs.declared.Answer.{Answer}
+use Rattle.access.specs.Contract.{five, Does}
+use Rattle.access.specs.Ways.{performs, shown, wellFormed}
+use Rattle.access.specs.Refusals.{first-of-some, first-of-rest, applies, lacks}
+use Rattle.access.specs.Flags.{lookupBit, word-shown, flags-shown, flags-running}
+use Rattle.access.specs.Lanes.{LaneIn, lane-of, lane-refused, lane-rest}
+
+-- flags f, code c and position p in the record that begins at a; all other words stay
+abbrev pub lookupStored : List ℕ → ℕ → ℕ → ℕ → ℕ → List ℕ
+lookupStored m a f c p = set (set (set (set m a f) (a + lookupAt) (low c)) (a + lookupAt + 1) (high c)) (a + positionAt) p
+
+-- a lane of a legal memory whose lookup is running
+pub record Looking (m : List ℕ) (i : ℕ) : Type 0 where
+  pub lane : LaneIn m i
+  pub running : isRunning (laneOf (state m) i .lookup) ≡ true
+
+lookupStored-from : (m : List ℕ) (a f : ℕ) (k : Lookup) → lookupStored m a f (lookupCode k) (lookupPosition k) ≡ storedFrom m a (lookupWords f k)
+lookupStored-from m a f k =
+    let e : a ≡ a + flagsAt = omega arith in
+    let d : a + lookupAt + 1 ≡ a + (lookupAt + 1) = omega arith in
+    ap₂ (λ (x y : ℕ). set (set (set (set m x f) (a + lookupAt) (low (lookupCode k))) y (high (lookupCode k))) (a + positionAt) (lookupPosition k)) e d
+
+-- ---- start
+
+module _ (m : List ℕ) (v : Sound m) (i c : ℕ) where
+  abbrev s : State
+  s = state m
+
+  -- the causes of end, tested
+  module _ (x : ℕ) (e : x ≡ refusal s (end i)) where
+    pub start-refused : 0 < x → x ≡ refusal s (start i c)
+    unfolding causes
+    start-refused h = first-of-some (causes s (end i)) (outOfRange s (wrongCode c) ∷ []) x e h
+
+    module _ (h : x ≤ 0) where
+      rest : refusal s (start i c) ≡ firstOf (outOfRange s (wrongCode c) ∷ [])
+      unfolding causes
+      rest = first-of-rest (causes s (end i)) (outOfRange s (wrongCode c) ∷ []) x (omega arith) e h
+
+      pub start-wrong : maxCode < c → 11 ≡ refusal s (start i c)
+      start-wrong q = applies 11 (wrongCode c) [] (lt-ltb maxCode c q) ∙ sym rest
+
+      pub start-passes : c ≤ maxCode → 0 ≡ refusal s (start i c)
+      unfolding firstOf
+      start-passes q = sym (rest ∙ lacks 11 (wrongCode c) [] (le-ltb maxCode c q))
+
+  module _ (x : ℕ) (e : x ≡ refusal s (start i c)) (h : x ≤ 0) where
+    pub start-lane : LaneIn m i
+    unfolding causes state
+    start-lane = let z : x ≡ 0 = omega arith in record { sound = v; known = within (state m) i (clear (causes (state m) (start i c)) (omega arith) (sym e ∙ z) .0) }
+
+    pub start-done : (a f p : ℕ) (r : Answer) (n : List ℕ) → a ≡ laneAddress (sizes m) i → f ≡ withBit lookupBit (at m a) → p ≡ first (chainOf (s .table) c)
+        → five r ≡ zeros → n ≡ lookupStored m a f c p → Does (on-state (start i c)) m r n
+    unfolding result state isRunning lookupCode lookupPosition
+    start-done a f p r n ea ef ep er en =
+        let z : x ≡ 0 = omega arith in
+        let k : Lookup = running c (first (chainOf (s .table) c)) in
+        let g : f ≡ flags (setLookup k (laneOf s i))
+        = ef ∙ ap (λ (y : ℕ). withBit lookupBit (at m y)) ea ∙ ap (withBit lookupBit) (flags-shown m v i (start-lane .known)) ∙ flags-running (laneOf s i) k refl in
+        performs m (start i c) v x r n e h er
+        (en ∙ ap (λ (y : ℕ). lookupStored m y f c p) ea
+        ∙ ap₂ (λ (y w : ℕ). lookupStored m (laneAddress (sizes m) i) y c w) g ep
+        ∙ lookupStored-from m (laneAddress (sizes m) i) (flags (setLookup k (laneOf s i))) k
+        ∙ start-stored (state m) m (shown m v) (wellFormed m v) i c (sym e ∙ z))
+
+-- ---- step
+
+module _ (m : List ℕ) (v : Sound m) (i : ℕ) (x : ℕ) (e : x ≡ firstOf (ofLane (state m) i [])) where
+  pub step-refused : 0 < x → x ≡ refusal (state m) (step i)
+  unfolding causes
+  step-refused h = first-of-some (ofLane (state m) i []) (noLookup (state m) i ∷ []) x e h
+
+  module _ (h : x ≤ 0) (b : Bool) (o : b ≡ isRunning (laneOf (state m) i .lookup)) where
+    only : refusal (state m) (step i) ≡ firstOf (noLookup (state m) i ∷ [])
+    unfolding causes
+    only = first-of-rest (ofLane (state m) i []) (noLookup (state m) i ∷ []) x (omega arith) e h
+
+    pub step-idle : b ≡ false → 10 ≡ refusal (state m) (step i)
+    step-idle q = applies 10 (not (isRunning (laneOf (state m) i .lookup))) [] (ap not (sym o ∙ q)) ∙ sym only
+
+    pub step-passes : b ≡ true → 0 ≡ refusal (state m) (step i)
+    unfolding firstOf
+    step-passes q = sym (only ∙ lacks 10 (not (isRunning (laneOf (state m) i .lookup))) [] (ap not (sym o ∙ q)))
+
+-- a running lookup is its code and its position
+by-parts : (k : Lookup) → isRunning k ≡ true → k ≡ running (lookupCode k) (lookupPosition k)
+unfolding isRunning lookupCode lookupPosition
+by-parts (running c p) e = refl
+by-parts idle e = let z : _≡_ {A = Bool} false true = e in absurd (let w : _≡_ {A = ℕ} 0 1 = cc in omega arith)
+
+module _ (m : List ℕ) (i : ℕ) (k : Looking m i) where
+  abbrev a : ℕ
+  a = laneAddress (sizes m) i
+
+  abbrev l : Lookup
+  l = laneOf (state m) i .lookup
+
+  pub lookup-shown : l ≡ running (wide m (a + lookupAt)) (at m (a + positionAt))
+  unfolding laneWords
+  lookup-shown =
+      let v = k .lane .sound in
+      let w = k .lane .known in
+      let d : a + lookupAt + 1 ≡ a + (lookupAt + 1) = omega arith in
+      let q : lookupCode l ≡ wholeOf (low (lookupCode l)) (high (lookupCode l)) = omega arith in
+      by-parts l (k .running)
+      ∙ ap₂ running (q ∙ sym (ap₂ wholeOf (word-shown m v i w lookupAt (omega arith)) (ap (at m) d ∙ word-shown m v i w (lookupAt + 1) (omega arith))))
+      (sym (word-shown m v i w positionAt (omega arith)))
+
+  pub outcome-lane : outcomeAt m (slotsBody (sizes m)) (sizes m .slots) (wide m (a + lookupAt)) (at m (a + positionAt)) ≡ outcome (state m .table) l
+  unfolding state
+  outcome-lane =
+      let v = k .lane .sound in
+      let w = wellFormed m v in
+      outcome-shown (state m) m (shown m v) (wellFormed-shape (state m) w) (wide m (a + lookupAt)) (at m (a + positionAt))
+      (subst (LookupFits (sizes m .slots) (laneOf (state m) i .reading)) lookup-shown (w .fits i .lookup) .2)
+      ∙ ap (outcome (state m .table)) (sym lookup-shown)
+
+  -- by what the code read
+  pub outcome-by : (x y c : ℕ) → x ≡ slotsBody (sizes m) → y ≡ a → c ≡ wide m (y + lookupAt)
+      → outcomeAt m x (sizes m .slots) c (at m (y + positionAt)) ≡ outcome (state m .table) l
+  outcome-by x y c ex ey ec =
+      ap₂ (λ (u w : ℕ). outcomeAt m u (sizes m .slots) c (at m (w + positionAt))) ex ey
+      ∙ ap (λ (w : ℕ). outcomeAt m (slotsBody (sizes m)) (sizes m .slots) w (at m (a + positionAt))) (ec ∙ ap (λ (w : ℕ). wide m (w + lookupAt)) ey)
+      ∙ outcome-lane

@@ -1,0 +1,164 @@
+// The calls of a reader on a legal memory: begin, end, start, step and pass, and on. Each answers five words and leaves the memory as the
+// model's rules say, a refused one every word of it.
+ghost use mathlib.Core.Path.{_≡_};
+ghost use Prim.Native.Nat.{_+_, _≤_};
+ghost use lib.ListN.{length};
+ghost use Rattle.model.specs.Layout.{laneLength};
+ghost use Rattle.model.specs.Rules.{laneOf, refusal, begin as beginning, end as ending, on as goingOn, start as starting, step as stepping, outcome};
+ghost use Rattle.model.specs.Memory.{state};
+ghost use Rattle.model.specs.Calls.{on-state};
+ghost use Rattle.representation.specs.Memories.{Sound};
+ghost use Rattle.chains.specs.Outcome.{outcomeOf};
+ghost use Rattle.access.specs.Contract.{Does};
+ghost use Rattle.readers.specs.Lookups.{lookupStored, Looking};
+
+// ---- begin
+
+// Opens the section of a lane.
+pub fn begin(m: &mut [u32], lane: u32) -> access::Answer
+    requires { ⌜ Sound (now m) ⌝ }
+    ensures { λ r. ⌜ Does (on-state (beginning lane)) (now (m .entry)) r (now (m .exit)) ⌝ }
+{
+    let n = access::begin_refusal(m, lane);
+    if n > 0 {
+        return access::refused(n);
+    }
+    access::set_flag(m, lane, access::READING);
+    access::accepted(0, 0, 0, 0)
+}
+
+// ---- end
+
+// The number of the cause that refuses it, 0 where none does.
+fn end_refusal(m: &[u32], lane: u32) -> u32
+    requires { ⌜ Sound (now m) ⌝ }
+    ensures { λ r. ⌜ r ≡ refusal (state (now (m .entry))) (ending lane) ⌝ }
+{
+    let n = access::lane_refusal(m, lane);
+    if n > 0 {
+        return n;
+    }
+    if !access::is_reading(m, lane) {
+        return 8;
+    }
+    if access::is_running(m, lane) {
+        return 9;
+    }
+    0
+}
+
+// Closes the section of a lane.
+pub fn end(m: &mut [u32], lane: u32) -> access::Answer
+    requires { ⌜ Sound (now m) ⌝ }
+    ensures { λ r. ⌜ Does (on-state (ending lane)) (now (m .entry)) r (now (m .exit)) ⌝ }
+{
+    let n = end_refusal(m, lane);
+    if n > 0 {
+        return access::refused(n);
+    }
+    access::clear_flag(m, lane, access::READING);
+    access::accepted(0, 0, 0, 0)
+}
+
+// ---- on
+
+// The number of the cause that refuses it, 0 where none does.
+fn on_refusal(m: &[u32], lane: u32) -> u32
+    requires { ⌜ Sound (now m) ⌝ }
+    ensures { λ r. ⌜ r ≡ refusal (state (now (m .entry))) (goingOn lane) ⌝ }
+{
+    if lane >= access::lane_count(m) {
+        return 4;
+    }
+    if access::is_online(m, lane) {
+        return 6;
+    }
+    0
+}
+
+// A lane goes on.
+pub fn on(m: &mut [u32], lane: u32) -> access::Answer
+    requires { ⌜ Sound (now m) ⌝ }
+    ensures { λ r. ⌜ Does (on-state (goingOn lane)) (now (m .entry)) r (now (m .exit)) ⌝ }
+{
+    let n = on_refusal(m, lane);
+    if n > 0 {
+        return access::refused(n);
+    }
+    access::set_flag(m, lane, access::ONLINE);
+    access::accepted(0, 0, 0, 0)
+}
+
+// ---- lookups
+
+// Writes flags and lookup of the lane whose record begins at a. All other words stay.
+fn put_lookup(m: &mut [u32], a: usize, flags: u32, code: u64, position: u32)
+    requires { ⌜ a + laneLength ≤ length (now m) ⌝ }
+    ensures { λ _. ⌜ now (m .exit) ≡ lookupStored (now (m .entry)) a flags code position ⌝ }
+{
+    m[a] = flags;
+    m[a + words::LOOKUP_AT] = words::low(code);
+    m[a + words::LOOKUP_AT + 1] = words::high(code);
+    m[a + words::POSITION_AT] = position;
+}
+
+// ---- start
+
+// The number of the cause that refuses it, 0 where none does: the causes of end, then the code's range.
+fn start_refusal(m: &[u32], lane: u32, code: u64) -> u32
+    requires { ⌜ Sound (now m) ⌝ }
+    ensures { λ r. ⌜ r ≡ refusal (state (now (m .entry))) (starting lane code) ⌝ }
+{
+    let n = end_refusal(m, lane);
+    if n > 0 {
+        return n;
+    }
+    if code > words::MAX_CODE {
+        return 11;
+    }
+    0
+}
+
+// Starts a lane's lookup of a code.
+pub fn start(m: &mut [u32], lane: u32, code: u64) -> access::Answer
+    requires { ⌜ Sound (now m) ⌝ }
+    ensures { λ r. ⌜ Does (on-state (starting lane code)) (now (m .entry)) r (now (m .exit)) ⌝ }
+{
+    let n = start_refusal(m, lane, code);
+    if n > 0 {
+        return access::refused(n);
+    }
+    let a = access::lane_address(m, lane);
+    let head = access::chain_head(m, code);
+    let flags = masks::set_bit(m[a], access::LOOKUP);
+    put_lookup(m, a, flags, code, head);
+    access::accepted(0, 0, 0, 0)
+}
+
+// ---- step
+
+// The number of the cause that refuses it, 0 where none does.
+fn step_refusal(m: &[u32], lane: u32) -> u32
+    requires { ⌜ Sound (now m) ⌝ }
+    ensures { λ r. ⌜ r ≡ refusal (state (now (m .entry))) (stepping lane) ⌝ }
+{
+    let n = access::lane_refusal(m, lane);
+    if n > 0 {
+        return n;
+    }
+    if !access::is_running(m, lane) {
+        return 10;
+    }
+    0
+}
+
+// The outcome of the next step of a lane's lookup.
+fn lane_outcome(m: &[u32], lane: u32) -> chains::Step
+    requires { ⌜ Looking (now m) lane ⌝ }
+    ensures { λ r. ⌜ outcomeOf r ≡ outcome (state (now (m .entry)) .table) (laneOf (state (now (m .entry))) lane .lookup) ⌝ }
+{
+    let a = access::lane_address(m, lane);
+    let base = access::slots_start(m);
+    let code = words::code_at(m, a + words::LOOKUP_AT);
+    chains::step_outcome(m, base, m[words::SLOTS_AT], code, m[a + words::POSITION_AT])
+}
