@@ -42,7 +42,7 @@ pub record Looking (m : List ℕ) (i : ℕ) : Type 0 where
   pub lane : LaneIn m i
   pub running : isRunning (laneOf (state m) i .lookup) ≡ true
 
-lookupStored-from : (m : List ℕ) (a f : ℕ) (k : Lookup) → lookupStored m a f (lookupCode k) (lookupPosition k) ≡ storedFrom m a (lookupWords f k)
+pub lookupStored-from : (m : List ℕ) (a f : ℕ) (k : Lookup) → lookupStored m a f (lookupCode k) (lookupPosition k) ≡ storedFrom m a (lookupWords f k)
 lookupStored-from m a f k =
     let e : a ≡ a + flagsAt = omega arith in
     let d : a + lookupAt + 1 ≡ a + (lookupAt + 1) = omega arith in

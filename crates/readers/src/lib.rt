@@ -4,13 +4,15 @@ ghost use mathlib.Core.Path.{_≡_};
 ghost use Prim.Native.Nat.{_+_, _≤_};
 ghost use lib.ListN.{length};
 ghost use Rattle.model.specs.Layout.{laneLength};
-ghost use Rattle.model.specs.Rules.{laneOf, refusal, begin as beginning, end as ending, on as goingOn, start as starting, step as stepping, outcome};
+ghost use Rattle.model.specs.Rules.{laneOf, refusal, begin as beginning, end as ending, on as goingOn, start as starting, step as stepping, outcome, outcomeAnswer};
 ghost use Rattle.model.specs.Memory.{state};
 ghost use Rattle.model.specs.Calls.{on-state};
 ghost use Rattle.representation.specs.Memories.{Sound};
 ghost use Rattle.chains.specs.Outcome.{outcomeOf};
-ghost use Rattle.access.specs.Contract.{Does};
+ghost use Rattle.access.specs.Contract.{five, Does};
+ghost use Rattle.access.specs.Lanes.{LaneIn};
 ghost use Rattle.readers.specs.Lookups.{lookupStored, Looking};
+ghost use Rattle.readers.specs.Steps.{isGoing, Going, movedOn, lookupEnded};
 
 // ---- begin
 
@@ -161,4 +163,69 @@ fn lane_outcome(m: &[u32], lane: u32) -> chains::Step
     let base = access::slots_start(m);
     let code = words::code_at(m, a + words::LOOKUP_AT);
     chains::step_outcome(m, base, m[words::SLOTS_AT], code, m[a + words::POSITION_AT])
+}
+
+// The five words of an outcome.
+fn outcome_answer(s: chains::Step) -> access::Answer
+    ensures { λ r. ⌜ five r ≡ outcomeAnswer (outcomeOf s) ⌝ }
+{
+    let w = chains::outcome_words(s);
+    access::Answer {
+        status: w[0],
+        a: w[1],
+        b: w[2],
+        c: w[3],
+        d: w[4],
+    }
+}
+
+// Whether a lookup goes on after this outcome.
+fn goes_on(s: chains::Step) -> bool
+    ensures { λ r. ⌜ r ≡ isGoing (outcomeOf s) ⌝ }
+{
+    match s {
+        chains::Step::Going => true,
+        chains::Step::Found(_) => false,
+        chains::Step::Absent => false,
+    }
+}
+
+// The lookup of a lane goes on to the chain link of the slot at which it stands.
+fn go_on(m: &mut [u32], lane: u32)
+    requires { ⌜ Going (now m) lane ⌝ }
+    ensures { λ _. ⌜ now (m .exit) ≡ movedOn (now (m .entry)) lane ⌝ }
+{
+    let at = access::lane_address(m, lane) + words::POSITION_AT;
+    let base = access::slots_start(m);
+    let link = chains::chain_link(m, base, m[words::SLOTS_AT], m[at]);
+    m[at] = link;
+}
+
+// The lookup of a lane ends, and its words are at rest.
+fn end_lookup(m: &mut [u32], lane: u32)
+    requires { ⌜ LaneIn (now m) lane ⌝ }
+    ensures { λ _. ⌜ now (m .exit) ≡ lookupEnded (now (m .entry)) lane ⌝ }
+{
+    let a = access::lane_address(m, lane);
+    let flags = masks::clear_bit(m[a], access::LOOKUP);
+    put_lookup(m, a, flags, 0, words::NONE);
+}
+
+// Takes one step of a lane's lookup.
+pub fn step(m: &mut [u32], lane: u32) -> access::Answer
+    requires { ⌜ Sound (now m) ⌝ }
+    ensures { λ r. ⌜ Does (on-state (stepping lane)) (now (m .entry)) r (now (m .exit)) ⌝ }
+{
+    let n = step_refusal(m, lane);
+    if n > 0 {
+        return access::refused(n);
+    }
+    let s = lane_outcome(m, lane);
+    let r = outcome_answer(s);
+    if goes_on(s) {
+        go_on(m, lane);
+        return r;
+    }
+    end_lookup(m, lane);
+    r
 }

@@ -1,0 +1,42 @@
+-- `end_lookup` meets its contract. Assumes nothing.
+use mathlib.Core.Path.{_∙_}
+use native.Mathlib.Omega.{arith}
+use denote.Ref.{now}
+use Rattle.access.specs.Ways.{inRange, long}
+use Rattle.readers.specs.Steps.{ended-by}
+use borrow.Author.Needs.{needs}
+use Rattle.readers.proofs.end_lookup.Statement.{statement}
+use Rattle.readers.proofs.end_lookup.Tie as tie
+
+lane-address-requires : tie.Need-lane-address-requires
+lane-address-requires c κs = search needs
+
+mul-clear-bit : tie.Need-mul-clear-bit
+mul-clear-bit c = omega (arith, (c .lane-address .ensures), inRange _ (c .before .before .before .pre .sound) .fewCabinets)
+
+slice-read-clear-bit : tie.Need-slice-read-clear-bit
+slice-read-clear-bit c = omega (arith, (c .before .lane-address .ensures), long _ (c .before .before .before .before .pre .sound), (c .before .before .before .before .pre .known))
+
+clear-bit-requires : tie.Need-clear-bit-requires
+clear-bit-requires c κs = search needs
+
+put-lookup-requires : tie.Need-put-lookup-requires
+put-lookup-requires c κs = omega (arith, (c .before .before .before .lane-address .ensures), long _ (c .before .before .before .before .before .before .pre .sound), (c .before .before .before .before .before .before .pre .known))
+
+same-length : tie.Need-same-length
+same-length c = search needs
+
+returns : tie.Need-returns
+returns c = (c .before .before .put-lookup .ensures) ∙ ended-by (now (c .before .before .before .before .before .before .before .before .before .args .m)) (c .before .before .before .before .before .before .before .before .before .args .lane) _ _ (c .before .before .before .before .before .before .lane-address .ensures) (c .before .before .before .before .clear-bit .ensures)
+
+pub end-lookup-spec : {M : Type 1} → statement M
+end-lookup-spec =
+    tie.close
+    (tie.spec
+    lane-address-requires
+    mul-clear-bit
+    slice-read-clear-bit
+    clear-bit-requires
+    put-lookup-requires
+    same-length
+    returns)

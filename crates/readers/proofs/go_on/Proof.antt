@@ -1,0 +1,57 @@
+-- `go_on` meets its contract. Assumes nothing.
+use mathlib.Core.Path.{_∙_}
+use native.Mathlib.Omega.{arith}
+use Rattle.access.specs.Ways.{inRange, long}
+use Rattle.readers.specs.Steps.{position-by, moved-by}
+use borrow.Author.Needs.{needs}
+use Rattle.readers.proofs.go_on.Statement.{statement}
+use Rattle.readers.proofs.go_on.Tie as tie
+
+lane-address-requires : tie.Need-lane-address-requires
+lane-address-requires c κs = search needs
+
+add-at : tie.Need-add-at
+add-at c = omega (arith, (c .lane-address .ensures), inRange _ (c .before .before .before .pre .looking .lane .sound) .fewCabinets, inRange _ (c .before .before .before .pre .looking .lane .sound) .fewLanes, (c .before .before .before .pre .looking .lane .known))
+
+slots-start-requires : tie.Need-slots-start-requires
+slots-start-requires c κs = search needs
+
+slice-reshared-read-chain-link : tie.Need-slice-reshared-read-chain-link
+slice-reshared-read-chain-link c = omega (arith, long _ (c .before .before .before .before .before .before .pre .looking .lane .sound))
+
+mul-chain-link : tie.Need-mul-chain-link
+mul-chain-link c = omega (arith, (c .before .before .before .lane-address .ensures), inRange _ (c .before .before .before .before .before .before .pre .looking .lane .sound) .fewCabinets, inRange _ (c .before .before .before .before .before .before .pre .looking .lane .sound) .fewLanes, (c .before .before .before .before .before .before .pre .looking .lane .known))
+
+slice-reshared-read-chain-link-2 : tie.Need-slice-reshared-read-chain-link-2
+slice-reshared-read-chain-link-2 c = omega (arith, (c .before .before .before .lane-address .ensures), long _ (c .before .before .before .before .before .before .pre .looking .lane .sound), (c .before .before .before .before .before .before .pre .looking .lane .known))
+
+chain-link-requires : tie.Need-chain-link-requires
+chain-link-requires c κs = omega (arith, (c .before .slots-start .ensures), long _ (c .before .before .before .before .before .before .pre .looking .lane .sound), position-by _ _ (c .before .before .before .before .before .before .pre) _ (c .before .before .before .lane-address .ensures))
+
+mul-m : tie.Need-mul-m
+mul-m c = omega (arith, (c .before .before .before .before .lane-address .ensures), inRange _ (c .before .before .before .before .before .before .before .pre .looking .lane .sound) .fewCabinets, inRange _ (c .before .before .before .before .before .before .before .pre .looking .lane .sound) .fewLanes, (c .before .before .before .before .before .before .before .pre .looking .lane .known))
+
+slice-write-m : tie.Need-slice-write-m
+slice-write-m c = omega (arith, (c .before .before .before .before .lane-address .ensures), long _ (c .before .before .before .before .before .before .before .pre .looking .lane .sound), (c .before .before .before .before .before .before .before .pre .looking .lane .known))
+
+same-length : tie.Need-same-length
+same-length c = search needs
+
+returns : tie.Need-returns
+returns c = moved-by _ _ (c .before .before .before .before .before .before .before .pre) _ _ _ (c .before .before .before .before .lane-address .ensures) (c .before .before .slots-start .ensures) (c .chain-link .ensures)
+
+pub go-on-spec : {M : Type 1} → statement M
+go-on-spec =
+    tie.close
+    (tie.spec
+    lane-address-requires
+    add-at
+    slots-start-requires
+    slice-reshared-read-chain-link
+    mul-chain-link
+    slice-reshared-read-chain-link-2
+    chain-link-requires
+    mul-m
+    slice-write-m
+    same-length
+    returns)
