@@ -1,6 +1,7 @@
 -- A lane of a legal memory; what the tests of the causes 4, 5 and 7 say.
-use Prim.Native.Nat.{ℕ, _+_, _≤_, _<_}
-use mathlib.Core.Path.{_≡_, refl, ap, sym, _∙_}
+use Prim.Native.Nat.{ℕ, _+_, _*_, _/_, _%_, _≤_, _<_}
+use native.Mathlib.Nat.{div-add-mod', mod-lt, div-lt-iff-lt-mul}
+use mathlib.Core.Path.{_≡_, refl, ap, ap₂, sym, subst, _∙_}
 use mathlib.Core.Bool.{Bool, true, false, not}
 use mathlib.Core.List.{List, [], _∷_}
 use native.Mathlib.Omega.{arith}
@@ -17,13 +18,28 @@ use Rattle.masks.specs.Bits.{withBit, withoutBit}
 use Rattle.representation.specs.Passed.{Numbered, clear, within}
 use Rattle.representation.specs.Memories.{Sound}
 use Rattle.changes.specs.ChainChanges.{head-shown}
-use Rattle.access.specs.Ways.{shown}
+use Rattle.access.specs.Ways.{shown, inRange}
 use Rattle.access.specs.Refusals.{first-of-some, first-of-rest, applies, lacks}
 
 -- a lane of a legal memory
 pub record LaneIn (m : List ℕ) (i : ℕ) : Type 0 where
   pub sound : Sound m
   pub known : i < laneCount (sizes m)
+
+-- its cabinet and its place there
+pub record StandsAt (m : List ℕ) (i c p : ℕ) : Type 0 where
+  pub lane : c * sizes m .places + p ≡ i
+  pub place : p < sizes m .places
+  pub cabinet : c < sizes m .cabinets
+
+pub stands-at : (m : List ℕ) (i c p : ℕ) → LaneIn m i → c ≡ i / sizes m .places → p ≡ i % sizes m .places → StandsAt m i c p
+stands-at m i c p k ec ep =
+    let some : 0 < sizes m .places = omega (arith, inRange m (k .sound) .somePlaces) in
+    record {
+      lane = ap₂ (λ (x y : ℕ). x * sizes m .places + y) ec ep ∙ div-add-mod' i (sizes m .places);
+      place = subst (λ (y : ℕ). y < sizes m .places) (sym ep) (mod-lt i some);
+      cabinet = subst (λ (y : ℕ). y < sizes m .cabinets) (sym ec) (div-lt-iff-lt-mul some .1 (k .known));
+    }
 
 -- bit p of the word at a set, and cleared
 abbrev pub flagSet : List ℕ → ℕ → ℕ → List ℕ

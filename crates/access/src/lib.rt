@@ -2,7 +2,7 @@
 // and where the chains and the slots stand.
 ghost use mathlib.Core.Path.{_≡_};
 ghost use mathlib.Core.List.{[]};
-ghost use Prim.Native.Nat.{_<_};
+ghost use Prim.Native.Nat.{_/_, _%_, _<_};
 ghost use Rattle.model.specs.State.{laneCount, isRunning};
 ghost use Rattle.model.specs.Layout.{laneAddress, slotsBody};
 ghost use Rattle.model.specs.Lists.{first};
@@ -74,6 +74,22 @@ pub fn lane_address(m: &[u32], lane: u32) -> usize
     ensures { λ r. ⌜ r ≡ laneAddress (sizes (now (m .entry))) lane ⌝ }
 {
     words::MASKS_AT + words::index(m[words::CABINETS_AT]) + words::LANE_LENGTH * words::index(lane)
+}
+
+// The cabinet of a lane.
+pub fn cabinet_of(m: &[u32], lane: u32) -> u32
+    requires { ⌜ LaneIn (now m) lane ⌝ }
+    ensures { λ r. ⌜ r ≡ lane / sizes (now (m .entry)) .places ⌝ }
+{
+    lane / m[words::PLACES_AT]
+}
+
+// The place of a lane in its cabinet.
+pub fn place_of(m: &[u32], lane: u32) -> u32
+    requires { ⌜ LaneIn (now m) lane ⌝ }
+    ensures { λ r. ⌜ r ≡ lane % sizes (now (m .entry)) .places ⌝ }
+{
+    lane % m[words::PLACES_AT]
 }
 
 // Bit p of a lane's flags.

@@ -2,3 +2,4 @@
 pub mod Lanes
 pub mod Lookups
 pub mod Steps
+pub mod Passes

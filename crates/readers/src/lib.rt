@@ -4,7 +4,7 @@ ghost use mathlib.Core.Path.{_≡_};
 ghost use Prim.Native.Nat.{_+_, _≤_};
 ghost use lib.ListN.{length};
 ghost use Rattle.model.specs.Layout.{laneLength};
-ghost use Rattle.model.specs.Rules.{laneOf, refusal, begin as beginning, end as ending, on as goingOn, start as starting, step as stepping, outcome, outcomeAnswer};
+ghost use Rattle.model.specs.Rules.{laneOf, refusal, begin as beginning, end as ending, on as goingOn, start as starting, step as stepping, pass as passing, outcome, outcomeAnswer};
 ghost use Rattle.model.specs.Memory.{state};
 ghost use Rattle.model.specs.Calls.{on-state};
 ghost use Rattle.representation.specs.Memories.{Sound};
@@ -228,4 +228,38 @@ pub fn step(m: &mut [u32], lane: u32) -> access::Answer
     }
     end_lookup(m, lane);
     r
+}
+
+// ---- pass
+
+// The number of the cause that refuses it, 0 where none does: the causes of begin, then the kind's range.
+fn pass_refusal(m: &[u32], lane: u32, kind: u32) -> u32
+    requires { ⌜ Sound (now m) ⌝ }
+    ensures { λ r. ⌜ r ≡ refusal (state (now (m .entry))) (passing lane kind) ⌝ }
+{
+    let n = access::begin_refusal(m, lane);
+    if n > 0 {
+        return n;
+    }
+    if words::index(kind) >= words::KINDS {
+        return 11;
+    }
+    0
+}
+
+// Counts a quiescent state of a lane: its cabinet's part of the words is handed on.
+pub fn pass(m: &mut [u32], lane: u32, kind: u32) -> access::Answer
+    requires { ⌜ Sound (now m) ⌝ }
+    ensures { λ r. ⌜ Does (on-state (passing lane kind)) (now (m .entry)) r (now (m .exit)) ⌝ }
+{
+    let n = pass_refusal(m, lane, kind);
+    if n > 0 {
+        return access::refused(n);
+    }
+    let lanes_at = words::MASKS_AT + words::index(m[words::CABINETS_AT]);
+    let places = words::index(m[words::PLACES_AT]);
+    let cabinet = words::index(access::cabinet_of(m, lane));
+    let place = words::index(access::place_of(m, lane));
+    lanes::cabinet::pass_lane(m, lanes_at, places, cabinet, place, words::index(kind));
+    access::accepted(0, 0, 0, 0)
 }

@@ -1,0 +1,18 @@
+-- `cabinet_of` meets its contract. Assumes nothing.
+use native.Mathlib.Omega.{arith}
+use Rattle.access.specs.Ways.{inRange, long}
+use borrow.Author.Needs.{needs}
+use Rattle.access.proofs.cabinet_of.Statement.{statement}
+use Rattle.access.proofs.cabinet_of.Tie as tie
+
+shared-slice-read-result : tie.Need-shared-slice-read-result
+shared-slice-read-result c = omega (arith, long _ (c .before .pre .sound))
+
+div-result : tie.Need-div-result
+div-result c = omega (arith, inRange _ (c .before .pre .sound) .somePlaces)
+
+returns : tie.Need-returns
+returns c = search needs
+
+pub cabinet-of-spec : {M : Type 1} → statement M
+cabinet-of-spec = tie.close (tie.spec shared-slice-read-result div-result returns)

@@ -1,0 +1,18 @@
+-- `place_of` meets its contract. Assumes nothing.
+use native.Mathlib.Omega.{arith}
+use Rattle.access.specs.Ways.{inRange, long}
+use borrow.Author.Needs.{needs}
+use Rattle.access.proofs.place_of.Statement.{statement}
+use Rattle.access.proofs.place_of.Tie as tie
+
+shared-slice-read-result : tie.Need-shared-slice-read-result
+shared-slice-read-result c = omega (arith, long _ (c .before .pre .sound))
+
+rem-result : tie.Need-rem-result
+rem-result c = omega (arith, inRange _ (c .before .pre .sound) .somePlaces)
+
+returns : tie.Need-returns
+returns c = search needs
+
+pub place-of-spec : {M : Type 1} → statement M
+place-of-spec = tie.close (tie.spec shared-slice-read-result rem-result returns)
