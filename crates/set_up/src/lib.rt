@@ -10,7 +10,7 @@ ghost use Rattle.model.specs.Rules.{fresh};
 ghost use Rattle.model.specs.Legal.{sizesFit};
 ghost use Rattle.model.specs.Calls.{sized, stored, set-up};
 ghost use Rattle.set_up.specs.Written.{Written, rows};
-ghost use Rattle.set_up.specs.Replied.{Replied};
+ghost use Rattle.access.specs.Contract.{Does};
 ghost use Rattle.set_up.specs.FreshWords.{freshGlobal, freshLaneWords, linkAfter, freshSlotWords};
 
 // first word and length of the bodies, as words of the contents
@@ -36,15 +36,6 @@ const CODE_LENGTH: usize = words::POSITION_AT - words::LOOKUP_AT;
 const FRESH_FLAGS: u32 = 1;
 
 const FRESH_GENERATION: u32 = 1;
-
-// The five words of an answer.
-pub struct Answer {
-    pub status: u32,
-    pub a: u32,
-    pub b: u32,
-    pub c: u32,
-    pub d: u32,
-}
 
 // Writes v to the n words from at on.
 fn fill(m: &mut [u32], at: usize, n: usize, v: u32)
@@ -216,34 +207,16 @@ pub fn total_words(cabinets: u32, places: u32, slots: u32) -> u32
 
 // Set-up: refused where the sizes are out of range (cause 1) or the memory is too short (cause 2), and
 // then no word changes; otherwise the fresh table is written, and its total answered.
-pub fn set_up(m: &mut [u32], cabinets: u32, places: u32, slots: u32) -> Answer
-    ensures { λ r. ⌜ Replied (now (m .entry)) (set-up cabinets places slots) r (now (m .exit)) ⌝ }
+pub fn set_up(m: &mut [u32], cabinets: u32, places: u32, slots: u32) -> access::Answer
+    ensures { λ r. ⌜ Does (set-up cabinets places slots) (now (m .entry)) r (now (m .exit)) ⌝ }
 {
     if !sizes_fit(cabinets, places, slots) {
-        return Answer {
-            status: 1,
-            a: 0,
-            b: 0,
-            c: 0,
-            d: 0,
-        };
+        return access::refused(1);
     }
     let total = total_words(cabinets, places, slots);
     if m.len() < words::index(total) {
-        return Answer {
-            status: 2,
-            a: 0,
-            b: 0,
-            c: 0,
-            d: 0,
-        };
+        return access::refused(2);
     }
     write_fresh(m, cabinets, places, slots);
-    Answer {
-        status: 0,
-        a: total,
-        b: 0,
-        c: 0,
-        d: 0,
-    }
+    access::accepted(total, 0, 0, 0)
 }
