@@ -8,6 +8,16 @@ pub mod PeriodLaws
 pub mod Release
 pub mod ReleaseWords
 pub mod ReleaseLaws
--- advance
+-- the advance of an owner: its words, laws of those, its steps on the state, what its tests read, and the change of the state
 pub mod Advance
 pub mod AdvanceWords
+pub mod AdvanceSteps
+pub mod AdvanceTests
+pub mod AdvanceLaws
+-- a lane that goes off
+pub mod Off
+pub mod OffWords
+pub mod OffSteps
+pub mod OffLaws
+-- what a memory that shows a state holds
+pub mod Lends

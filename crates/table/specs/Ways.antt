@@ -4,7 +4,7 @@ use mathlib.Core.Path.{_≡_, sym, subst}
 use mathlib.Core.Bool.{Bool, true, false}
 use mathlib.Core.List.{List}
 use native.Mathlib.Omega.{arith}
-use Rattle.model.specs.Rules.{refused, begin, end, start, step, pass, on}
+use Rattle.model.specs.Rules.{refused, add, replace, delete, begin, end, start, step, pass, clock, on, off, hand-back, awaited}
 use Rattle.model.specs.Legal.{legal}
 use Rattle.model.specs.Calls.{Call, set-up, on-state}
 use Rattle.representation.specs.Memories.{Sound}
@@ -12,16 +12,23 @@ use Rattle.access.specs.declared.Answer.{Answer}
 use Rattle.access.specs.Contract.{five, Does}
 use Rattle.access.specs.Ways.{illegal}
 use Rattle.table.specs.declared.Call as code
-use Rattle.table.specs.declared.Call.the-variants.{SetUp, Begin, End, Start, Step, Pass, On}
+use Rattle.table.specs.declared.Call.the-variants.{SetUp, Add, Replace, Delete, Begin, End, Start, Step, Pass, Clock, On, Off, HandBack, Awaited}
 
-unfoldable pub callOf : code.Call → Call
+abbrev pub callOf : code.Call → Call
 callOf (SetUp c p n) = set-up c p n
+callOf (Add i c d m) = on-state (add i c d m)
+callOf (Replace i c d m) = on-state (replace i c d m)
+callOf (Delete i c) = on-state (delete i c)
 callOf (Begin i) = on-state (begin i)
 callOf (End i) = on-state (end i)
 callOf (Start i c) = on-state (start i c)
 callOf (Step i) = on-state (step i)
 callOf (Pass i k) = on-state (pass i k)
+callOf (Clock i) = on-state (clock i)
 callOf (On i) = on-state (on i)
+callOf (Off i) = on-state (off i)
+callOf (HandBack i) = on-state (hand-back i)
+callOf Awaited = on-state awaited
 
 -- whether a call reads the table
 unfoldable pub readsState : Call → Bool

@@ -1,5 +1,5 @@
 -- `perform` meets its contract: each arm is the call that the model's rules name. Assumes nothing.
-use Rattle.table.specs.Ways.{callOf, Ready, same-call, same-ready}
+use Rattle.table.specs.Ways.{Ready, same-call, same-ready}
 use borrow.Author.Needs.{needs}
 use Rattle.table.proofs.perform.Statement.{statement}
 use Rattle.table.proofs.perform.Tie as tie
@@ -13,93 +13,177 @@ set-up-requires c κs = search needs
 enum-known-k-2 : tie.Need-enum-known-k-2
 enum-known-k-2 c = search needs
 
-begin-requires : tie.Need-begin-requires
-unfolding callOf Ready
-begin-requires c κs = same-ready _ _ (c .before .before .k2 .given .1) _ (c .before .before .before .before .before .pre)
+add-requires : tie.Need-add-requires
+unfolding Ready
+add-requires c κs = same-ready _ _ (c .before .before .k2 .given .1) _ (c .before .before .before .before .before .pre)
 
 enum-known-k-3 : tie.Need-enum-known-k-3
 enum-known-k-3 c = search needs
 
-end-requires : tie.Need-end-requires
-unfolding callOf Ready
-end-requires c κs = same-ready _ _ (c .before .before .k3 .given .1) _ (c .before .before .before .before .before .pre)
+replace-requires : tie.Need-replace-requires
+unfolding Ready
+replace-requires c κs = same-ready _ _ (c .before .before .k3 .given .1) _ (c .before .before .before .before .before .pre)
 
 enum-known-k-4 : tie.Need-enum-known-k-4
 enum-known-k-4 c = search needs
 
-start-requires : tie.Need-start-requires
-unfolding callOf Ready
-start-requires c κs = same-ready _ _ (c .before .before .k4 .given .1) _ (c .before .before .before .before .before .pre)
+delete-requires : tie.Need-delete-requires
+unfolding Ready
+delete-requires c κs = same-ready _ _ (c .before .before .k4 .given .1) _ (c .before .before .before .before .before .pre)
 
 enum-known-k-5 : tie.Need-enum-known-k-5
 enum-known-k-5 c = search needs
 
-step-requires : tie.Need-step-requires
-unfolding callOf Ready
-step-requires c κs = same-ready _ _ (c .before .before .k5 .given .1) _ (c .before .before .before .before .before .pre)
+begin-requires : tie.Need-begin-requires
+unfolding Ready
+begin-requires c κs = same-ready _ _ (c .before .before .k5 .given .1) _ (c .before .before .before .before .before .pre)
 
 enum-known-k-6 : tie.Need-enum-known-k-6
 enum-known-k-6 c = search needs
 
-pass-requires : tie.Need-pass-requires
-unfolding callOf Ready
-pass-requires c κs = same-ready _ _ (c .before .before .k6 .given .1) _ (c .before .before .before .before .before .pre)
+end-requires : tie.Need-end-requires
+unfolding Ready
+end-requires c κs = same-ready _ _ (c .before .before .k6 .given .1) _ (c .before .before .before .before .before .pre)
 
 enum-known-k-7 : tie.Need-enum-known-k-7
 enum-known-k-7 c = search needs
 
+start-requires : tie.Need-start-requires
+unfolding Ready
+start-requires c κs = same-ready _ _ (c .before .before .k7 .given .1) _ (c .before .before .before .before .before .pre)
+
+enum-known-k-8 : tie.Need-enum-known-k-8
+enum-known-k-8 c = search needs
+
+step-requires : tie.Need-step-requires
+unfolding Ready
+step-requires c κs = same-ready _ _ (c .before .before .k8 .given .1) _ (c .before .before .before .before .before .pre)
+
+enum-known-k-9 : tie.Need-enum-known-k-9
+enum-known-k-9 c = search needs
+
+pass-requires : tie.Need-pass-requires
+unfolding Ready
+pass-requires c κs = same-ready _ _ (c .before .before .k9 .given .1) _ (c .before .before .before .before .before .pre)
+
+enum-known-k-10 : tie.Need-enum-known-k-10
+enum-known-k-10 c = search needs
+
+clock-requires : tie.Need-clock-requires
+unfolding Ready
+clock-requires c κs = same-ready _ _ (c .before .before .k10 .given .1) _ (c .before .before .before .before .before .pre)
+
+enum-known-k-11 : tie.Need-enum-known-k-11
+enum-known-k-11 c = search needs
+
 on-requires : tie.Need-on-requires
-unfolding callOf Ready
-on-requires c κs = same-ready _ _ (c .before .before .k7 .given .1) _ (c .before .before .before .before .before .pre)
+unfolding Ready
+on-requires c κs = same-ready _ _ (c .before .before .k11 .given .1) _ (c .before .before .before .before .before .pre)
+
+enum-known-k-12 : tie.Need-enum-known-k-12
+enum-known-k-12 c = search needs
+
+off-requires : tie.Need-off-requires
+unfolding Ready
+off-requires c κs = same-ready _ _ (c .before .before .k12 .given .1) _ (c .before .before .before .before .before .pre)
+
+enum-known-k-13 : tie.Need-enum-known-k-13
+enum-known-k-13 c = search needs
+
+hand-back-requires : tie.Need-hand-back-requires
+unfolding Ready
+hand-back-requires c κs = same-ready _ _ (c .before .before .k13 .given .1) _ (c .before .before .before .before .before .pre)
+
+enum-told : tie.Need-enum-told
+enum-told c = search needs
+
+awaited-requires : tie.Need-awaited-requires
+unfolding Ready
+awaited-requires c κs = same-ready _ _ (c .before .enum-told .given .1) _ (c .before .before .before .before .pre)
 
 same-length : tie.Need-same-length
 same-length c = search needs
 
 returns : tie.Need-returns
-unfolding callOf
 returns c = same-call _ _ (c .before .before .before .before .before .k .given .1) _ _ _ (c .before .before .set-up .ensures)
 
 same-length-2 : tie.Need-same-length-2
 same-length-2 c = search needs
 
 returns-2 : tie.Need-returns-2
-unfolding callOf
-returns-2 c = same-call _ _ (c .before .before .before .before .before .k2 .given .1) _ _ _ (c .before .before .begin .ensures)
+returns-2 c = same-call _ _ (c .before .before .before .before .before .k2 .given .1) _ _ _ (c .before .before .add .ensures)
 
 same-length-3 : tie.Need-same-length-3
 same-length-3 c = search needs
 
 returns-3 : tie.Need-returns-3
-unfolding callOf
-returns-3 c = same-call _ _ (c .before .before .before .before .before .k3 .given .1) _ _ _ (c .before .before .end .ensures)
+returns-3 c = same-call _ _ (c .before .before .before .before .before .k3 .given .1) _ _ _ (c .before .before .replace .ensures)
 
 same-length-4 : tie.Need-same-length-4
 same-length-4 c = search needs
 
 returns-4 : tie.Need-returns-4
-unfolding callOf
-returns-4 c = same-call _ _ (c .before .before .before .before .before .k4 .given .1) _ _ _ (c .before .before .start .ensures)
+returns-4 c = same-call _ _ (c .before .before .before .before .before .k4 .given .1) _ _ _ (c .before .before .delete .ensures)
 
 same-length-5 : tie.Need-same-length-5
 same-length-5 c = search needs
 
 returns-5 : tie.Need-returns-5
-unfolding callOf
-returns-5 c = same-call _ _ (c .before .before .before .before .before .k5 .given .1) _ _ _ (c .before .before .step .ensures)
+returns-5 c = same-call _ _ (c .before .before .before .before .before .k5 .given .1) _ _ _ (c .before .before .begin .ensures)
 
 same-length-6 : tie.Need-same-length-6
 same-length-6 c = search needs
 
 returns-6 : tie.Need-returns-6
-unfolding callOf
-returns-6 c = same-call _ _ (c .before .before .before .before .before .k6 .given .1) _ _ _ (c .before .before .pass .ensures)
+returns-6 c = same-call _ _ (c .before .before .before .before .before .k6 .given .1) _ _ _ (c .before .before .end .ensures)
 
 same-length-7 : tie.Need-same-length-7
 same-length-7 c = search needs
 
 returns-7 : tie.Need-returns-7
-unfolding callOf
-returns-7 c = same-call _ _ (c .before .before .before .before .before .k7 .given .1) _ _ _ (c .before .before .on .ensures)
+returns-7 c = same-call _ _ (c .before .before .before .before .before .k7 .given .1) _ _ _ (c .before .before .start .ensures)
+
+same-length-8 : tie.Need-same-length-8
+same-length-8 c = search needs
+
+returns-8 : tie.Need-returns-8
+returns-8 c = same-call _ _ (c .before .before .before .before .before .k8 .given .1) _ _ _ (c .before .before .step .ensures)
+
+same-length-9 : tie.Need-same-length-9
+same-length-9 c = search needs
+
+returns-9 : tie.Need-returns-9
+returns-9 c = same-call _ _ (c .before .before .before .before .before .k9 .given .1) _ _ _ (c .before .before .pass .ensures)
+
+same-length-10 : tie.Need-same-length-10
+same-length-10 c = search needs
+
+returns-10 : tie.Need-returns-10
+returns-10 c = same-call _ _ (c .before .before .before .before .before .k10 .given .1) _ _ _ (c .before .before .clock .ensures)
+
+same-length-11 : tie.Need-same-length-11
+same-length-11 c = search needs
+
+returns-11 : tie.Need-returns-11
+returns-11 c = same-call _ _ (c .before .before .before .before .before .k11 .given .1) _ _ _ (c .before .before .on .ensures)
+
+same-length-12 : tie.Need-same-length-12
+same-length-12 c = search needs
+
+returns-12 : tie.Need-returns-12
+returns-12 c = same-call _ _ (c .before .before .before .before .before .k12 .given .1) _ _ _ (c .before .before .off .ensures)
+
+same-length-13 : tie.Need-same-length-13
+same-length-13 c = search needs
+
+returns-13 : tie.Need-returns-13
+returns-13 c = same-call _ _ (c .before .before .before .before .before .k13 .given .1) _ _ _ (c .before .before .hand-back .ensures)
+
+same-length-14 : tie.Need-same-length-14
+same-length-14 c = search needs
+
+returns-14 : tie.Need-returns-14
+returns-14 c = same-call _ _ (c .before .before .before .before .enum-told .given .1) _ _ _ (c .before .before .awaited .ensures)
 
 pub perform-spec : {M : Type 1} → statement M
 perform-spec =
@@ -108,17 +192,31 @@ perform-spec =
     enum-known-k
     set-up-requires
     enum-known-k-2
-    begin-requires
+    add-requires
     enum-known-k-3
-    end-requires
+    replace-requires
     enum-known-k-4
-    start-requires
+    delete-requires
     enum-known-k-5
-    step-requires
+    begin-requires
     enum-known-k-6
-    pass-requires
+    end-requires
     enum-known-k-7
+    start-requires
+    enum-known-k-8
+    step-requires
+    enum-known-k-9
+    pass-requires
+    enum-known-k-10
+    clock-requires
+    enum-known-k-11
     on-requires
+    enum-known-k-12
+    off-requires
+    enum-known-k-13
+    hand-back-requires
+    enum-told
+    awaited-requires
     same-length
     returns
     same-length-2
@@ -132,4 +230,18 @@ perform-spec =
     same-length-6
     returns-6
     same-length-7
-    returns-7)
+    returns-7
+    same-length-8
+    returns-8
+    same-length-9
+    returns-9
+    same-length-10
+    returns-10
+    same-length-11
+    returns-11
+    same-length-12
+    returns-12
+    same-length-13
+    returns-13
+    same-length-14
+    returns-14)

@@ -1,5 +1,5 @@
 -- `reads_state` meets its contract. Assumes nothing.
-use Rattle.table.specs.Ways.{callOf, readsState}
+use Rattle.table.specs.Ways.{readsState}
 use borrow.Author.Needs.{needs}
 use Rattle.table.proofs.reads_state.Statement.{statement}
 use Rattle.table.proofs.reads_state.Tie as tie
@@ -25,33 +25,82 @@ enum-told-6 c = search needs
 enum-told-7 : tie.Need-enum-told-7
 enum-told-7 c = search needs
 
+enum-told-8 : tie.Need-enum-told-8
+enum-told-8 c = search needs
+
+enum-told-9 : tie.Need-enum-told-9
+enum-told-9 c = search needs
+
+enum-told-10 : tie.Need-enum-told-10
+enum-told-10 c = search needs
+
+enum-told-11 : tie.Need-enum-told-11
+enum-told-11 c = search needs
+
+enum-told-12 : tie.Need-enum-told-12
+enum-told-12 c = search needs
+
+enum-told-13 : tie.Need-enum-told-13
+enum-told-13 c = search needs
+
+enum-told-14 : tie.Need-enum-told-14
+enum-told-14 c = search needs
+
 returns : tie.Need-returns
-unfolding callOf readsState
+unfolding readsState
 returns c = search needs
 
 returns-2 : tie.Need-returns-2
-unfolding callOf readsState
+unfolding readsState
 returns-2 c = search needs
 
 returns-3 : tie.Need-returns-3
-unfolding callOf readsState
+unfolding readsState
 returns-3 c = search needs
 
 returns-4 : tie.Need-returns-4
-unfolding callOf readsState
+unfolding readsState
 returns-4 c = search needs
 
 returns-5 : tie.Need-returns-5
-unfolding callOf readsState
+unfolding readsState
 returns-5 c = search needs
 
 returns-6 : tie.Need-returns-6
-unfolding callOf readsState
+unfolding readsState
 returns-6 c = search needs
 
 returns-7 : tie.Need-returns-7
-unfolding callOf readsState
+unfolding readsState
 returns-7 c = search needs
+
+returns-8 : tie.Need-returns-8
+unfolding readsState
+returns-8 c = search needs
+
+returns-9 : tie.Need-returns-9
+unfolding readsState
+returns-9 c = search needs
+
+returns-10 : tie.Need-returns-10
+unfolding readsState
+returns-10 c = search needs
+
+returns-11 : tie.Need-returns-11
+unfolding readsState
+returns-11 c = search needs
+
+returns-12 : tie.Need-returns-12
+unfolding readsState
+returns-12 c = search needs
+
+returns-13 : tie.Need-returns-13
+unfolding readsState
+returns-13 c = search needs
+
+returns-14 : tie.Need-returns-14
+unfolding readsState
+returns-14 c = search needs
 
 pub reads-state-spec : {M : Type 1} → statement M
 reads-state-spec =
@@ -64,10 +113,24 @@ reads-state-spec =
     enum-told-5
     enum-told-6
     enum-told-7
+    enum-told-8
+    enum-told-9
+    enum-told-10
+    enum-told-11
+    enum-told-12
+    enum-told-13
+    enum-told-14
     returns
     returns-2
     returns-3
     returns-4
     returns-5
     returns-6
-    returns-7)
+    returns-7
+    returns-8
+    returns-9
+    returns-10
+    returns-11
+    returns-12
+    returns-13
+    returns-14)

@@ -1,0 +1,68 @@
+-- `owner_length` meets its contract: it adds up the lengths of next, current and done. Assumes nothing.
+use native.Mathlib.Omega.{arith}
+use Rattle.changes.specs.Queues.{next, current, done}
+use Rattle.awaited.specs.Owners.{part-at, owner-few}
+use borrow.Author.Needs.{needs}
+use Rattle.awaited.proofs.owner_length.Statement.{statement}
+use Rattle.awaited.proofs.owner_length.Tie as tie
+
+mul-queue-length : tie.Need-mul-queue-length
+mul-queue-length c = search needs
+
+shared-slice-read-queue-length : tie.Need-shared-slice-read-queue-length
+shared-slice-read-queue-length c = search needs
+
+queue-length-requires : tie.Need-queue-length-requires
+queue-length-requires c κs = part-at _ _ _ (c .before .before .pre) next
+
+add-queue-length : tie.Need-add-queue-length
+add-queue-length c = search needs
+
+mul-queue-length-2 : tie.Need-mul-queue-length-2
+mul-queue-length-2 c = search needs
+
+shared-slice-read-queue-length-2 : tie.Need-shared-slice-read-queue-length-2
+shared-slice-read-queue-length-2 c = search needs
+
+queue-length-requires-2 : tie.Need-queue-length-requires-2
+queue-length-requires-2 c κs = part-at _ _ _ (c .before .before .before .before .pre) current
+
+add-result : tie.Need-add-result
+add-result c = omega (arith, owner-few _ _ _ (c .before .before .before .before .before .pre), c .before .before .queue-length .ensures, c .queue-length2 .ensures)
+
+add-queue-length-2 : tie.Need-add-queue-length-2
+add-queue-length-2 c = search needs
+
+mul-queue-length-3 : tie.Need-mul-queue-length-3
+mul-queue-length-3 c = search needs
+
+shared-slice-read-queue-length-3 : tie.Need-shared-slice-read-queue-length-3
+shared-slice-read-queue-length-3 c = search needs
+
+queue-length-requires-3 : tie.Need-queue-length-requires-3
+queue-length-requires-3 c κs = part-at _ _ _ (c .before .before .before .before .before .before .pre) done
+
+add-result-2 : tie.Need-add-result-2
+add-result-2 c = omega (arith, owner-few _ _ _ (c .before .before .before .before .before .before .before .pre), c .before .before .before .before .queue-length .ensures, c .before .before .queue-length2 .ensures, c .queue-length3 .ensures)
+
+returns : tie.Need-returns
+returns c = omega (arith, c .before .before .before .before .queue-length .ensures, c .before .before .queue-length2 .ensures, c .queue-length3 .ensures)
+
+pub owner-length-spec : {M : Type 1} → statement M
+owner-length-spec =
+    tie.close
+    (tie.spec
+    mul-queue-length
+    shared-slice-read-queue-length
+    queue-length-requires
+    add-queue-length
+    mul-queue-length-2
+    shared-slice-read-queue-length-2
+    queue-length-requires-2
+    add-result
+    add-queue-length-2
+    mul-queue-length-3
+    shared-slice-read-queue-length-3
+    queue-length-requires-3
+    add-result-2
+    returns)

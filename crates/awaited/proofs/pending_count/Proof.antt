@@ -1,0 +1,75 @@
+-- `pending_count` meets its contract. The loop's invariant: the count is that of the cabinets before c. The measure: the cabinets left.
+-- Assumes nothing.
+use Prim.Native.Nat.{_-_, _*_, _≤_}
+use mathlib.Core.Path.{_∙_}
+use native.Mathlib.Omega.{arith}
+use Rattle.model.specs.Memory.{sizes}
+use denote.Ref.{now}
+use Rattle.masks.specs.Bits.{width}
+use Rattle.access.specs.Ways.{inRange, long}
+use Rattle.awaited.specs.Sums.{Summed, summed-start, summed-on, summed-done}
+use Rattle.awaited.specs.Pending.{pendingOf, pending-few, count-shown}
+use borrow.Author.Needs.{needs}
+use Rattle.awaited.proofs.pending_count.Statement.{statement}
+use Rattle.awaited.proofs.pending_count.Tie as tie
+
+abbrev Inv-loop : tie.InvT-loop
+Inv-loop m cabinets n₀ c₀ n c = Summed (pendingOf m) (sizes m .cabinets) c n × (n ≤ width * c)
+
+abbrev μ-loop : tie.MeasureT-loop
+μ-loop m cabinets n₀ c₀ n c = cabinets - c
+
+shared-slice-read-index : tie.Need-shared-slice-read-index Inv-loop μ-loop
+shared-slice-read-index c = omega (arith, long _ (c .before .before .pre))
+
+index-requires : tie.Need-index-requires Inv-loop μ-loop
+index-requires c κs = search needs
+
+loop-holds : tie.Need-loop-holds Inv-loop μ-loop
+loop-holds c = (summed-start _ _, omega arith)
+
+add-ones : tie.Need-add-ones Inv-loop μ-loop
+add-ones c = omega (arith, c .before .before .index .ensures, inRange _ (c .before .before .before .before .before .pre) .fewCabinets)
+
+mul-ones : tie.Need-mul-ones Inv-loop μ-loop
+mul-ones c = omega (arith, c .before .before .index .ensures, inRange _ (c .before .before .before .before .before .pre) .fewCabinets)
+
+shared-slice-read-ones : tie.Need-shared-slice-read-ones Inv-loop μ-loop
+shared-slice-read-ones c = omega (arith, c .before .before .before .index .ensures, inRange _ (c .before .before .before .before .before .before .pre) .fewCabinets, long _ (c .before .before .before .before .before .before .pre))
+
+ones-requires : tie.Need-ones-requires Inv-loop μ-loop
+ones-requires c κs = search needs
+
+add-n : tie.Need-add-n Inv-loop μ-loop
+add-n c = omega (arith, c .ones .ensures, pending-few (now (c .before .before .before .before .before .before .before .args .m)) (c .before .before .before .loop .c), c .before .before .before .loop .inv .1, c .before .before .before .before .index .ensures, inRange _ (c .before .before .before .before .before .before .before .pre) .fewCabinets)
+
+add-c : tie.Need-add-c Inv-loop μ-loop
+add-c c = omega (arith, c .before .before .before .before .index .ensures, inRange _ (c .before .before .before .before .before .before .before .pre) .fewCabinets)
+
+loop-less : tie.Need-loop-less Inv-loop μ-loop
+loop-less c = omega (arith, c .before .before .before .before .index .ensures, inRange _ (c .before .before .before .before .before .before .before .pre) .fewCabinets)
+
+loop-again : tie.Need-loop-again Inv-loop μ-loop
+loop-again c = (summed-on _ _ _ _ (c .before .before .before .loop .inv .0) (omega (arith, c .before .before .before .before .index .ensures)) _ (c .ones .ensures), omega (arith, c .ones .ensures, pending-few (now (c .before .before .before .before .before .before .before .args .m)) (c .before .before .before .loop .c), c .before .before .before .loop .inv .1))
+
+returns : tie.Need-returns Inv-loop μ-loop
+returns c = summed-done _ _ _ _ (c .before .loop .inv .0) (omega (arith, c .before .before .index .ensures)) ∙ count-shown _ (c .before .before .before .before .before .pre)
+
+pub pending-count-spec : {M : Type 1} → statement M
+pending-count-spec =
+    tie.close
+    (tie.spec
+    Inv-loop
+    μ-loop
+    shared-slice-read-index
+    index-requires
+    loop-holds
+    add-ones
+    mul-ones
+    shared-slice-read-ones
+    ones-requires
+    add-n
+    add-c
+    loop-less
+    loop-again
+    returns)

@@ -1,0 +1,67 @@
+-- `queue_length` meets its contract. The loop's invariant: the slots counted and those from the next on are the queue's. The measure: the slots
+-- that are not counted. Assumes nothing.
+use Prim.Native.Nat.{_-_}
+use native.Mathlib.Omega.{arith}
+use Rattle.model.specs.Memory.{sizes}
+use Rattle.access.specs.Ways.{inRange, long}
+use Rattle.awaited.specs.Lengths.{Counted, counted-start, counted-on, counted-done, link-inside}
+use borrow.Author.Needs.{needs}
+use Rattle.awaited.proofs.queue_length.Statement.{statement}
+use Rattle.awaited.proofs.queue_length.Tie as tie
+
+abbrev Inv-loop : tie.InvT-loop
+Inv-loop m links first slots slot₀ n₀ slot n = Counted m first slot n
+
+abbrev μ-loop : tie.MeasureT-loop
+μ-loop m links first slots slot₀ n₀ slot n = sizes m .slots - n
+
+shared-slice-read-slots : tie.Need-shared-slice-read-slots Inv-loop μ-loop
+shared-slice-read-slots c = omega (arith, long _ (c .before .before .pre .links .sound))
+
+loop-holds : tie.Need-loop-holds Inv-loop μ-loop
+loop-holds c = counted-start _ _
+
+index-requires : tie.Need-index-requires Inv-loop μ-loop
+index-requires c κs = search needs
+
+mul-slot : tie.Need-mul-slot Inv-loop μ-loop
+mul-slot c = omega (arith, c .index .ensures, inRange _ (c .before .before .before .before .before .pre .links .sound) .fewSlots)
+
+add-slot : tie.Need-add-slot Inv-loop μ-loop
+add-slot c = omega (arith, c .index .ensures, link-inside _ _ _ _ _ (c .before .before .before .before .before .pre) (c .before .before .loop .inv) (c .before .loop-test .taken))
+
+mul-slot-2 : tie.Need-mul-slot-2 Inv-loop μ-loop
+mul-slot-2 c = omega (arith, c .index .ensures, link-inside _ _ _ _ _ (c .before .before .before .before .before .pre) (c .before .before .loop .inv) (c .before .loop-test .taken), inRange _ (c .before .before .before .before .before .pre .links .sound) .fewSlots)
+
+shared-slice-read-slot : tie.Need-shared-slice-read-slot Inv-loop μ-loop
+shared-slice-read-slot c = omega (arith, c .before .index .ensures, link-inside _ _ _ _ _ (c .before .before .before .before .before .before .pre) (c .before .before .before .loop .inv) (c .before .before .loop-test .taken))
+
+add-n : tie.Need-add-n Inv-loop μ-loop
+add-n c = omega (arith, c .before .before .before .loop .inv .few, inRange _ (c .before .before .before .before .before .before .pre .links .sound) .fewSlots)
+
+loop-less : tie.Need-loop-less Inv-loop μ-loop
+loop-less c = omega (arith, (counted-on _ _ _ _ _ (c .before .before .before .before .before .before .pre) (c .before .before .before .loop .inv) (c .before .before .loop-test .taken) _ (c .before .index .ensures)) .few)
+
+loop-again : tie.Need-loop-again Inv-loop μ-loop
+loop-again c = counted-on _ _ _ _ _ (c .before .before .before .before .before .before .pre) (c .before .before .before .loop .inv) (c .before .before .loop-test .taken) _ (c .before .index .ensures)
+
+returns : tie.Need-returns Inv-loop μ-loop
+returns c = counted-done _ _ _ _ _ (c .before .before .before .before .pre) (c .before .loop .inv) (c .loop-test .left)
+
+pub queue-length-spec : {M : Type 1} → statement M
+queue-length-spec =
+    tie.close
+    (tie.spec
+    Inv-loop
+    μ-loop
+    shared-slice-read-slots
+    loop-holds
+    index-requires
+    mul-slot
+    add-slot
+    mul-slot-2
+    shared-slice-read-slot
+    add-n
+    loop-less
+    loop-again
+    returns)

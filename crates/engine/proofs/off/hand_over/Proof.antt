@@ -1,0 +1,67 @@
+-- `engine::off::hand_over` meets its contract: the queues are joined, then the generation is stored. Assumes nothing.
+use Prim.Native.Nat.{_+_}
+use mathlib.Core.Path.{_∙_}
+use lib.ListN.{length-set}
+use denote.Ref.{now}
+use Rattle.model.specs.Layout.{generationAt}
+use Rattle.engine.specs.OffWords.{handed-by}
+use borrow.Author.Needs.{needs}
+use Rattle.engine.proofs.off.hand_over.Statement.{statement}
+use Rattle.engine.proofs.off.hand_over.Tie as tie
+
+add-done : tie.Need-add-done
+add-done c = search needs
+
+add-ends : tie.Need-add-ends
+add-ends c = search needs
+
+add-append-queue : tie.Need-add-append-queue
+add-append-queue c = search needs
+
+append-queue-requires : tie.Need-append-queue-requires
+append-queue-requires c κs = search needs
+
+append-queue-requires-2 : tie.Need-append-queue-requires-2
+append-queue-requires-2 c κs = search needs
+
+add-append-queue-2 : tie.Need-add-append-queue-2
+add-append-queue-2 c = search needs
+
+append-queue-requires-3 : tie.Need-append-queue-requires-3
+append-queue-requires-3 c κs = search needs
+
+add-m : tie.Need-add-m
+add-m c = search needs
+
+mul-m : tie.Need-mul-m
+mul-m c = search needs
+
+slice-write-m : tie.Need-slice-write-m
+slice-write-m c = search needs
+
+same-length : tie.Need-same-length
+same-length c =
+    length-set (c .before .before .append-queue3 .last .0) (c .before .before .before .before .before .before .before .before .before .before .before .before .before .args .a + generationAt) 0
+    ∙ c .before .before .append-queue3 .kept .0 ∙ c .before .before .before .before .before .before .append-queue2 .kept .0 ∙ c .before .before .before .before .before .before .before .before .before .before .append-queue .kept .0
+
+returns : tie.Need-returns
+returns c =
+    let s = c .before .before .before .before .before .before .before .before .before .before .before .before .before .args in
+    handed-by (now (s .m)) (s .base) (s .slots) (s .a) (c .before .before .before .before .before .before .before .before .before .before .append-queue .last .0) (c .before .before .before .before .before .before .append-queue2 .last .0) (c .before .before .append-queue3 .last .0) (c .before .before .before .before .before .before .before .before .before .before .append-queue .ensures) (c .before .before .before .before .before .before .append-queue2 .ensures) (c .before .before .append-queue3 .ensures)
+
+pub hand-over-spec : {M : Type 1} → statement M
+hand-over-spec =
+    tie.close
+    (tie.spec
+    add-done
+    add-ends
+    add-append-queue
+    append-queue-requires
+    append-queue-requires-2
+    add-append-queue-2
+    append-queue-requires-3
+    add-m
+    mul-m
+    slice-write-m
+    same-length
+    returns)

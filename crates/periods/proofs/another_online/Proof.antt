@@ -1,0 +1,68 @@
+-- `another_online` meets its contract. The loop's invariant: the lanes from i on decide. The measure is the lanes that are left.
+-- Assumes nothing.
+use Prim.Native.Nat.{_-_, _≤_}
+use mathlib.Core.Path.{_≡_, refl, sym, _∙_}
+use native.Mathlib.Omega.{arith}
+use lib.ListN.{drop}
+use Rattle.model.specs.Lists.{any}
+use Rattle.model.specs.Rules.{isOnline}
+use Rattle.model.specs.Engine.{freshLane}
+use Rattle.model.specs.Memory.{state}
+use Rattle.periods.specs.Others.{others, others-length, any-found, any-next, any-none}
+use borrow.Author.Needs.{needs}
+use Rattle.periods.proofs.another_online.Statement.{statement}
+use Rattle.periods.proofs.another_online.Tie as tie
+
+abbrev Inv-loop : tie.InvT-loop
+Inv-loop m lane n i₀ i = (i ≤ n) × (any isOnline (drop i (others (state m) lane)) ≡ any isOnline (others (state m) lane))
+
+abbrev μ-loop : tie.MeasureT-loop
+μ-loop m lane n i₀ i = n - i
+
+lane-count-requires : tie.Need-lane-count-requires Inv-loop μ-loop
+lane-count-requires c κs = search needs
+
+loop-holds : tie.Need-loop-holds Inv-loop μ-loop
+loop-holds c = (omega arith, refl)
+
+is-other-online-requires : tie.Need-is-other-online-requires Inv-loop μ-loop
+is-other-online-requires c κs = (c .before .before .before .before .pre, omega (arith, c .before .before .lane-count .ensures))
+
+returns : tie.Need-returns Inv-loop μ-loop
+returns c =
+    any-found isOnline freshLane _ _ (c .before .before .before .loop .inv .1)
+    (omega (arith, c .before .before .loop-test .taken, c .before .before .before .before .lane-count .ensures, others-length _ _ (c .before .before .before .before .before .before .pre)))
+    _ (c .before .is-other-online .ensures) (c .if1 .taken)
+
+add-i : tie.Need-add-i Inv-loop μ-loop
+add-i c = search needs
+
+loop-less : tie.Need-loop-less Inv-loop μ-loop
+loop-less c = omega (arith, c .before .before .loop-test .taken)
+
+loop-again : tie.Need-loop-again Inv-loop μ-loop
+loop-again c = (
+  omega (arith, c .before .before .loop-test .taken),
+  any-next isOnline freshLane _ _ (c .before .before .before .loop .inv .1)
+      (omega (arith, c .before .before .loop-test .taken, c .before .before .before .before .lane-count .ensures, others-length _ _ (c .before .before .before .before .before .before .pre)))
+      _ (c .before .is-other-online .ensures) (c .if1 .left),
+)
+
+returns-2 : tie.Need-returns-2 Inv-loop μ-loop
+returns-2 c =
+    any-none isOnline freshLane _ _ (c .before .loop .inv .1) _ (others-length _ _ (c .before .before .before .before .pre) ∙ sym (c .before .before .lane-count .ensures)) (c .loop-test .left)
+
+pub another-online-spec : {M : Type 1} → statement M
+another-online-spec =
+    tie.close
+    (tie.spec
+    Inv-loop
+    μ-loop
+    lane-count-requires
+    loop-holds
+    is-other-online-requires
+    returns
+    add-i
+    loop-less
+    loop-again
+    returns-2)

@@ -1,0 +1,28 @@
+-- `answer_call` meets its contract: a law for each way out. Assumes nothing.
+use Rattle.product_table.specs.Called.{too-short, answered}
+use borrow.Author.Needs.{needs}
+use Rattle.product_table.proofs.answer_call.Statement.{statement}
+use Rattle.product_table.proofs.answer_call.Tie as tie
+
+returns : tie.Need-returns
+returns c = too-short _ _ _ (c .if1 .taken)
+
+make-call-requires : tie.Need-make-call-requires
+make-call-requires c κs = search needs
+
+write-answer-requires : tie.Need-write-answer-requires
+write-answer-requires c κs = search needs
+
+same-length : tie.Need-same-length
+same-length c = search needs
+
+same-length-2 : tie.Need-same-length-2
+same-length-2 c = search needs
+
+returns-2 : tie.Need-returns-2
+returns-2 c = answered _ _ _ (c .before .before .before .before .before .before .before .before .if1 .left) _ _ _ (c .before .before .before .before .before .before .make-call .ensures) (c .before .before .write-answer .ensures)
+
+pub answer-call-spec : {M : Type 1} → statement M
+answer-call-spec =
+    tie.close
+    (tie.spec returns make-call-requires write-answer-requires same-length same-length-2 returns-2)

@@ -1,0 +1,2 @@
+-- What a call for C leaves behind.
+pub mod Called

@@ -1,0 +1,82 @@
+-- `delete` meets its contract: a law for each way out. Assumes nothing.
+use native.Mathlib.Omega.{arith}
+use Rattle.model.specs.Rules.{delete}
+use Rattle.access.specs.Ways.{refuses, long}
+use Rattle.updates.specs.Deletes.{delete-reach, delete-done}
+use borrow.Author.Needs.{needs}
+use Rattle.updates.proofs.delete.Statement.{statement}
+use Rattle.updates.proofs.delete.Tie as tie
+
+delete-refusal-requires : tie.Need-delete-refusal-requires
+delete-refusal-requires c κs = search needs
+
+refused-requires : tie.Need-refused-requires
+refused-requires c κs = search needs
+
+same-length : tie.Need-same-length
+same-length c = search needs
+
+returns : tie.Need-returns
+returns c =
+    let s = c .before .before .before .before .before in
+    refuses _ (delete (s .args .lane) (s .args .code)) (s .pre) _ _ (c .before .before .delete-refusal .ensures) (c .before .if1 .taken)
+    (c .refused .ensures)
+
+slots-start-requires : tie.Need-slots-start-requires
+slots-start-requires c κs = search needs
+
+slice-read-slots : tie.Need-slice-read-slots
+slice-read-slots c = omega (arith, long _ (c .before .before .before .before .before .before .before .pre))
+
+head-address-requires : tie.Need-head-address-requires
+head-address-requires c κs = search needs
+
+next-queue-requires : tie.Need-next-queue-requires
+next-queue-requires c κs = search needs
+
+search-requires : tie.Need-search-requires
+search-requires c κs = search needs
+
+remove-requires : tie.Need-remove-requires
+remove-requires c κs =
+    let s = c .before .before .before .before .before .before .before .before .before .before .before .before .before in
+    delete-reach _ (s .pre) (s .args .lane) (s .args .code) _
+    (c .before .before .before .before .before .before .before .before .before .before .delete-refusal .ensures)
+    (c .before .before .before .before .before .before .before .before .before .if1 .left) _ _ _ _
+    (c .before .before .before .before .before .before .before .slots-start .ensures)
+    (c .before .before .before .before .before .head-address .ensures) (c .before .before .before .next-queue .ensures) (c .before .search .ensures)
+
+accepted-requires : tie.Need-accepted-requires
+accepted-requires c κs = search needs
+
+same-length-2 : tie.Need-same-length-2
+same-length-2 c = search needs
+
+returns-2 : tie.Need-returns-2
+returns-2 c =
+    let s = c .before .before .before .before .before .before .before .before .before .before .before .before .before .before .before .before .before in
+    delete-done _ (s .pre) (s .args .lane) (s .args .code) _
+    (c .before .before .before .before .before .before .before .before .before .before .before .before .before .before .delete-refusal .ensures)
+    (c .before .before .before .before .before .before .before .before .before .before .before .before .before .if1 .left) _ _ _ _
+    (c .before .before .before .before .before .before .before .before .before .before .before .slots-start .ensures)
+    (c .before .before .before .before .before .before .before .before .before .head-address .ensures)
+    (c .before .before .before .before .before .before .before .next-queue .ensures) (c .before .before .before .before .before .search .ensures) _ _
+    (c .accepted .ensures) (c .before .before .before .remove .ensures)
+
+pub delete-spec : {M : Type 1} → statement M
+delete-spec =
+    tie.close
+    (tie.spec
+    delete-refusal-requires
+    refused-requires
+    same-length
+    returns
+    slots-start-requires
+    slice-read-slots
+    head-address-requires
+    next-queue-requires
+    search-requires
+    remove-requires
+    accepted-requires
+    same-length-2
+    returns-2)

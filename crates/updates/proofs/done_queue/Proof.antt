@@ -1,0 +1,50 @@
+-- `done_queue` meets its contract: a law for each way out. Assumes nothing.
+use native.Mathlib.Omega.{arith}
+use Rattle.access.specs.Ways.{inRange, long}
+use Rattle.updates.specs.HandBacks.{lane-empty, lane-some}
+use borrow.Author.Needs.{needs}
+use Rattle.updates.proofs.done_queue.Statement.{statement}
+use Rattle.updates.proofs.done_queue.Tie as tie
+
+lane-address-requires : tie.Need-lane-address-requires
+lane-address-requires c κs = search needs
+
+add-ends : tie.Need-add-ends
+add-ends c = omega (arith, (c .lane-address .ensures), inRange _ (c .before .before .pre .sound) .fewCabinets)
+
+add-ends-2 : tie.Need-add-ends-2
+add-ends-2 c = omega (arith, (c .lane-address .ensures), inRange _ (c .before .before .pre .sound) .fewCabinets)
+
+shared-slice-read-is-empty : tie.Need-shared-slice-read-is-empty
+shared-slice-read-is-empty c = omega (arith, long _ (c .before .before .before .pre .sound))
+
+is-empty-requires : tie.Need-is-empty-requires
+is-empty-requires c κs =
+    let s = c .before .before .before in
+    omega (arith, (c .before .lane-address .ensures), long _ (s .pre .sound), (s .pre .known))
+
+add-result : tie.Need-add-result
+add-result c = search needs
+
+returns : tie.Need-returns
+returns c =
+    let s = c .before .before .before .before .before in
+    lane-empty _ (s .args .lane) (s .pre) _ _ (c .before .before .before .lane-address .ensures) (c .before .is-empty .ensures) (c .if1 .taken)
+
+returns-2 : tie.Need-returns-2
+returns-2 c =
+    let s = c .before .before .before .before .before in
+    lane-some _ (s .args .lane) (s .pre) _ _ (c .before .before .before .lane-address .ensures) (c .before .is-empty .ensures) (c .if1 .left)
+
+pub done-queue-spec : {M : Type 1} → statement M
+done-queue-spec =
+    tie.close
+    (tie.spec
+    lane-address-requires
+    add-ends
+    add-ends-2
+    shared-slice-read-is-empty
+    is-empty-requires
+    add-result
+    returns
+    returns-2)

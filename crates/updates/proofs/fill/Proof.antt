@@ -1,0 +1,23 @@
+-- `fill` meets its contract: what `write_product` leaves of what `take_first` leaves. Assumes nothing.
+use Rattle.updates.specs.Adds.{filled-by}
+use borrow.Author.Needs.{needs}
+use Rattle.updates.proofs.fill.Statement.{statement}
+use Rattle.updates.proofs.fill.Tie as tie
+
+take-first-requires : tie.Need-take-first-requires
+take-first-requires c κs = search needs
+
+write-product-requires : tie.Need-write-product-requires
+write-product-requires c κs = search needs
+
+same-length : tie.Need-same-length
+same-length c = search needs
+
+returns : tie.Need-returns
+returns c =
+    let s = c .before .before .before .before .before .before .before .before .before in
+    filled-by _ _ _ (s .args .base) (s .args .slots) (s .args .code) (s .args .deposit) (s .args .material) _
+    (c .before .before .before .before .before .before .take-first .ensures) (c .before .before .write-product .ensures)
+
+pub fill-spec : {M : Type 1} → statement M
+fill-spec = tie.close (tie.spec take-first-requires write-product-requires same-length returns)

@@ -1,0 +1,21 @@
+-- `is_present` meets its contract: the search finds a slot just where the code is present. Assumes nothing.
+use Prim.Native.Nat.{ℕ}
+use mathlib.Core.Path.{ap}
+use mathlib.Core.Bool.{not}
+use lib.Dec.{eqb}
+use Rattle.model.specs.Word.{none}
+use Rattle.updates.specs.Shown.{found-slot}
+use borrow.Author.Needs.{needs}
+use Rattle.updates.proofs.is_present.Statement.{statement}
+use Rattle.updates.proofs.is_present.Tie as tie
+
+search-requires : tie.Need-search-requires
+search-requires c κs = search needs
+
+returns : tie.Need-returns
+returns c =
+    let s = c .before .before .before in
+    ap (λ (x : ℕ). not (eqb x none)) (found-slot _ (s .pre) (s .args .code) _ (c .before .search .ensures))
+
+pub is-present-spec : {M : Type 1} → statement M
+is-present-spec = tie.close (tie.spec search-requires returns)

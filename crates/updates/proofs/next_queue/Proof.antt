@@ -1,0 +1,18 @@
+-- `next_queue` meets its contract. Assumes nothing.
+use native.Mathlib.Omega.{arith}
+use Rattle.access.specs.Ways.{inRange}
+use borrow.Author.Needs.{needs}
+use Rattle.updates.proofs.next_queue.Statement.{statement}
+use Rattle.updates.proofs.next_queue.Tie as tie
+
+lane-address-requires : tie.Need-lane-address-requires
+lane-address-requires c κs = search needs
+
+add-result : tie.Need-add-result
+add-result c = omega (arith, (c .lane-address .ensures), inRange _ (c .before .before .pre) .fewCabinets)
+
+returns : tie.Need-returns
+returns c = search needs
+
+pub next-queue-spec : {M : Type 1} → statement M
+next-queue-spec = tie.close (tie.spec lane-address-requires add-result returns)

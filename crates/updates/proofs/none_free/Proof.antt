@@ -1,0 +1,20 @@
+-- `none_free` meets its contract. Assumes nothing.
+use mathlib.Core.Path.{_∙_}
+use native.Mathlib.Omega.{arith}
+use Rattle.changes.specs.Queues.{free}
+use Rattle.access.specs.Ways.{long}
+use Rattle.updates.specs.Shown.{queue-shown}
+use Rattle.updates.proofs.none_free.Statement.{statement}
+use Rattle.updates.proofs.none_free.Tie as tie
+
+shared-slice-read-is-empty : tie.Need-shared-slice-read-is-empty
+shared-slice-read-is-empty c = omega (arith, long _ (c .before .before .pre))
+
+is-empty-requires : tie.Need-is-empty-requires
+is-empty-requires c κs = omega (arith, long _ (c .before .before .pre))
+
+returns : tie.Need-returns
+returns c = (c .is-empty .ensures) ∙ queue-shown _ (c .before .before .before .pre) free tt
+
+pub none-free-spec : {M : Type 1} → statement M
+none-free-spec = tie.close (tie.spec shared-slice-read-is-empty is-empty-requires returns)

@@ -1,0 +1,34 @@
+-- `reclaim` meets its contract: what `append` leaves of what `clear_slot` and `take_first` leave. Assumes nothing.
+use Rattle.updates.specs.HandBacks.{reclaimed-by}
+use borrow.Author.Needs.{needs}
+use Rattle.updates.proofs.reclaim.Statement.{statement}
+use Rattle.updates.proofs.reclaim.Tie as tie
+
+take-first-requires : tie.Need-take-first-requires
+take-first-requires c κs = search needs
+
+clear-slot-requires : tie.Need-clear-slot-requires
+clear-slot-requires c κs = search needs
+
+append-requires : tie.Need-append-requires
+append-requires c κs = search needs
+
+same-length : tie.Need-same-length
+same-length c = search needs
+
+returns : tie.Need-returns
+returns c =
+    let s = c .before .before .before .before .before .before .before .before .before .before .before .before .before in
+    reclaimed-by _ _ _ _ (s .args .base) (s .args .slots) (s .args .ends) _
+    (c .before .before .before .before .before .before .before .before .before .before .take-first .ensures)
+    (c .before .before .before .before .before .before .clear-slot .ensures) (c .before .before .append .ensures)
+
+pub reclaim-spec : {M : Type 1} → statement M
+reclaim-spec =
+    tie.close
+    (tie.spec
+    take-first-requires
+    clear-slot-requires
+    append-requires
+    same-length
+    returns)

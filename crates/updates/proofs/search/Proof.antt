@@ -1,0 +1,38 @@
+-- `search` meets its contract: the slots' records are in the memory. Assumes nothing.
+use mathlib.Core.Path.{_∙_}
+use native.Mathlib.Omega.{arith}
+use Rattle.access.specs.Ways.{inRange, long}
+use Rattle.updates.specs.Shown.{search-by}
+use borrow.Author.Needs.{needs}
+use Rattle.updates.proofs.search.Statement.{statement}
+use Rattle.updates.proofs.search.Tie as tie
+
+slots-start-requires : tie.Need-slots-start-requires
+slots-start-requires c κs = search needs
+
+chain-head-requires : tie.Need-chain-head-requires
+chain-head-requires c κs = search needs
+
+shared-slice-read-find : tie.Need-shared-slice-read-find
+shared-slice-read-find c = omega (arith, long _ (c .before .before .before .before .pre))
+
+find-requires : tie.Need-find-requires
+find-requires c κs =
+    let s = c .before .before .before .before in
+    (omega (arith, (c .before .before .slots-start .ensures), long _ (s .pre)), inRange _ (s .pre) .fewSlots)
+
+returns : tie.Need-returns
+returns c =
+    let s = c .before .before .before .before .before in
+    (c .find .ensures) ∙ search-by _ (s .pre) (s .args .code) _ _ (c .before .before .before .slots-start .ensures)
+    (c .before .before .chain-head .ensures)
+
+pub search-spec : {M : Type 1} → statement M
+search-spec =
+    tie.close
+    (tie.spec
+    slots-start-requires
+    chain-head-requires
+    shared-slice-read-find
+    find-requires
+    returns)
