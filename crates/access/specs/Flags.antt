@@ -1,10 +1,10 @@
 -- A lane's flags: what each bit says, and the word after one of them is set or cleared.
 use Prim.Native.Nat.{ℕ, _+_, _<_}
-use mathlib.Core.Path.{_≡_, refl, ap, sym, _∙_}
+use mathlib.Core.Path.{_≡_, ap, _∙_}
 use mathlib.Core.Bool.{Bool, true, false}
 use mathlib.Core.List.{List, [], _∷_}
 use native.Mathlib.Omega.{arith}
-use Rattle.model.specs.State.{Sizes, laneCount, Lookup, isRunning, isHeld, Lane}
+use Rattle.model.specs.State.{laneCount, Lookup, isRunning, isHeld, Lane}
 use Rattle.model.specs.Layout.{flagsAt, laneAddress}
 use Rattle.model.specs.Engine.{setOnline, setReading, setLookup}
 use Rattle.model.specs.Rules.{laneOf}

@@ -35,3 +35,17 @@ applies n b cs e = rw e
 pub lacks : (n : ℕ) (b : Bool) (cs : List Cause) → b ≡ false → firstOf (cause n b ∷ cs) ≡ firstOf cs
 unfolding firstOf
 lacks n b cs e = rw e
+
+-- ---- one cause more, where those before it do not refuse
+
+module _ (cs : List Cause) (numbered : Numbered cs) (x : ℕ) (e : x ≡ firstOf cs) (h : x ≤ 0) (n : ℕ) (b : Bool) (ds : List Cause) where
+  pub more-applies : b ≡ true → n ≡ firstOf (cs ++ (cause n b ∷ ds))
+  more-applies q = applies n b ds q ∙ sym (first-of-rest cs (cause n b ∷ ds) x numbered e h)
+
+  pub more-lacks : b ≡ false → firstOf ds ≡ firstOf (cs ++ (cause n b ∷ ds))
+  more-lacks q = sym (first-of-rest cs (cause n b ∷ ds) x numbered e h ∙ lacks n b ds q)
+
+-- and none after it
+pub more-passes : (cs : List Cause) → Numbered cs → (x : ℕ) → x ≡ firstOf cs → x ≤ 0 → (n : ℕ) (b : Bool) → b ≡ false → 0 ≡ firstOf (cs ++ (cause n b ∷ []))
+unfolding firstOf
+more-passes cs numbered x e h n b q = more-lacks cs numbered x e h n b [] q

@@ -5,7 +5,6 @@ use mathlib.Core.Bool.{Bool, true, false}
 use mathlib.Core.List.{List}
 use native.Mathlib.Omega.{arith}
 use lib.ListN.{length}
-use Rattle.model.specs.State.{Sizes}
 use Rattle.model.specs.Layout.{total}
 use Rattle.model.specs.Rules.{Op, refused, refusal, answer, answerOf, next, nextOf, result, performed}
 use Rattle.model.specs.Memory.{Words, sizes, state}

@@ -1,5 +1,4 @@
 -- What awaited counts: the pending lanes, and the slots of the queues.
-pub mod Sums
 pub mod Pending
 pub mod Lengths
 pub mod Owners

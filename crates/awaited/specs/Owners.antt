@@ -18,7 +18,7 @@ use Rattle.changes.specs.Shape.{wellFormed-shape}
 use Rattle.changes.specs.Queues.{Part, next, current, done, Queue, free, global, lane, queueOf, partAt, queue-le}
 use Rattle.changes.specs.QueueChanges.{queue-below, queues-once}
 use Rattle.access.specs.Ways.{wellFormed, inRange, long}
-use Rattle.awaited.specs.Sums.{sumBelow, sumBelow-few}
+use Rattle.laws.specs.Loops.{sumBelow, sumBelow-few}
 use Rattle.awaited.specs.Lengths.{ownerLength, laneLengths, retiredLength, LinksAt, QueueAt, OwnerAt}
 
 -- ---- the queues of a legal memory end

@@ -26,7 +26,7 @@ use Rattle.representation.specs.Periods.{cabinetMask-runs}
 use Rattle.representation.specs.Awaited.{awaited-count, awaited-none, awaited-lowest}
 use Rattle.representation.specs.Memories.{Sound}
 use Rattle.access.specs.Ways.{shown, inRange}
-use Rattle.awaited.specs.Sums.{sumBelow, sumBelow-alike}
+use Rattle.laws.specs.Loops.{sumBelow, sumBelow-alike}
 
 -- ---- bits
 

@@ -1,7 +1,7 @@
 -- The cases that document 01 marks with a star ("A listing, and edges", last paragraph), in its order.
 use Prim.Native.Nat.{ℕ, _<_}
 use mathlib.Core.Path.{_≡_, refl}
-use mathlib.Core.Bool.{Bool, true, false}
+use mathlib.Core.Bool.{true, false}
 use mathlib.Core.List.{List, [], _∷_, map}
 use native.Mathlib.Omega.{arith}
 use Rattle.model.specs.Word.{wordLimit, less, later}

@@ -2,14 +2,13 @@
 use Prim.Native.Nat.{ℕ, _<_}
 use mathlib.Core.Path.{_≡_, refl, ap, ap₂, sym, _∙_}
 use mathlib.Core.Logic.{_≢_}
-use mathlib.Core.Bool.{false}
 use mathlib.Core.List.{List, [], _++_}
 use native.Mathlib.Omega.{arith}
 use Rattle.model.specs.Lists.{update}
 use Rattle.model.specs.State.{Sizes, laneCount, Queues, Lane, State}
 use Rattle.model.specs.Layout.{slotsBody}
-use Rattle.model.specs.Engine.{laneAt, setOnline, setQueues, atLane, withLanes, withGlobal, taken, emptied}
-use Rattle.model.specs.Rules.{withEngine, withLane}
+use Rattle.model.specs.Engine.{laneAt, setQueues, atLane, withLanes, withGlobal, taken}
+use Rattle.model.specs.Rules.{withEngine}
 use Rattle.model.specs.Calls.{stored}
 use Rattle.laws.specs.Lists.{update-update}
 use Rattle.queues.specs.Queue.{joined}
@@ -18,7 +17,6 @@ use Rattle.changes.specs.Shape.{Shape}
 use Rattle.changes.specs.Queues.{Queue, Part, next, current, done, global, lane, atPart, queueOf, withQueue, joinedState, endsAt, queueOf-other}
 use Rattle.changes.specs.QueueJoins.{join-queues}
 use Rattle.changes.specs.QueueShapes.{shape-join}
-use Rattle.changes.specs.Engines.{atGeneration}
 
 -- the queue at b appended to the one at a
 abbrev joinedAt : Sizes → List ℕ → Queue → Queue → List ℕ
@@ -118,10 +116,3 @@ module _ (s : State) (i : ℕ) where
 
     pub shape-hand-over : Shape (handedOver i s)
     shape-hand-over = rw (sym state-handed) (shape-join s₂ shape₂ (global done) (lane i done) tt within (global-lane done done i))
-
-  -- then the lane is marked off, and its generation is 0
-  pub emptied-handed : withLane (handedOver i s) i (λ (l : Lane). setOnline false (atGeneration 0 l))
-      ≡ withEngine s (atLane i emptied (withGlobal (taken (s .engine .global) (laneAt (s .engine) i .queues)) (s .engine)))
-  emptied-handed =
-      ap (λ (ls : List Lane). withEngine s (withLanes ls (withGlobal (taken (s .engine .global) (laneAt (s .engine) i .queues)) (s .engine))))
-      (update-update (s .engine .lanes) i unqueued (λ (l : Lane). setOnline false (atGeneration 0 l)))

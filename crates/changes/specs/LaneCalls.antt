@@ -17,7 +17,7 @@ use Rattle.model.specs.Memory.{flags, laneWords}
 use Rattle.model.specs.Calls.{stored}
 use Rattle.representation.specs.Passed.{clear, within}
 use Rattle.representation.specs.WellFormed.{WellFormed}
-use Rattle.changes.specs.Lists.{update-alike}
+use Rattle.laws.specs.Updates.{update-alike}
 use Rattle.changes.specs.Shows.{Shows}
 use Rattle.changes.specs.Lanes.{storedFrom}
 use Rattle.changes.specs.LaneWords.{lookupWords, lane-flags, lane-lookup, lane-position, lane-count}

@@ -16,7 +16,7 @@ use Rattle.model.specs.Memory.{flags, lookupCode, lookupPosition, snapshotCount
 use Rattle.model.specs.Calls.{stored}
 use Rattle.laws.specs.Lists.{getD-update}
 use Rattle.representation.specs.Fields.{lane}
-use Rattle.changes.specs.Lists.{update-set}
+use Rattle.laws.specs.Updates.{update-set}
 use Rattle.changes.specs.Shows.{Shows}
 use Rattle.changes.specs.Shape.{LaneAtEach}
 use Rattle.changes.specs.Lanes.{lane-none, lane-put, lane-run, lane-done, lane-change, storedFrom}

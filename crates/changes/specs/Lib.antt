@@ -2,7 +2,6 @@
 -- uses only those above it.
 
 -- general laws of lists
-pub mod Lists
 -- the words that hold a state, what is asked of the state, and stores by fields
 pub mod Shows
 pub mod Shape

@@ -16,7 +16,7 @@ use Rattle.model.specs.Rules.{withEngine, withLane}
 use Rattle.model.specs.Calls.{stored}
 use Rattle.laws.specs.Lists.{update-update, isEmpty-true}
 use Rattle.queues.specs.Queue.{joined}
-use Rattle.changes.specs.Lists.{update-same, update-alike}
+use Rattle.laws.specs.Updates.{update-same, update-alike}
 use Rattle.changes.specs.Shows.{Shows, shows-then, stored-then}
 use Rattle.changes.specs.Shape.{LaneAtEach, Shape}
 use Rattle.changes.specs.Queues.{Part, next, current, done, Queue, global, lane, Named, partOf, withPart, atPart, queueOf}
@@ -61,7 +61,7 @@ withQueues (oneLane i) q s = withLane s i (setQueues q)
 abbrev pub moved : Part → Part → ℕ → Queues → Queues
 moved p r g q = withGeneration g (withPart r (λ xs. []) (withPart p (λ xs. xs ++ partOf q r) q))
 
-named-by : (z : Sizes) (o : Owner) (p : Part) → Known z o → Named z (queueBy o p)
+pub named-by : (z : Sizes) (o : Owner) (p : Part) → Known z o → Named z (queueBy o p)
 named-by z allLanes p h = tt
 named-by z (oneLane i) p h = h
 

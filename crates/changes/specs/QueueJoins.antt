@@ -18,7 +18,7 @@ use Rattle.representation.specs.Fields.{Field, Inside, value}
 use Rattle.representation.specs.Writes.{put, writes-done}
 use Rattle.queues.specs.Queue.{endsSet, appendedRun, joined}
 use Rattle.queues.proofs.AllQueues.{join-links}
-use Rattle.changes.specs.Lists.{update-commutes}
+use Rattle.laws.specs.Updates.{update-commutes}
 use Rattle.changes.specs.Shows.{Shows, stored-shown}
 use Rattle.changes.specs.Shape.{Shape}
 use Rattle.changes.specs.Puts.{linked, put-over}

@@ -13,7 +13,7 @@ use Rattle.model.specs.Rules.{withEngine}
 use Rattle.model.specs.Memory.{allQueues, queuesOf, laneQueues}
 use Rattle.laws.specs.Lists.{length-update, getD-update-other}
 use Rattle.laws.specs.Counts.{count-concat-getD, count-concat-update}
-use Rattle.changes.specs.Lists.{update-same}
+use Rattle.laws.specs.Updates.{update-same}
 use Rattle.changes.specs.Shape.{LaneAtEach, Shape, chained, queued}
 
 -- which of the three queues of an owner

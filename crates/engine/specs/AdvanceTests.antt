@@ -16,9 +16,9 @@ use Rattle.laws.specs.Tests.{not-not}
 use Rattle.representation.specs.Fields.{end, lane}
 use Rattle.changes.specs.Shows.{Shows}
 use Rattle.changes.specs.Shape.{Shape}
-use Rattle.changes.specs.Queues.{Part, next, current, done, Named, partOf, queueOf, endsAt}
+use Rattle.changes.specs.Queues.{Part, next, current, done, partOf, queueOf, endsAt}
 use Rattle.changes.specs.QueueChanges.{empty-shown}
-use Rattle.changes.specs.Owners.{Owner, allLanes, oneLane, Known, queueBy, queuesBy, generationBy, joinedWords}
+use Rattle.changes.specs.Owners.{named-by, Owner, allLanes, oneLane, Known, queueBy, queuesBy, generationBy, joinedWords}
 use Rattle.engine.specs.Period.{requestedWords}
 use Rattle.engine.specs.PeriodLaws.{current-shown, mask-shown, mask-runs}
 use Rattle.engine.specs.Advance.{targetWord, settledWords, batchedWords, begunWords}
@@ -56,10 +56,6 @@ begun-tests z m allLanes = refl
 begun-tests z m (oneLane i) = refl
 
 -- ---- what the tests read
-
-named-by : (z : Sizes) (o : Owner) (p : Part) → Known z o → Named z (queueBy o p)
-named-by z allLanes p h = tt
-named-by z (oneLane i) p h = h
 
 part-by : (s : State) (o : Owner) (p : Part) → queueOf s (queueBy o p) ≡ partOf (queuesBy s o) p
 part-by s allLanes p = refl

@@ -6,14 +6,14 @@ use mathlib.Core.Path.{_≡_, refl, ap, ap₂, sym, _∙_}
 use mathlib.Core.Logic.{_≢_}
 use mathlib.Core.List.{List, [], _∷_, _++_, map}
 use native.Mathlib.Omega.{arith}
-use lib.ListN.{length, getD, set, length-map, List·getD-map}
+use lib.ListN.{getD, set, length-map, List·getD-map}
 use lib.Seq.{getD-set-same, getD-set-other}
 use lib.Dec.{eqb}
 use Rattle.model.specs.Word.{up, later}
-use Rattle.model.specs.Lists.{any, concat, concatMap, count, from}
+use Rattle.model.specs.Lists.{concat, concatMap, count, from}
 use Rattle.model.specs.Lists.{mask as maskOf}
 use Rattle.model.specs.State.{Sizes, laneCount, isRunning, isHeld, Lane, Engine, State}
-use Rattle.model.specs.Layout.{currentGenerationAt, largestGenerationAt, cabinetMaskAt, headsAt, freeAt, masksAt, laneAddress, slotAddress, total}
+use Rattle.model.specs.Layout.{currentGenerationAt, largestGenerationAt, cabinetMaskAt, headsAt, freeAt, masksAt, laneAddress, slotAddress}
 use Rattle.model.specs.Engine.{freshLane, laneAt, withCurrent, withLargest, withLanes, isPending, runs, awaiting, started, ended, requested}
 use Rattle.model.specs.Rules.{withEngine}
 use Rattle.model.specs.Memory.{at, flag, contents, flags, laneWords, laneQueues, queuesOf, pendingAt, laneMask, cabinetMask, isNotZero}
@@ -22,7 +22,7 @@ use Rattle.laws.specs.Tests.{not-not, same, other, decide}
 use Rattle.laws.specs.Lists.{getD-map, any-map, map-from-alike, map-map-from, map-from-getD}
 use Rattle.laws.specs.Masks.{isTrue, some, flag-mask, mask-zero}
 use Rattle.laws.specs.Levels.{concat-rows, upper, some-concat}
-use Rattle.representation.specs.Fields.{Field, top, head, end, mask, lane, slot, Inside, address, value}
+use Rattle.representation.specs.Fields.{top, head, end, mask, lane, slot, value}
 use Rattle.representation.specs.Writes.{Image, by-fields}
 use Rattle.changes.specs.Shows.{Shows, stored-shown, shows-then, stored-then}
 use Rattle.changes.specs.Shape.{LaneAtEach, Shape}

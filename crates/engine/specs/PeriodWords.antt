@@ -1,6 +1,6 @@
 -- Laws of the words of Period: what the lane masks leave, and one cabinet more. Assumes nothing.
 use Prim.Native.Nat.{ℕ, zero, suc, _+_, _*_, _^_, _<_, _≤_}
-use mathlib.Core.Bool.{Bool, true, false, not, cond}
+use mathlib.Core.Bool.{Bool, true, false, cond}
 use mathlib.Core.Path.{_≡_, refl, ap, ap₂, sym, _∙_}
 use mathlib.Core.List.{List, map}
 use native.Mathlib.Omega.{arith}
@@ -9,7 +9,6 @@ use lib.ListN.{length, set, take, drop, length-set}
 use lib.Seq.{getD-set-same, getD-set-other}
 use lib.Bits.{bitOr}
 use lib.Pow.{pow-mono}
-use lib.Dec.{eqb}
 use borrow.Author.Tests.{eq-eqb, ne-eqb}
 use native.Mathlib.Numerals.{add-one}
 use Rattle.model.specs.Word.{up, later}
@@ -23,7 +22,7 @@ use Rattle.masks.specs.Bits.{withBit}
 use Rattle.masks.proofs.BitLaws.{or-withBit}
 use Rattle.lanes.specs.Record.{onlineBit}
 use Rattle.lanes.specs.Cabinet.{placeAt, cabinetAt, onlineAt}
-use Rattle.lanes.specs.Lists.{getD-part}
+use Rattle.laws.specs.Stores.{getD-part}
 use Rattle.engine.specs.Period.{Lent, CabinetLent, onlineIn, onlineWord, someOnline, masksSet, waitingFor, startedWords, Awaited, endedWords, raisedWords, requestedWords}
 
 -- cabinet c's row ends within the rows

@@ -6,32 +6,32 @@ use mathlib.Core.Logic.{_≢_}
 use mathlib.Core.List.{List, [], _∷_, _++_, map}
 use native.Mathlib.Omega.{arith}
 use native.Mathlib.Decide.{decLt}
-use lib.ListN.{length, getD, set, length-set}
+use lib.ListN.{getD, set, length-set}
 use lib.Seq.{sets, set-getD, getD-set-same, getD-set-other}
 use lib.Dec.{eqb}
 use borrow.Author.Tests.{eq-eqb, ne-eqb, eqb-true}
 use Rattle.model.specs.Lists.{update, concat, concatMap, count, from}
 use Rattle.model.specs.Lists.{mask as maskOf}
 use Rattle.model.specs.State.{Sizes, laneCount, unheld, Lane, Engine, State}
-use Rattle.model.specs.Layout.{cabinetMaskAt, headsAt, freeAt, masksAt, snapshotAt, laneAddress, slotAddress, total}
+use Rattle.model.specs.Layout.{cabinetMaskAt, headsAt, freeAt, masksAt, snapshotAt, laneAddress, slotAddress}
 use Rattle.model.specs.Engine.{freshLane, laneAt, setPending, withLanes, atLane, runs, ended, released}
 use Rattle.model.specs.Rules.{withEngine, withLane}
-use Rattle.model.specs.Memory.{at, flag, flags, snapshotCount, laneWords, laneQueues, queuesOf, pendingAt, laneMask, laneMasks, cabinetMask, isNotZero}
+use Rattle.model.specs.Memory.{at, flag, flags, snapshotCount, laneWords, laneQueues, queuesOf, pendingAt, laneMask, cabinetMask, isNotZero}
 use Rattle.model.specs.Calls.{stored}
 use Rattle.laws.specs.Tests.{clash, same, other, decide}
 use Rattle.laws.specs.Lists.{getD-update, getD-update-other, getD-update-same, update-update, length-update, map-from-alike, map-map-from}
 use Rattle.laws.specs.Masks.{flag-zero, flag-mask-from}
 use Rattle.masks.specs.Bits.{width, withoutBit}
 use Rattle.masks.proofs.BitLaws.{withoutBit-from}
-use Rattle.representation.specs.Fields.{Field, top, head, end, mask, lane, slot, Inside, address, value}
+use Rattle.representation.specs.Fields.{top, head, end, mask, lane, slot, value}
 use Rattle.representation.specs.Writes.{Image, by-fields}
-use Rattle.changes.specs.Lists.{update-same}
+use Rattle.laws.specs.Updates.{update-same}
 use Rattle.changes.specs.Shows.{Shows, stored-shown, shows-then, stored-then}
 use Rattle.changes.specs.Shape.{LaneAtEach, Shape}
 use Rattle.changes.specs.Engines.{shape-engine, withPending, maskedValue, value-withPending}
-use Rattle.changes.specs.LaneWords.{lane-snapshot, snapshotWords}
+use Rattle.changes.specs.LaneWords.{lane-snapshot}
 use Rattle.lanes.specs.declared.LaneRecord.{LaneRecord}
-use Rattle.lanes.specs.Record.{recordAt, recordOf, heldBit, withFlag, droppedRecord}
+use Rattle.lanes.specs.Record.{recordAt, heldBit, withFlag, droppedRecord}
 use Rattle.lanes.specs.RecordLaws.{recordOf-dropped}
 use Rattle.lanes.specs.Cabinet.{droppedAt}
 use Rattle.lanes.specs.CabinetLaws.{cabinetAt-lane}

@@ -15,7 +15,7 @@ use Rattle.model.specs.Layout.{kinds, countLimit, quiescentAt, snapshotAt, lane
 use Rattle.model.specs.Memory.{at, flag, readCounts}
 use Rattle.laws.specs.Lists.{length-update}
 use Rattle.laws.specs.Masks.{shl-bit, mask-from-suc}
-use Rattle.lanes.specs.Lists.{set-sets, sets-sets, update-sets, getD-part, part-update, part-set-sets}
+use Rattle.laws.specs.Stores.{set-sets, sets-sets, update-sets, getD-part, part-update, part-set-sets}
 use Rattle.lanes.specs.Record.{recordAt, recordWords, recordStored, heldBit, withFlag, countedRecord, sampledRecord, droppedRecord}
 use Rattle.lanes.specs.RecordLaws.{recordStored-recordAt, recordAt-recordStored}
 use Rattle.lanes.specs.Cabinet.{placeAt, cabinetAt, countedAt, sampledAt, droppedAt}

@@ -9,3 +9,6 @@ pub mod Generations
 pub mod Masks
 pub mod Levels
 pub mod Areas
+pub mod Updates
+pub mod Stores
+pub mod Loops

@@ -2,8 +2,7 @@
 // lowest of them. Generations and quiescent counts, which wrap.
 ghost use mathlib.Core.Path.{_≡_};
 ghost use Prim.Native.Nat.{_<_};
-ghost use Rattle.model.specs.Word.{upTo, up as Word·up, down as Word·down, later as Word·later};
-ghost use Rattle.model.specs.Layout.{countLimit};
+ghost use Rattle.model.specs.Word.{up as Word·up, down as Word·down, later as Word·later};
 ghost use Rattle.model.specs.Memory.{flag};
 ghost use Rattle.laws.specs.Masks.{trues, firstTrue};
 ghost use Rattle.masks.specs.Bits.{width, bits, withBit, withoutBit};
@@ -62,13 +61,6 @@ pub fn down(g: u32) -> u32
     ensures { λ r. ⌜ r ≡ Word·down g ⌝ }
 {
     std::num::wrapping_sub_u32(g, 1)
-}
-
-// The quiescent count after c.
-pub fn count_up(c: u32) -> u32
-    ensures { λ r. ⌜ r ≡ upTo countLimit c ⌝ }
-{
-    std::num::wrapping_add_u32(c, 1)
 }
 
 // Whether generation a is later than b.

@@ -2,7 +2,7 @@
 use Prim.Native.Nat.{ℕ}
 use mathlib.Core.Bool.{Bool, true, false, not, cond, _&&_}
 use mathlib.Core.List.{List, [], _∷_, _++_, map}
-use lib.ListN.{getD, replicate}
+use lib.ListN.{getD}
 use Rattle.model.specs.Word.{upTo, up, later}
 use Rattle.model.specs.Lists.{update, isEmpty, any, same}
 use Rattle.model.specs.State.{Lookup, idle, Snapshot, unheld, held, Queues, Lane, Engine, isHeld}

@@ -6,8 +6,8 @@ use lib.ListN.{length, getD}
 use lib.Dec.{leb, eqb}
 use Rattle.model.specs.Word.{wordLimit, none}
 use Rattle.model.specs.Lists.{first, last, from, concat, concatMap, successorIn, member, bit, mask}
-use Rattle.model.specs.State.{Sizes, laneCount, Lookup, idle, running, isRunning, Snapshot, unheld, held, isHeld, Queues, Lane, Engine, Product, Table, State}
-use Rattle.model.specs.Layout.{chainCount, version, cabinetsAt, placesAt, slotsAt, contentsLength, currentOffset, doneOffset, globalBody, currentGenerationAt, largestGenerationAt, headsAt, freeAt, globalQueuesAt, globalGenerationAt, globalLength, masksAt, quiescentAt, snapshotAt, generationAt, queuesAt, lookupAt, positionAt, laneLength, depositAt, materialAt, chainLinkAt, queueLinkAt, slotLength, lanesBody, laneAddress, slotsBody, slotAddress}
+use Rattle.model.specs.State.{Sizes, laneCount, Lookup, idle, running, isRunning, Snapshot, unheld, held, isHeld, Queues, Lane, Product, Table, State}
+use Rattle.model.specs.Layout.{chainCount, version, cabinetsAt, placesAt, slotsAt, currentOffset, doneOffset, globalBody, currentGenerationAt, largestGenerationAt, headsAt, freeAt, globalQueuesAt, globalGenerationAt, globalLength, masksAt, quiescentAt, snapshotAt, generationAt, queuesAt, lookupAt, laneLength, depositAt, materialAt, chainLinkAt, queueLinkAt, slotLength, lanesBody, laneAddress, slotsBody, slotAddress}
 use Rattle.model.specs.Engine.{laneAt}
 use Rattle.model.specs.Table.{product, productAt, linkOf}
 

@@ -1,15 +1,15 @@
 -- The lanes other than one, and what the test of cause 15 says.
-use Prim.Native.Nat.{ℕ, zero, suc, _+_, _≤_, _<_}
+use Prim.Native.Nat.{ℕ, _≤_, _<_}
 use mathlib.Core.Logic.{_≢_}
-use mathlib.Core.Path.{_≡_, refl, ap, sym, _∙_}
-use mathlib.Core.Bool.{Bool, true, false, not, _||_}
+use mathlib.Core.Path.{_≡_, ap, sym, _∙_}
+use mathlib.Core.Bool.{Bool, true, false, not}
 use mathlib.Core.List.{List, [], _∷_}
 use native.Mathlib.Omega.{arith}
-use lib.ListN.{length, getD, drop, drop-of-length-le}
-use Rattle.model.specs.Lists.{update, any}
+use lib.ListN.{length, getD}
+use Rattle.model.specs.Lists.{any}
 use Rattle.model.specs.State.{laneCount, Lane, State}
 use Rattle.model.specs.Engine.{freshLane, setOnline, atLane}
-use Rattle.model.specs.Rules.{begin, off, isOnline, firstOf, sectionOpen, onlyOnline, causes, refusal, laneOf}
+use Rattle.model.specs.Rules.{begin, off, isOnline, firstOf, onlyOnline, causes, refusal, laneOf}
 use Rattle.model.specs.Memory.{sizes, state}
 use Rattle.laws.specs.Lists.{getD-update-same, getD-update-other, length-update}
 use Rattle.representation.specs.Memories.{Sound}
@@ -20,28 +20,6 @@ use Rattle.access.specs.Lanes.{LaneIn}
 -- the lanes, as if lane i were off
 abbrev pub others : State → ℕ → List Lane
 others s i = atLane i (setOnline false) (s .engine) .lanes
-
--- ---- a list, element by element
-
-module _ {A : Type 0} (p : A → Bool) (d : A) where
-  any-from : (i : ℕ) (xs : List A) → i < length xs → any p (drop i xs) ≡ (p (getD xs i d) || any p (drop (suc i) xs))
-  unfolding any
-  any-from i [] h = absurd (omega arith)
-  any-from zero (x ∷ xs) h = refl
-  any-from (suc i) (x ∷ xs) h = any-from i xs (omega arith)
-
-  module _ (xs : List A) (i : ℕ) (inv : any p (drop i xs) ≡ any p xs) where
-    pub any-found : i < length xs → (b : Bool) → b ≡ p (getD xs i d) → b ≡ true → true ≡ any p xs
-    any-found h b e q = sym (sym inv ∙ any-from i xs h ∙ ap (λ (x : Bool). x || any p (drop (suc i) xs)) (sym e ∙ q))
-
-    pub any-next : i < length xs → (b : Bool) → b ≡ p (getD xs i d) → b ≡ false → any p (drop (i + 1) xs) ≡ any p xs
-    any-next h b e q =
-        let u : i + 1 ≡ suc i = omega arith in
-        ap (λ (j : ℕ). any p (drop j xs)) u ∙ sym (any-from i xs h ∙ ap (λ (x : Bool). x || any p (drop (suc i) xs)) (sym e ∙ q)) ∙ inv
-
-    pub any-none : (n : ℕ) → length xs ≡ n → n ≤ i → false ≡ any p xs
-    unfolding any
-    any-none n e h = sym (ap (any p) (drop-of-length-le xs {i = i} (omega arith))) ∙ inv
 
 -- ---- the other lanes
 

@@ -1,10 +1,9 @@
 -- The ways out of off and clock.
-use Prim.Native.Nat.{ℕ, _+_, _*_, _/_, _%_, _≤_, _<_}
+use Prim.Native.Nat.{ℕ, _/_, _%_, _≤_}
 use mathlib.Core.Path.{_≡_, refl, ap, sym, _∙_}
 use mathlib.Core.Bool.{cond}
 use mathlib.Core.List.{List, [], _∷_}
 use native.Mathlib.Omega.{arith}
-use lib.ListN.{length}
 use lib.Dec.{eqb}
 use Rattle.model.specs.Layout.{currentGenerationAt, largestGenerationAt, cabinetMaskAt, slotsBody}
 use Rattle.model.specs.State.{Sizes, State}

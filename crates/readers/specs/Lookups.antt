@@ -5,23 +5,21 @@ use mathlib.Core.Bool.{Bool, true, false, not}
 use mathlib.Core.List.{List, [], _∷_}
 use native.Mathlib.Omega.{arith}
 use lib.ListN.{set}
-use lib.Dec.{ltb}
 use borrow.Author.Tests.{lt-ltb, le-ltb}
 use Rattle.model.specs.Lists.{first}
-use Rattle.model.specs.State.{laneCount, Lookup, idle, running, isRunning, State}
-use Rattle.model.specs.Layout.{maxCode, flagsAt, lookupAt, positionAt, headsAt, laneAddress, slotsBody}
-use Rattle.model.specs.Table.{chainNumber, chainOf}
+use Rattle.model.specs.State.{Lookup, idle, running, isRunning, State}
+use Rattle.model.specs.Layout.{maxCode, flagsAt, lookupAt, positionAt, laneAddress, slotsBody}
+use Rattle.model.specs.Table.{chainOf}
 use Rattle.model.specs.Engine.{setLookup}
-use Rattle.model.specs.Rules.{end, start, step, zeros, firstOf, ofLane, outOfRange, wrongCode, noLookup, causes, refusal, laneOf, outcome, result, performed}
+use Rattle.model.specs.Rules.{end, start, step, zeros, firstOf, ofLane, outOfRange, wrongCode, noLookup, causes, refusal, laneOf, outcome, result}
 use Rattle.model.specs.Memory.{at, wide, wholeOf, low, high, flags, lookupCode, lookupPosition, laneWords, sizes, state}
-use Rattle.model.specs.Calls.{on-state, stored}
+use Rattle.model.specs.Calls.{on-state}
 use Rattle.masks.specs.Bits.{withBit}
 use Rattle.representation.specs.Passed.{clear, within}
 use Rattle.representation.specs.WellFormed.{LookupFits}
 use Rattle.representation.specs.Memories.{Sound}
 use Rattle.chains.specs.Outcome.{outcomeAt}
 use Rattle.changes.specs.Shape.{wellFormed-shape}
-use Rattle.changes.specs.ChainChanges.{head-shown}
 use Rattle.changes.specs.Find.{outcome-shown}
 use Rattle.changes.specs.Lanes.{storedFrom}
 use Rattle.changes.specs.LaneWords.{lookupWords}
@@ -31,7 +29,7 @@ use Rattle.access.specs.Contract.{five, Does}
 use Rattle.access.specs.Ways.{performs, shown, wellFormed}
 use Rattle.access.specs.Refusals.{first-of-some, first-of-rest, applies, lacks}
 use Rattle.access.specs.Flags.{lookupBit, word-shown, flags-shown, flags-running}
-use Rattle.access.specs.Lanes.{LaneIn, lane-of, lane-refused, lane-rest}
+use Rattle.access.specs.Lanes.{LaneIn}
 
 -- flags f, code c and position p in the record that begins at a; all other words stay
 abbrev pub lookupStored : List ℕ → ℕ → ℕ → ℕ → ℕ → List ℕ

@@ -2,13 +2,12 @@
 use Prim.Native.Nat.{ℕ, suc, _+_, _*_, _≤_, _<_}
 use native.Mathlib.Nat.{mul-le-mul-right, suc-mul}
 use mathlib.Core.Path.{_≡_, ap, ap₂, sym, subst, _∙_}
-use mathlib.Core.Bool.{true, false}
 use mathlib.Core.List.{List, [], _∷_}
 use native.Mathlib.Omega.{arith}
 use lib.ListN.{length}
 use borrow.Author.Tests.{le-leb, lt-leb, leb-false}
 use Rattle.model.specs.Layout.{kinds, laneLength, lanesBody, laneAddress}
-use Rattle.model.specs.State.{Sizes, State}
+use Rattle.model.specs.State.{State}
 use Rattle.model.specs.Rules.{begin, pass, zeros, firstOf, sectionOpen, outOfRange, wrongKind, causes, refusal, result}
 use Rattle.model.specs.Memory.{sizes, state}
 use Rattle.model.specs.Calls.{on-state}

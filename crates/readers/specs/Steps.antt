@@ -1,18 +1,18 @@
 -- The ways out of step.
 use Prim.Native.Nat.{ℕ, _+_, _≤_, _<_}
 use mathlib.Core.Path.{_≡_, refl, ap, sym, subst, _∙_}
-use mathlib.Core.Logic.{_⊎_, inl, inr}
-use mathlib.Core.Bool.{Bool, true, false, not}
-use mathlib.Core.List.{List, [], _∷_}
+use mathlib.Core.Logic.{inl, inr}
+use mathlib.Core.Bool.{Bool, true, false}
+use mathlib.Core.List.{List}
 use native.Mathlib.Omega.{arith}
 use lib.ListN.{set, getD}
 use borrow.Author.Tests.{eq-eqb, not-false}
 use Rattle.model.specs.Word.{none}
-use Rattle.model.specs.State.{Lookup, idle, running, isRunning, State, Table}
+use Rattle.model.specs.State.{Lookup, idle, running, isRunning, Table}
 use Rattle.model.specs.Layout.{positionAt, laneAddress, slotsBody}
 use Rattle.model.specs.Table.{linkOf}
 use Rattle.model.specs.Engine.{setLookup}
-use Rattle.model.specs.Rules.{Answer as Reply, step, causes, refusal, laneOf, Outcome, going, found, absent, outcome, continued, outcomeAnswer, result, performed}
+use Rattle.model.specs.Rules.{Answer as Reply, step, causes, refusal, laneOf, Outcome, going, found, absent, outcome, continued, outcomeAnswer, result}
 use Rattle.model.specs.Memory.{at, flags, lookupCode, lookupPosition, sizes, state}
 use Rattle.model.specs.Calls.{on-state}
 use Rattle.masks.specs.Bits.{withoutBit}

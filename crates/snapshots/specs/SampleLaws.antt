@@ -15,7 +15,7 @@ use Rattle.model.specs.Calls.{stored}
 use Rattle.laws.specs.Tests.{and-true}
 use Rattle.laws.specs.Masks.{flag-mask-from}
 use Rattle.representation.specs.Fields.{mask, lane}
-use Rattle.changes.specs.Lists.{update-same, update-alike}
+use Rattle.laws.specs.Updates.{update-same, update-alike}
 use Rattle.changes.specs.Shows.{Shows, stored-shown}
 use Rattle.changes.specs.Shape.{LaneAtEach, Shape}
 use Rattle.changes.specs.Lanes.{shape-lane}

@@ -2,28 +2,13 @@
 use Prim.Native.Nat.{ℕ, _≤_, _<_}
 use mathlib.Core.Path.{_≡_, ap, sym, _∙_}
 use mathlib.Core.Bool.{Bool, true, false, not}
-use mathlib.Core.List.{List, [], _∷_, _++_}
+use mathlib.Core.List.{List, [], _∷_}
 use native.Mathlib.Omega.{arith}
 use Rattle.model.specs.Lists.{isEmpty}
 use Rattle.model.specs.State.{State}
 use Rattle.model.specs.Table.{present}
-use Rattle.model.specs.Rules.{add, replace, Cause, cause, firstOf, wrongProduct, ofLane, outOfRange, codePresent, codeMissing, noFreeSlot, causes, refusal}
-use Rattle.representation.specs.Passed.{Numbered}
-use Rattle.access.specs.Refusals.{first-of-some, first-of-rest, applies, lacks}
-
--- ---- one cause more, where those before it do not refuse
-
-module _ (cs : List Cause) (numbered : Numbered cs) (x : ℕ) (e : x ≡ firstOf cs) (h : x ≤ 0) (n : ℕ) (b : Bool) (ds : List Cause) where
-  pub more-applies : b ≡ true → n ≡ firstOf (cs ++ (cause n b ∷ ds))
-  more-applies q = applies n b ds q ∙ sym (first-of-rest cs (cause n b ∷ ds) x numbered e h)
-
-  pub more-lacks : b ≡ false → firstOf ds ≡ firstOf (cs ++ (cause n b ∷ ds))
-  more-lacks q = sym (first-of-rest cs (cause n b ∷ ds) x numbered e h ∙ lacks n b ds q)
-
--- and none after it
-pub more-passes : (cs : List Cause) → Numbered cs → (x : ℕ) → x ≡ firstOf cs → x ≤ 0 → (n : ℕ) (b : Bool) → b ≡ false → 0 ≡ firstOf (cs ++ (cause n b ∷ []))
-unfolding firstOf
-more-passes cs numbered x e h n b q = more-lacks cs numbered x e h n b [] q
+use Rattle.model.specs.Rules.{add, replace, Cause, firstOf, wrongProduct, ofLane, outOfRange, codePresent, codeMissing, noFreeSlot, causes, refusal}
+use Rattle.access.specs.Refusals.{first-of-some, applies, lacks, more-applies, more-lacks, more-passes}
 
 -- ---- causes 4, 5 and 11, the last by the test w
 

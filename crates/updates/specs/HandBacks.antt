@@ -19,12 +19,12 @@ use Rattle.chains.specs.Chain.{recordAddress, cleared}
 use Rattle.changes.specs.Queues.{Queue, global, lane, done, Named, queueOf, endsAt}
 use Rattle.changes.specs.CallSteps.{reclaimedWords}
 use Rattle.changes.specs.Calls.{hand-back-lane-stored, hand-back-global-stored}
+use Rattle.access.specs.Refusals.{more-applies, more-passes}
 use Rattle.access.specs.declared.Answer.{Answer}
 use Rattle.access.specs.Contract.{five, Does}
 use Rattle.access.specs.Ways.{performs, shown, wellFormed, long}
 use Rattle.access.specs.Lanes.{LaneIn, lane-refused, lane-in}
 use Rattle.updates.specs.Stores.{FirstIn, handedFrom, Reclaimed}
-use Rattle.updates.specs.Causes.{more-applies, more-passes}
 use Rattle.updates.specs.Shown.{queue-shown, queue-first, ends-inside, first-in}
 
 -- ---- the queue that it takes from

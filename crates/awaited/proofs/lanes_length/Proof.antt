@@ -8,7 +8,7 @@ use Rattle.model.specs.State.{laneCount}
 use Rattle.model.specs.Layout.{maxSlots, queuesAt, laneAddress}
 use Rattle.model.specs.Memory.{sizes}
 use Rattle.access.specs.Ways.{inRange}
-use Rattle.awaited.specs.Sums.{Summed, summed-start, summed-on, summed-done}
+use Rattle.laws.specs.Loops.{Summed, summed-start, summed-on, summed-done}
 use Rattle.awaited.specs.Lengths.{ownerLength, laneLengths}
 use Rattle.awaited.specs.Owners.{lane-at, owner-few, lanes-shown}
 use borrow.Author.Needs.{needs}

@@ -7,7 +7,7 @@ use Rattle.model.specs.Memory.{sizes}
 use denote.Ref.{now}
 use Rattle.masks.specs.Bits.{width}
 use Rattle.access.specs.Ways.{inRange, long}
-use Rattle.awaited.specs.Sums.{Summed, summed-start, summed-on, summed-done}
+use Rattle.laws.specs.Loops.{Summed, summed-start, summed-on, summed-done}
 use Rattle.awaited.specs.Pending.{pendingOf, pending-few, count-shown}
 use borrow.Author.Needs.{needs}
 use Rattle.awaited.proofs.pending_count.Statement.{statement}

@@ -3,7 +3,7 @@ use Prim.Native.Nat.{ℕ}
 use mathlib.Core.Path.{ap, sym, _∙_}
 use lib.ListN.{set}
 use borrow.Author.Needs.{needs}
-use Rattle.lanes.specs.Lists.{update-set}
+use Rattle.laws.specs.Updates.{update-set}
 use Rattle.lanes.proofs.count.Statement.{statement}
 use Rattle.lanes.proofs.count.Tie as tie
 
@@ -23,7 +23,7 @@ array-write-counts : tie.Need-array-write-counts
 array-write-counts c = search needs
 
 returns : tie.Need-returns
-returns c = ap (λ (v : ℕ). set (c .before .args .quiescent) (c .before .args .kind) v) (c .up .ensures) ∙ sym (update-set _ _ _ 0)
+returns c = ap (λ (v : ℕ). set (c .before .args .quiescent) (c .before .args .kind) v) (c .up .ensures) ∙ sym (update-set 0 _ _ _)
 
 pub count-spec : {M : Type 1} → statement M
 count-spec =

@@ -8,7 +8,8 @@ use Rattle.model.specs.Lists.{any}
 use Rattle.model.specs.Rules.{isOnline}
 use Rattle.model.specs.Engine.{freshLane}
 use Rattle.model.specs.Memory.{state}
-use Rattle.periods.specs.Others.{others, others-length, any-found, any-next, any-none}
+use Rattle.laws.specs.Loops.{any-found, any-next, any-none}
+use Rattle.periods.specs.Others.{others, others-length}
 use borrow.Author.Needs.{needs}
 use Rattle.periods.proofs.another_online.Statement.{statement}
 use Rattle.periods.proofs.another_online.Tie as tie

@@ -1,6 +1,4 @@
 -- `is_period` meets its contract. Assumes nothing.
-use mathlib.Core.Path.{ap, sym}
-use mathlib.Core.Bool.{Bool, cond}
 use borrow.Author.Tests.{eq-eqb, ne-eqb}
 use borrow.Author.Needs.{needs}
 use Rattle.periods.proofs.is_period.Statement.{statement}

@@ -1,5 +1,4 @@
 -- `go_on` meets its contract. Assumes nothing.
-use mathlib.Core.Path.{_∙_}
 use native.Mathlib.Omega.{arith}
 use Rattle.access.specs.Ways.{inRange, long}
 use Rattle.readers.specs.Steps.{position-by, moved-by}

@@ -1,5 +1,4 @@
 -- `goes_on` meets its contract. Assumes nothing.
-use mathlib.Core.Path.{sym, ap}
 use Rattle.chains.specs.Outcome.{outcomeOf}
 use Rattle.readers.specs.Steps.{isGoing}
 use borrow.Author.Needs.{needs}

@@ -1,9 +1,5 @@
 -- `outcome_answer` meets its contract: the five words, one by one. Assumes nothing.
 use mathlib.Core.Path.{ap}
-use lib.ListN.{getD}
-use Prim.Native.Nat.{ℕ}
-use mathlib.Core.List.{List}
-use Rattle.model.specs.Rules.{Answer}
 use Rattle.readers.specs.Steps.{answerOf}
 use borrow.Author.Needs.{needs}
 use Rattle.readers.proofs.outcome_answer.Statement.{statement}

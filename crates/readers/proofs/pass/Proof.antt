@@ -1,7 +1,6 @@
 -- `pass` meets its contract: a law for each way out. Assumes nothing.
 use mathlib.Core.Path.{_∙_}
 use native.Mathlib.Omega.{arith}
-use denote.Ref.{now}
 use Rattle.model.specs.Rules.{pass}
 use Rattle.access.specs.Ways.{refuses, inRange, long}
 use Rattle.access.specs.Lanes.{stands-at}

@@ -1,4 +1,4 @@
--- Laws of lists that the laws below ask for, beside those of the laws crate. Assumes nothing.
+-- Laws of lists: one element changed.
 use Prim.Native.Nat.{ℕ, zero, suc}
 use mathlib.Core.Path.{_≡_, refl, ap}
 use mathlib.Core.Logic.{_≢_}
@@ -21,6 +21,7 @@ module _ {A : Type 0} where
   update-alike d (x ∷ xs) zero f g e = ap (λ (y : A). y ∷ xs) e
   update-alike d (x ∷ xs) (suc i) f g e = ap (λ (r : List A). x ∷ r) (update-alike d xs i f g e)
 
+  -- a change is a store of the changed element
   pub update-set : (d : A) (xs : List A) (i : ℕ) (f : A → A) → update xs i f ≡ set xs i (f (getD xs i d))
   unfolding update
   update-set d [] i f = refl

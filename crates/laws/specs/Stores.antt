@@ -1,4 +1,4 @@
--- Laws of lists: a change as a store, runs of stores (the library's `sets`), and stores in a part. Assumes nothing.
+-- Laws of lists: runs of stores (the library's `sets`), and stores in a part.
 use Prim.Native.Nat.{ℕ, zero, suc, _+_, _<_, _≤_}
 use mathlib.Core.Path.{_≡_, refl, ap, ap₂, sym, _∙_}
 use mathlib.Core.List.{List, [], _∷_, _++_, map}
@@ -6,17 +6,9 @@ use native.Mathlib.Omega.{arith}
 use lib.ListN.{length, getD, set, take, drop, take-append-drop, length-set}
 use lib.Seq.{sets, set-getD, set-set, set-comm, take-set-le, drop-set-add, take-set-lt, drop-set-lt, getD-set-same, getD-set-other, getD-take, getD-drop}
 use Rattle.model.specs.Lists.{update, from}
+use Rattle.laws.specs.Updates.{update-set}
 
 module _ {A : Type 0} where
-  -- ---- a change
-
-  -- a change at n is a store of the changed element
-  pub update-set : (xs : List A) (n : ℕ) (f : A → A) (d : A) → update xs n f ≡ set xs n (f (getD xs n d))
-  unfolding update
-  update-set [] n f d = refl
-  update-set (x ∷ xs) zero f d = refl
-  update-set (x ∷ xs) (suc n) f d = ap (_∷_ x) (update-set xs n f d)
-
   -- ---- runs of stores
 
   -- a store below a run of stores
@@ -73,10 +65,10 @@ module _ {A : Type 0} where
   -- a change within a run of stores
   pub update-sets : (xs m : List A) (d : A) (a k : ℕ) (f : A → A) → a + length xs ≤ length m → k < length xs → update (sets m a xs) (a + k) f ≡ sets m a (update xs k f)
   update-sets xs m d a k f fits h =
-      update-set (sets m a xs) (a + k) f d
+      update-set d (sets m a xs) (a + k) f
       ∙ ap (λ (x : A). set (sets m a xs) (a + k) (f x)) (getD-sets xs m a k d fits h)
       ∙ set-sets xs m a k (f (getD xs k d)) h
-      ∙ ap (sets m a) (sym (update-set xs k f d))
+      ∙ ap (sets m a) (sym (update-set d xs k f))
 
   -- a run of stores reads back
   pub map-sets : (xs m : List A) (a : ℕ) (d : A) → a + length xs ≤ length m → map (λ (i : ℕ). getD (sets m a xs) i d) (from a (length xs)) ≡ xs
@@ -101,8 +93,8 @@ module _ {A : Type 0} where
   pub part-update : (m : List A) (d : A) (a k p : ℕ) (f : A → A) → p < k → take a m ++ (update (take k (drop a m)) p f ++ drop k (drop a m)) ≡ update m (a + p) f
   part-update m d a k p f h =
       ap (λ (l : List A). take a m ++ (l ++ drop k (drop a m)))
-      (update-set (take k (drop a m)) p f d ∙ ap (λ (x : A). set (take k (drop a m)) p (f x)) (getD-part m a k p d h))
-      ∙ part-set m a k p (f (getD m (a + p) d)) h ∙ sym (update-set m (a + p) f d)
+      (update-set d (take k (drop a m)) p f ∙ ap (λ (x : A). set (take k (drop a m)) p (f x)) (getD-part m a k p d h))
+      ∙ part-set m a k p (f (getD m (a + p) d)) h ∙ sym (update-set d m (a + p) f)
 
   -- the part of a list with a store in the part
   part-of-set : (m : List A) (a k p : ℕ) (x : A) → p < k → take k (drop a (set m (a + p) x)) ≡ set (take k (drop a m)) p x
@@ -126,32 +118,3 @@ module _ {A : Type 0} where
       ap₂ _++_ (sym (take-set-le a m (a + b) x (omega arith)))
       (ap₂ _++_ (ap (λ (l : List A). sets l p xs) (sym (part-of-set m a k b x hb))) (sym (rest-of-set m a k b x hb)))
       ∙ part-sets xs (set m (a + b) x) a k p h
-
--- ---- an offset, as successors: the form in which `sets` and `from` count
-
-pub plus-1 : (x : ℕ) → x + 1 ≡ suc x
-plus-1 x = omega arith
-
-pub plus-2 : (x : ℕ) → x + 2 ≡ suc (suc x)
-plus-2 x = omega arith
-
-pub plus-3 : (x : ℕ) → x + 3 ≡ suc (suc (suc x))
-plus-3 x = omega arith
-
-pub plus-4 : (x : ℕ) → x + 4 ≡ suc (suc (suc (suc x)))
-plus-4 x = omega arith
-
-pub plus-5 : (x : ℕ) → x + 5 ≡ suc (suc (suc (suc (suc x))))
-plus-5 x = omega arith
-
-pub plus-9 : (x : ℕ) → x + 9 ≡ suc (suc (suc (suc (suc (suc (suc (suc (suc x))))))))
-plus-9 x = omega arith
-
-pub plus-10 : (x : ℕ) → x + 10 ≡ suc (suc (suc (suc (suc (suc (suc (suc (suc (suc x)))))))))
-plus-10 x = omega arith
-
-pub plus-16 : (x : ℕ) → x + 16 ≡ suc (suc (suc (suc (suc (suc (suc (suc (suc (suc (suc (suc (suc (suc (suc (suc x)))))))))))))))
-plus-16 x = omega arith
-
-pub plus-18 : (x : ℕ) → x + 18 ≡ suc (suc (suc (suc (suc (suc (suc (suc (suc (suc (suc (suc (suc (suc (suc (suc (suc (suc x)))))))))))))))))
-plus-18 x = omega arith

@@ -1,10 +1,15 @@
--- Sums over the numbers below n, added up one by one.
+-- What a loop knows of the elements that it has met: their sum, and whether one of them has a property.
 use Prim.Native.Nat.{ℕ, zero, suc, _+_, _*_, _-_, _≤_, _<_}
-use mathlib.Core.Path.{_≡_, ap, sym, _∙_}
+use mathlib.Core.Path.{_≡_, refl, ap, sym, _∙_}
 use native.Mathlib.Omega.{arith}
-use Rattle.model.specs.Lists.{from}
+use mathlib.Core.Bool.{Bool, true, false, _||_}
+use mathlib.Core.List.{List, [], _∷_}
+use lib.ListN.{length, getD, drop, drop-of-length-le}
+use Rattle.model.specs.Lists.{from, any}
 use Rattle.laws.specs.Lists.{map-from-alike}
 use Rattle.laws.specs.Sums.{sum, sum-of-map}
+
+-- ---- sums
 
 -- the sum of f over the numbers below n
 abbrev pub sumBelow : (ℕ → ℕ) → ℕ → ℕ
@@ -55,3 +60,25 @@ sumBelow-few f b n h = go 0 n (λ k a c. h k (omega arith))
     go : (i d : ℕ) → ((k : ℕ) → i ≤ k → k < i + d → f k ≤ b) → sum f (from i d) ≤ b * d
     go i zero g = omega arith
     go i (suc d) g = omega (arith, g i (omega arith) (omega arith), go (suc i) d (λ k a c. g k (omega arith) (omega arith)))
+
+-- ---- whether an element has p: those before i have not
+
+module _ {A : Type 0} (p : A → Bool) (d : A) where
+  any-from : (i : ℕ) (xs : List A) → i < length xs → any p (drop i xs) ≡ (p (getD xs i d) || any p (drop (suc i) xs))
+  unfolding any
+  any-from i [] h = absurd (omega arith)
+  any-from zero (x ∷ xs) h = refl
+  any-from (suc i) (x ∷ xs) h = any-from i xs (omega arith)
+
+  module _ (xs : List A) (i : ℕ) (inv : any p (drop i xs) ≡ any p xs) where
+    pub any-found : i < length xs → (b : Bool) → b ≡ p (getD xs i d) → b ≡ true → true ≡ any p xs
+    any-found h b e q = sym (sym inv ∙ any-from i xs h ∙ ap (λ (x : Bool). x || any p (drop (suc i) xs)) (sym e ∙ q))
+
+    pub any-next : i < length xs → (b : Bool) → b ≡ p (getD xs i d) → b ≡ false → any p (drop (i + 1) xs) ≡ any p xs
+    any-next h b e q =
+        let u : i + 1 ≡ suc i = omega arith in
+        ap (λ (j : ℕ). any p (drop j xs)) u ∙ sym (any-from i xs h ∙ ap (λ (x : Bool). x || any p (drop (suc i) xs)) (sym e ∙ q)) ∙ inv
+
+    pub any-none : (n : ℕ) → length xs ≡ n → n ≤ i → false ≡ any p xs
+    unfolding any
+    any-none n e h = sym (ap (any p) (drop-of-length-le xs {i = i} (omega arith))) ∙ inv

@@ -1,0 +1,1 @@
+// No code: specs/ says of the functions that run what the three demands ask for.
