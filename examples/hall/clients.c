@@ -1,0 +1,158 @@
+/*
+ * clients.c - a lane and the office of the hall, each a process of its own. They know
+ * nothing of the memory: they ask for calls and get five words back. No one holds a lock.
+ * Between two steps of a lane's lookup any number of other calls may come.
+ *
+ * What a lane owes to the others: it reports a quiescent state (pass) outside its sections
+ * and makes a clock now and then. A lane that stops doing so while it is online keeps
+ * retired slots from being reclaimed; before a longer rest it goes off.
+ */
+#define _DEFAULT_SOURCE
+#include "hall.h"
+
+#include <inttypes.h>
+#include <stdio.h>
+#include <stdlib.h>
+#include <string.h>
+#include <unistd.h>
+
+/* ---- asking */
+
+static uint32_t draw(struct client *client, uint32_t below)
+{
+	client->random = client->random * UINT64_C(6364136223846793005) +
+		UINT64_C(1442695040888963407);
+	return (uint32_t)((client->random >> 33) % below);
+}
+
+/* Asks for a call; returns the status. */
+static uint32_t ask(struct client *client, enum call_name name, uint64_t a, uint64_t b,
+		uint64_t c, uint64_t d)
+{
+	struct request request;
+	struct response response;
+
+	memset(&request, 0, sizeof request); /* padding too: these bytes leave the process */
+	request.client = client->number;
+	request.call.name = name;
+	request.call.argument[0] = a;
+	request.call.argument[1] = b;
+	request.call.argument[2] = c;
+	request.call.argument[3] = d;
+	if (write(client->requests, &request, sizeof request) != (ssize_t)sizeof request ||
+			read(client->responses, &response, sizeof response) !=
+				(ssize_t)sizeof response) {
+		fprintf(stderr, "hall: client %" PRIu32 " hears nothing\n", client->number);
+		exit(1);
+	}
+	memcpy(client->answer, response.answer, sizeof client->answer);
+	if (response.closing)
+		client->closing = true;
+	return client->answer[0];
+}
+
+/* A call that this client has no reason to see refused. */
+static void must(struct client *client, enum call_name name, uint64_t a, uint64_t b)
+{
+	uint32_t status = ask(client, name, a, b, 0, 0);
+
+	if (status != PT_OK) {
+		fprintf(stderr, "hall: client %" PRIu32 ": %s is refused with %" PRIu32 "\n",
+			client->number, call_forms[name].command, status);
+		exit(1);
+	}
+}
+
+/* ---- a lane */
+
+static void look_up(struct client *lane, uint64_t code)
+{
+	must(lane, CALL_START, lane->number, code);
+	do
+		must(lane, CALL_STEP, lane->number, 0);
+	while (lane->answer[1] == PT_GOING);
+}
+
+/* One customer: some bottles in one section. */
+static void serve_customer(struct client *lane)
+{
+	uint32_t bottles = 1 + draw(lane, 4);
+
+	must(lane, CALL_BEGIN, lane->number, 0);
+	while (bottles-- > 0) {
+		look_up(lane, product_code(draw(lane, PRODUCTS + PRODUCTS / 10)));
+		if (draw(lane, 4) == 0)
+			must(lane, CALL_CLOCK, lane->number, 0); /* a clock may come at any time */
+	}
+	must(lane, CALL_END, lane->number, 0);
+	must(lane, CALL_PASS, lane->number, PT_BOTTLE_DROPPED);
+}
+
+/* Reclaims what this lane's done queue has, or else the global one. */
+static void reclaim(struct client *lane)
+{
+	while (ask(lane, CALL_HAND_BACK, lane->number, 0, 0, 0) == PT_OK)
+		;
+	if (lane->answer[0] != PT_NOTHING_DONE) {
+		fprintf(stderr, "hall: hand-back is refused with %" PRIu32 "\n", lane->answer[0]);
+		exit(1);
+	}
+}
+
+/* A rest: off first, so that no grace period waits for the lane. */
+static void rest(struct client *lane)
+{
+	if (ask(lane, CALL_OFF, lane->number, 0, 0, 0) == PT_LAST_LANE)
+		return;
+	usleep(1000 + draw(lane, 5000));
+	must(lane, CALL_ON, lane->number, 0);
+}
+
+void lane_serve(struct client *lane)
+{
+	while (!lane->closing) {
+		serve_customer(lane);
+		must(lane, CALL_CLOCK, lane->number, 0);
+		if (draw(lane, 8) == 0)
+			reclaim(lane);
+		if (draw(lane, 40) == 0)
+			rest(lane);
+		if (draw(lane, 10) == 0)
+			must(lane, CALL_PASS, lane->number, PT_DOOR_OPEN);
+	}
+}
+
+/* ---- the office */
+
+/* Its changes are made by a lane that is online; another one where this one is not. */
+static uint32_t change(struct client *office, uint64_t code)
+{
+	static const enum call_name names[] = { CALL_ADD, CALL_ADD, CALL_REPLACE, CALL_DELETE };
+	enum call_name name = names[draw(office, 4)];
+	uint32_t deposit = name == CALL_DELETE ? 0 : draw(office, 100);
+	uint32_t material = name == CALL_DELETE ? 0 : draw(office, PT_MAX_MATERIAL + 1);
+	uint32_t status;
+
+	do
+		status = ask(office, name, draw(office, LANES), code, deposit, material);
+	while (status == PT_OFFLINE);
+	return status;
+}
+
+void office_serve(struct client *office)
+{
+	while (!office->closing)
+		switch (change(office, product_code(draw(office, PRODUCTS)))) {
+		case PT_OK:
+		case PT_CODE_PRESENT:
+		case PT_CODE_MISSING:
+			break;
+		case PT_NO_FREE_SLOT: /* the lanes reclaim; a look at what they wait for */
+			must(office, CALL_AWAITED, 0, 0);
+			break;
+		default:
+			fprintf(stderr, "hall: a change is refused with %" PRIu32 "\n",
+				office->answer[0]);
+			exit(1);
+		}
+}

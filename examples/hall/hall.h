@@ -1,0 +1,65 @@
+/*
+ * hall.h - what the programs of the hall share: the sizes, the products, and how a lane
+ * or the office asks the process that lends the memory for a call.
+ */
+#ifndef HALL_H
+#define HALL_H
+
+#include <stdbool.h>
+#include <stddef.h>
+#include <stdint.h>
+
+#include "calls.h" /* a call as a value */
+#include "product_table.h"
+
+enum {
+	CABINETS = 8,
+	LANES_OF_A_CABINET = 8,
+	LANES = CABINETS * LANES_OF_A_CABINET,
+	OFFICE = LANES, /* the office's number as a client */
+	CLIENTS,
+	SLOTS = 160,
+	PRODUCTS = 120
+};
+
+/* Codes of eight chains, so that a lookup takes several steps. */
+static inline uint64_t product_code(uint32_t product)
+{
+	return UINT64_C(4000000000000) + 8 * (uint64_t)product;
+}
+
+/* What a client sends. It is shorter than PIPE_BUF, so the pipe keeps it in one piece. */
+struct request {
+	uint32_t client;
+	struct call call;
+};
+
+/* What it gets back. */
+struct response {
+	uint32_t answer[PT_ANSWER_WORDS];
+	uint32_t closing; /* 1: the hall closes */
+};
+
+/* A client's side. */
+struct client {
+	uint32_t number;
+	int requests;  /* one pipe of all clients: its order is the order of the calls */
+	int responses; /* its own pipe */
+	uint64_t random;
+	bool closing;
+	uint32_t answer[PT_ANSWER_WORDS];
+};
+
+/* ---- clients.c: what a lane and the office do until the hall closes */
+
+void lane_serve(struct client *client);
+void office_serve(struct client *client);
+
+/* ---- history.c: the calls in their order, and the ledger's verdict on them */
+
+void history_note(const struct call *call, const uint32_t *answer);
+
+/* Prints what happened; returns whether there was no fault. */
+bool history_judge(void);
+
+#endif /* HALL_H */

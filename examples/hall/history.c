@@ -1,0 +1,112 @@
+/*
+ * history.c - the recorded calls of the hall, judged after it has closed: they are made
+ * once more on the C version, which must answer alike, and fed to the ledger of demand 3.
+ * Every lookup is explained by one instant between its start and its answer, what a lane
+ * found stood in its slot until the lane's section ended, and no slot was handed back
+ * before the sections that were open at its removal had ended.
+ *
+ * A lane maker needs nothing of this file.
+ */
+#include "hall.h"
+
+#include <inttypes.h>
+#include <stdio.h>
+#include <stdlib.h>
+#include <string.h>
+
+#include "ledger.h"
+#include "reference.h"
+
+struct event {
+	struct call call;
+	uint32_t answer[PT_ANSWER_WORDS];
+};
+
+static struct event *events;
+static size_t length, room;
+static struct ledger ledger;
+
+void history_note(const struct call *call, const uint32_t *answer)
+{
+	if (length == room) {
+		room = room == 0 ? 65536 : 2 * room;
+		events = realloc(events, room * sizeof *events);
+		if (events == NULL) {
+			fprintf(stderr, "hall: no memory for the history\n");
+			exit(1);
+		}
+	}
+	events[length].call = *call;
+	memcpy(events[length].answer, answer, sizeof events[length].answer);
+	length++;
+}
+
+/* What the history holds. */
+struct tally {
+	uint64_t accepted[CALLS], refused, lookups[3], periods;
+};
+
+static void tally_event(struct tally *tally, const struct event *event, uint32_t *generation)
+{
+	if (event->answer[0] != PT_OK) {
+		tally->refused++;
+		return;
+	}
+	tally->accepted[event->call.name]++;
+	if (event->call.name == CALL_STEP)
+		tally->lookups[event->answer[1]]++;
+	if (event->call.name == CALL_CLOCK) {
+		tally->periods += event->answer[1] - *generation;
+		*generation = event->answer[1];
+	}
+}
+
+/* The fault of one call, on the C version's memory, or NULL. */
+static const char *judge_event(uint32_t *memory, const struct event *event)
+{
+	uint32_t answer[PT_ANSWER_WORDS];
+	const char *fault;
+
+	call_make(&reference, memory, PT_WORDS(CABINETS, LANES_OF_A_CABINET, SLOTS), answer,
+		PT_ANSWER_WORDS, &event->call);
+	if (memcmp(answer, event->answer, sizeof answer) != 0)
+		return "the C version answers otherwise";
+	fault = ledger_feed(&ledger, &event->call, event->answer);
+	return fault != NULL ? fault : ledger_kept(&ledger, memory);
+}
+
+static void print_tally(const struct tally *tally)
+{
+	printf("hall: lookups %" PRIu64 " found, %" PRIu64 " absent, %" PRIu64
+		" steps on the way; grace periods %" PRIu64 "\nhall:",
+		tally->lookups[PT_FOUND], tally->lookups[PT_ABSENT], tally->lookups[PT_GOING],
+		tally->periods);
+	for (int name = 0; name < CALLS; name++)
+		printf(" %s %" PRIu64, call_forms[name].command, tally->accepted[name]);
+	printf(", refused %" PRIu64 "\n", tally->refused);
+}
+
+bool history_judge(void)
+{
+	static uint32_t memory[PT_WORDS(CABINETS, LANES_OF_A_CABINET, SLOTS)];
+	struct tally tally = { .refused = 0 };
+	uint32_t generation = 1;
+	const char *fault = NULL;
+
+	ledger_reset(&ledger);
+	for (size_t n = 0; n < length && fault == NULL; n++) {
+		fault = judge_event(memory, &events[n]);
+		tally_event(&tally, &events[n], &generation);
+		if (fault != NULL)
+			printf( "hall: FAULT in call %zu, %s of lane %" PRIu64 ": %s\n", n,
+				call_forms[events[n].call.name].command,
+				events[n].call.argument[0], fault);
+	}
+	print_tally(&tally);
+	if (fault == NULL)
+		printf("hall: %zu calls judged: one instant explains each lookup, finds were kept,\n"
+			"hall: no slot was handed back early, and the C version answers alike\n",
+			length);
+	free(events);
+	return fault == NULL;
+}

@@ -1,0 +1,547 @@
+/*
+ * exhaustive.c - every state that lists of calls reach on a tiny table, breadth first. A
+ * state is a memory with the ledger of demand 3 beside it: two lists that leave the same
+ * words but owe different things are two states. In each state every call of an alphabet
+ * is made on the library and checked: the C version answers alike and leaves the same
+ * words; a refusal left every word; an accepted call left a legal memory and the words
+ * past the total; the ledger finds no fault in the answer, nor in the slots that the open
+ * sections have found.
+ *
+ * The alphabet, of which each table below takes a part: one or two codes of one chain,
+ * one of them 0 as in free slots, added with deposit and material 1 and replaced with 2;
+ * quiescent states of some kinds; begin, start, step and end; clock, on, off, hand-back,
+ * awaited and set-up. The smallest tables also take calls that every state refuses.
+ *
+ * Why it ends. Generations and counts grow without bound, but the rules only compare them,
+ * and answer the generation. So memories that differ by a shift of all generations are one state, and
+ * so are those that differ by a shift of a lane's count and snapshot of one kind, or of
+ * the count alone where no snapshot is held; the search goes on from the one that has the
+ * generation and the snapshots named below. A count ahead of its snapshot is 1, 2 and so
+ * on ahead, which differ alike: 1 stands for all of them but the last, PT_NONE ahead, from
+ * which a pass brings the count round to its snapshot. Where a table says "around" that
+ * last one is reached at once, by "many passes"; elsewhere lists that long are left out.
+ * Nothing else is: on a table without a bound of levels the search covers lists of any
+ * length of its calls.
+ */
+#include <inttypes.h>
+#include <stdbool.h>
+#include <stdio.h>
+#include <stdlib.h>
+#include <string.h>
+
+#include "layout.h"
+#include "ledger.h"
+#include "reference.h"
+
+/* A table and its alphabet. */
+struct table_form {
+	uint32_t cabinets, lanes, slots, codes, kinds;
+	uint32_t changing, reading; /* masks of the lanes that change records, and that read */
+	uint32_t around;	    /* 1: counts come round to their snapshots, as above */
+	uint32_t generation;	    /* the current one of every state */
+	uint32_t count;		    /* every snapshot, and every count without one */
+	uint32_t levels;	    /* calls of the longest lists; 0: no bound */
+};
+
+/* In the order of the fields above. */
+static const struct table_form forms[] = {
+	{ 1, 1, 1, 2, 4, 1, 1, 1, 1, 0, 0 },
+	{ 1, 1, 2, 2, 2, 1, 1, 1, 1, 0, 0 },
+	{ 1, 1, 2, 2, 2, 1, 1, 1, PT_NONE, PT_NONE, 0 },
+	{ 1, 1, 3, 2, 1, 1, 1, 1, 1, 0, 14 },
+	{ 1, 2, 1, 2, 1, 3, 3, 1, 1, 0, 0 },
+	{ 1, 3, 1, 1, 1, 1, 6, 1, 1, 0, 0 },
+	{ 1, 2, 2, 2, 1, 1, 2, 1, 1, 0, 0 },
+	{ 2, 1, 2, 2, 1, 1, 2, 1, PT_NONE, PT_NONE, 0 },
+	{ 1, 2, 2, 1, 1, 3, 3, 1, 1, 0, 0 },
+	{ 1, 2, 2, 2, 1, 3, 3, 1, 1, 0, 10 },
+};
+
+enum {
+	PAST = 4, /* words past the total */
+	WORDS = CONTENTS_WORDS + GLOBAL_WORDS + CABINET_WORDS * LEDGER_LANES +
+		LANE_WORDS * LEDGER_LANES + SLOT_WORDS * LEDGER_SLOTS,
+	LEDGER_WORDS = sizeof(struct ledger) / sizeof(uint32_t),
+	PACKED = WORDS + LEDGER_WORDS,
+	ALPHABET = 100,
+	MANY_PASSES = CALLS, /* stands for a call's name */
+	FILL = 0x5a5a5a5a
+};
+
+struct state {
+	uint32_t memory[WORDS + PAST];
+	struct ledger ledger;
+};
+
+/* A state in a byte a word, and how it was reached. */
+struct kept {
+	int8_t word[PACKED];
+	uint32_t parent;
+	uint32_t call; /* of the alphabet */
+	uint32_t level;
+};
+
+static const struct interface library = INTERFACE(pt_);
+static const struct table_form *form;
+static uint32_t lanes; /* of all cabinets */
+static size_t total;
+static uint32_t contents[CONTENTS_WORDS];
+static struct call alphabet[ALPHABET];
+static uint32_t letters;
+
+static struct kept *kept;
+static size_t states, room;
+static uint32_t *place; /* of each state, by hash; 0: none, else its number and 1 */
+static size_t places;
+
+/* Whether the C version is compared; else legality and the ledger judge alone. */
+static bool compared = true;
+
+/* Over all tables. */
+static uint64_t all_states, calls, accepted[CALLS], refused[PT_NOTHING_DONE + 1], outcomes[3];
+
+/* ---- the alphabet */
+
+static void letter(enum call_name name, uint64_t a, uint64_t b, uint64_t c, uint64_t d)
+{
+	if (letters == ALPHABET) {
+		fprintf(stderr, "exhaustive: the alphabet is too long\n");
+		exit(2);
+	}
+	alphabet[letters++] = (struct call){ name, { a, b, c, d } };
+}
+
+/* The calls of a lane with a code. */
+static void code_letters(uint32_t lane, uint64_t code)
+{
+	if (form->changing >> lane & 1u) {
+		letter(CALL_ADD, lane, code, 1, 1);
+		letter(CALL_REPLACE, lane, code, 2, 2);
+		letter(CALL_DELETE, lane, code, 0, 0);
+	}
+	if (form->reading >> lane & 1u)
+		letter(CALL_START, lane, code, 0, 0);
+}
+
+static void pass_letters(uint32_t lane)
+{
+	for (uint32_t kind = 0; kind < form->kinds; kind++) {
+		letter(CALL_PASS, lane, kind, 0, 0);
+		if (form->around)
+			letter((enum call_name)MANY_PASSES, lane, kind, 0, 0);
+	}
+}
+
+static void lane_letters(uint32_t lane)
+{
+	for (uint32_t n = 0; n < form->codes; n++)
+		code_letters(lane, CHAINS * n);
+	if (form->reading >> lane & 1u) {
+		letter(CALL_BEGIN, lane, 0, 0, 0);
+		letter(CALL_STEP, lane, 0, 0, 0);
+		letter(CALL_END, lane, 0, 0, 0);
+	}
+	pass_letters(lane);
+	letter(CALL_CLOCK, lane, 0, 0, 0);
+	letter(CALL_ON, lane, 0, 0, 0);
+	letter(CALL_OFF, lane, 0, 0, 0);
+	letter(CALL_HAND_BACK, lane, 0, 0, 0);
+}
+
+/* Calls that are refused in every state. */
+static void refused_letters(void)
+{
+	letter(CALL_SETUP, 0, form->lanes, form->slots, 0);
+	letter(CALL_SETUP, form->cabinets, form->lanes, form->slots + 1, 0); /* no words for it */
+	letter(CALL_ADD, 0, PT_MAX_CODE + 1, 1, 1);
+	letter(CALL_PASS, 0, KINDS, 0, 0);
+	for (int name = CALL_ADD; name < CALL_AWAITED; name++)
+		letter((enum call_name)name, lanes, 0, 0, 0);
+}
+
+static void make_alphabet(void)
+{
+	letters = 0;
+	letter(CALL_SETUP, form->cabinets, form->lanes, form->slots, 0);
+	letter(CALL_AWAITED, 0, 0, 0, 0);
+	for (uint32_t lane = 0; lane < lanes; lane++)
+		lane_letters(lane);
+	if (lanes * form->slots <= 2)
+		refused_letters();
+}
+
+/* ---- where the words stand */
+
+static uint32_t *lane_words(uint32_t *memory, uint32_t lane)
+{
+	return memory + CONTENTS_WORDS + GLOBAL_WORDS + CABINET_WORDS * form->cabinets +
+		LANE_WORDS * lane;
+}
+
+/* ---- a state's one form */
+
+static void shift_counts(uint32_t *lane, uint32_t kind)
+{
+	uint32_t *count = &lane[LANE_COUNTS + kind];
+	uint32_t *snapshot = &lane[LANE_SNAPSHOT + kind];
+	uint32_t ahead = *count - *snapshot;
+
+	*count = form->count;
+	if (!(lane[LANE_FLAGS] & FLAG_SNAPSHOT))
+		return;
+	*snapshot = form->count;
+	if (ahead != 0)
+		*count += ahead == PT_NONE ? PT_NONE : 1;
+}
+
+static void shift_generation(uint32_t *generation, const uint32_t *current_queue, uint32_t by)
+{
+	if (current_queue[END_FIRST] != PT_NONE)
+		*generation += by;
+}
+
+static void shift(uint32_t *memory)
+{
+	uint32_t *global = memory + CONTENTS_WORDS;
+	uint32_t by = form->generation - global[GLOBAL_CURRENT_GENERATION];
+
+	global[GLOBAL_CURRENT_GENERATION] += by;
+	global[GLOBAL_LARGEST_GENERATION] += by;
+	shift_generation(&global[GLOBAL_GENERATION], &global[GLOBAL_CURRENT], by);
+	for (uint32_t l = 0; l < lanes; l++) {
+		uint32_t *lane = lane_words(memory, l);
+
+		shift_generation(&lane[LANE_GENERATION], &lane[LANE_CURRENT], by);
+		for (uint32_t kind = 0; kind < KINDS; kind++)
+			shift_counts(lane, kind);
+	}
+}
+
+static int compare_searches(const void *a, const void *b)
+{
+	return memcmp(a, b, sizeof(struct ledger_search));
+}
+
+/* The order in which the ledger noted searches and finds does not matter. */
+static void sort_ledger(struct ledger *ledger)
+{
+	for (uint32_t l = 0; l < lanes; l++) {
+		struct ledger_lane *lane = &ledger->lane[l];
+
+		qsort(lane->search, lane->searches, sizeof lane->search[0], compare_searches);
+		qsort(lane->find, lane->finds, sizeof lane->find[0], compare_searches);
+	}
+}
+
+static void pack_word(int8_t *byte, uint32_t word)
+{
+	*byte = (int8_t)(uint8_t)word;
+	if ((uint32_t)*byte != word) {
+		fprintf(stderr, "exhaustive: a word of %" PRIu32 " does not fit a byte\n", word);
+		exit(2);
+	}
+}
+
+static void pack(struct kept *to, const struct state *state)
+{
+	uint32_t ledger[LEDGER_WORDS];
+
+	memset(to->word, 0, sizeof to->word);
+	memcpy(ledger, &state->ledger, sizeof ledger);
+	for (size_t n = CONTENTS_WORDS; n < total; n++)
+		pack_word(&to->word[n], state->memory[n]);
+	for (size_t n = 0; n < LEDGER_WORDS; n++)
+		pack_word(&to->word[WORDS + n], ledger[n]);
+}
+
+static void unpack(struct state *state, const struct kept *from)
+{
+	uint32_t ledger[LEDGER_WORDS];
+
+	memcpy(state->memory, contents, sizeof contents);
+	for (size_t n = CONTENTS_WORDS; n < total; n++)
+		state->memory[n] = (uint32_t)from->word[n];
+	for (size_t n = total; n < WORDS + PAST; n++)
+		state->memory[n] = FILL;
+	for (size_t n = 0; n < LEDGER_WORDS; n++)
+		ledger[n] = (uint32_t)from->word[WORDS + n];
+	memcpy(&state->ledger, ledger, sizeof ledger);
+}
+
+/* ---- the states met */
+
+static uint64_t hash_of(const struct kept *state)
+{
+	uint64_t hash = UINT64_C(0xcbf29ce484222325);
+
+	for (size_t n = 0; n < PACKED; n++)
+		hash = (hash ^ (uint8_t)state->word[n]) * UINT64_C(0x100000001b3);
+	return hash ^ hash >> 29;
+}
+
+/* Where the state stands among the places, or would stand. */
+static size_t place_of(const struct kept *state)
+{
+	size_t at = hash_of(state) & (places - 1);
+
+	while (place[at] != 0 &&
+			memcmp(kept[place[at] - 1].word, state->word, sizeof state->word) != 0)
+		at = (at + 1) & (places - 1);
+	return at;
+}
+
+static void *resized(void *old, size_t count, size_t size)
+{
+	void *new = realloc(old, count * size);
+
+	if (new == NULL) {
+		fprintf(stderr, "exhaustive: no memory for %zu states\n", count);
+		exit(2);
+	}
+	return new;
+}
+
+static void make_room(void)
+{
+	room = room == 0 ? 4096 : 2 * room;
+	places = 2 * room;
+	kept = resized(kept, room, sizeof *kept);
+	place = resized(place, places, sizeof *place);
+	memset(place, 0, places * sizeof *place);
+	for (size_t n = 0; n < states; n++)
+		place[place_of(&kept[n])] = (uint32_t)n + 1;
+}
+
+/* Keeps the state unless it was met before. */
+static void meet(struct state *state, uint32_t parent, uint32_t call, uint32_t level)
+{
+	size_t at;
+
+	if (states == room)
+		make_room();
+	shift(state->memory);
+	sort_ledger(&state->ledger);
+	pack(&kept[states], state);
+	at = place_of(&kept[states]);
+	if (place[at] != 0)
+		return;
+	kept[states].parent = parent;
+	kept[states].call = call;
+	kept[states].level = level;
+	place[at] = (uint32_t)++states;
+}
+
+/* ---- calls */
+
+static void print_call(const struct call *call)
+{
+	if (call->name == (enum call_name)MANY_PASSES) {
+		fprintf(stderr, "  many passes of lane %" PRIu64 "\n", call->argument[0]);
+		return;
+	}
+	fprintf(stderr, "  %s", call_forms[call->name].command);
+	for (uint32_t n = 0; n < call_forms[call->name].arguments; n++)
+		fprintf(stderr, " %" PRIu64, call->argument[n]);
+	fprintf(stderr, "\n");
+}
+
+static void print_list(uint32_t state)
+{
+	if (state == 0)
+		return;
+	print_list(kept[state].parent);
+	print_call(&alphabet[kept[state].call]);
+}
+
+static void fault(uint32_t state, const struct call *call, const char *what)
+{
+	fprintf(stderr, "exhaustive: after the set-up and\n");
+	print_list(state);
+	print_call(call);
+	fprintf(stderr, "exhaustive: %s\n", what);
+	exit(1);
+}
+
+/* The C version's answer and words, from the same memory. */
+static const char *alike(const struct call *call, const uint32_t *before, const uint32_t *after,
+		const uint32_t *answer)
+{
+	uint32_t expected[WORDS + PAST];
+	uint32_t words[PT_ANSWER_WORDS];
+
+	memcpy(expected, before, sizeof expected);
+	call_make(&reference, expected, total, words, PT_ANSWER_WORDS, call);
+	if (memcmp(words, answer, sizeof words) != 0)
+		return "the C version answers otherwise";
+	if (memcmp(expected, after, sizeof expected) != 0)
+		return "the C version leaves other words";
+	return NULL;
+}
+
+/* What is owed of any call, whatever the C version does. */
+static const char *owed(const uint32_t *before, const uint32_t *after, const uint32_t *answer,
+		uint32_t status)
+{
+	if (answer[0] != status || status > PT_NOTHING_DONE)
+		return "the status is not the answer's first word, or no status";
+	if (status != PT_OK && memcmp(before, after, (total + PAST) * sizeof *after) != 0)
+		return "a refused call changed a word";
+	if (memcmp(before + total, after + total, PAST * sizeof *after) != 0)
+		return "a word past the total changed";
+	if (status == PT_OK && !ref_legal(after, total))
+		return "an accepted call left a memory that is not legal";
+	return NULL;
+}
+
+static void count_answer(const struct call *call, const uint32_t *answer)
+{
+	calls++;
+	if (answer[0] != PT_OK) {
+		refused[answer[0]]++;
+		return;
+	}
+	accepted[call->name]++;
+	if (call->name == CALL_STEP)
+		outcomes[answer[1]]++;
+}
+
+/* A count that is ahead of its snapshot comes to the last number before it. */
+static void many_passes(const struct state *from, uint32_t number, uint32_t at)
+{
+	const struct call *call = &alphabet[at];
+	uint32_t place_of_count = LANE_COUNTS + (uint32_t)call->argument[1];
+	struct state state = *from;
+	uint32_t *lane = lane_words(state.memory, (uint32_t)call->argument[0]);
+
+	if (!(lane[LANE_FLAGS] & FLAG_SNAPSHOT) || lane[LANE_FLAGS] & FLAG_READING ||
+			lane[place_of_count] != form->count + 1)
+		return;
+	lane[place_of_count] = form->count - 1;
+	meet(&state, number, at, kept[number].level + 1);
+}
+
+static void make(const struct state *from, uint32_t number, uint32_t at)
+{
+	const struct call *call = &alphabet[at];
+	uint32_t answer[PT_ANSWER_WORDS];
+	struct state state = *from;
+	const char *what;
+	uint32_t status;
+
+	status = call_make(&library, state.memory, total, answer, PT_ANSWER_WORDS, call);
+	what = owed(from->memory, state.memory, answer, status);
+	if (what == NULL && compared)
+		what = alike(call, from->memory, state.memory, answer);
+	if (what == NULL)
+		what = ledger_feed(&state.ledger, call, answer);
+	if (what == NULL)
+		what = ledger_kept(&state.ledger, state.memory);
+	if (what != NULL)
+		fault(number, call, what);
+	count_answer(call, answer);
+	if (status == PT_OK)
+		meet(&state, number, at, kept[number].level + 1);
+}
+
+/* ---- the search */
+
+static void print_counts(void)
+{
+	printf("accepted:");
+	for (int name = 0; name < CALLS; name++)
+		printf(" %s %" PRIu64, call_forms[name].command, accepted[name]);
+	printf("\nrefused, by cause:");
+	for (uint32_t cause = PT_BAD_SIZE; cause <= PT_NOTHING_DONE; cause++)
+		printf(" %" PRIu32 ": %" PRIu64, cause, refused[cause]);
+	printf("\nsteps: %" PRIu64 " going, %" PRIu64 " found, %" PRIu64 " absent\n",
+		outcomes[PT_GOING], outcomes[PT_FOUND], outcomes[PT_ABSENT]);
+}
+
+static void start(void)
+{
+	struct state state;
+	uint32_t answer[PT_ANSWER_WORDS];
+
+	total = PT_WORDS(form->cabinets, form->lanes, form->slots);
+	for (size_t n = 0; n < WORDS + PAST; n++)
+		state.memory[n] = FILL;
+	ledger_reset(&state.ledger);
+	if (library.setup(state.memory, total, answer, PT_ANSWER_WORDS, form->cabinets,
+			form->lanes, form->slots) != PT_OK) {
+		fprintf(stderr, "exhaustive: set-up is refused\n");
+		exit(1);
+	}
+	memcpy(contents, state.memory, sizeof contents); /* the same in every state */
+	states = 0;
+	make_room();
+	meet(&state, 0, 0, 0);
+}
+
+/* Returns the level of the last state that was met. */
+static uint32_t search(void)
+{
+	uint32_t level = 0;
+
+	for (uint32_t number = 0; number < states; number++) {
+		struct state state;
+
+		level = kept[number].level;
+		if (form->levels != 0 && level == form->levels)
+			break;
+		unpack(&state, &kept[number]);
+		for (uint32_t at = 0; at < letters; at++)
+			if (alphabet[at].name == (enum call_name)MANY_PASSES)
+				many_passes(&state, number, at);
+			else
+				make(&state, number, at);
+	}
+	return level;
+}
+
+static void run(void)
+{
+	uint64_t before = calls;
+	uint32_t level;
+
+	room = 0;
+	lanes = form->cabinets * form->lanes;
+	make_alphabet();
+	start();
+	level = search();
+	all_states += states;
+	printf("%" PRIu32 " x %" PRIu32 " x %" PRIu32 ", codes %" PRIu32 ", kinds %" PRIu32
+		"%s, lanes that change %#" PRIx32 ", that read %#" PRIx32 ", generation %" PRIu32
+		": %zu states, %" PRIu64 " calls, %s %" PRIu32 " deep\n",
+		form->cabinets, form->lanes, form->slots, form->codes, form->kinds,
+		form->around ? " around" : "", form->changing, form->reading, form->generation,
+		states, calls - before, form->levels == 0 ? "all, at most" : "those at most",
+		level);
+	fflush(stdout);
+}
+
+/* Usage: exhaustive [--ledger] [TABLE]: without the C version, or one of the tables alone. */
+int main(int arguments, char **argument)
+{
+	size_t tables = sizeof forms / sizeof forms[0], only = 0;
+
+	for (int n = 1; n < arguments; n++)
+		if (strcmp(argument[n], "--ledger") == 0)
+			compared = false;
+		else
+			only = strtoul(argument[n], NULL, 10);
+	if (only > tables) {
+		fprintf(stderr, "exhaustive: there are %zu tables\n", tables);
+		return 2;
+	}
+	if (!compared)
+		printf("exhaustive: judged by legality and the ledger alone\n");
+	for (size_t n = 0; n < tables; n++) {
+		form = &forms[n];
+		if (only == 0 || only == n + 1)
+			run();
+	}
+	print_counts();
+	printf("exhaustive: %zu tables, %" PRIu64 " states, %" PRIu64 " calls, no fault\n",
+		only == 0 ? tables : 1, all_states, calls);
+	return 0;
+}

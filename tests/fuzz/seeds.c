@@ -1,0 +1,162 @@
+/*
+ * seeds.c - makes the fuzzer's seeds: a file of bytes (stream.h) for each name in a text
+ * such as seeds.txt, and lists of calls that look random, on tables of several sizes.
+ * Usage: seeds TEXT DIRECTORY
+ */
+#include <inttypes.h>
+#include <stdio.h>
+#include <stdlib.h>
+#include <string.h>
+
+#include "stream.h"
+#include "trial.h"
+
+enum { NAME = 200, LINE = 200 };
+
+static FILE *seed;
+
+static void seed_open(const char *directory, const char *name)
+{
+	char path[2 * NAME];
+
+	if (seed != NULL)
+		CHECK(fclose(seed) == 0);
+	CHECK((size_t)snprintf(path, sizeof path, "%s/%s", directory, name) < sizeof path);
+	seed = fopen(path, "wb");
+	CHECK(seed != NULL);
+}
+
+static void put(uint64_t value, unsigned bytes)
+{
+	for (unsigned n = 0; n < bytes; n++)
+		CHECK(putc((int)(value >> 8 * n & 0xffu), seed) != EOF);
+}
+
+static void put_raw(uint32_t value)
+{
+	put(RAW, 1);
+	put(value, 4);
+}
+
+static void put_number(uint32_t value)
+{
+	if (value < EDGES)
+		put(value, 1);
+	else
+		put_raw(value);
+}
+
+static void put_code(uint64_t code)
+{
+	for (uint32_t byte = 0; byte < EDGES; byte++)
+		if (spread(byte) == code) {
+			put(byte, 1);
+			return;
+		}
+	put(RAW, 1);
+	put(code, 8);
+}
+
+static void put_call(const struct call *call)
+{
+	put(call->name, 1);
+	for (uint32_t n = 0; n < call_forms[call->name].arguments; n++)
+		if (call_forms[call->name].codes >> n & 1u)
+			put_code(call->argument[n]);
+		else if (n == 0 && call->name != CALL_SETUP && call->argument[n] >= LANES)
+			put_raw((uint32_t)call->argument[n]);
+		else
+			put_number((uint32_t)call->argument[n]);
+}
+
+/* An operation that is no call, or else the call that the line is. */
+static void put_line(const char *line)
+{
+	uint32_t a, b;
+	struct call call;
+
+	if (sscanf(line, "poke %" SCNu32 " %" SCNu32, &a, &b) == 2) {
+		put(POKE, 1);
+		put(a, 2);
+		put_number(b);
+	} else if (sscanf(line, "copy %" SCNu32 " %" SCNu32, &a, &b) == 2) {
+		put(COPY, 1);
+		put(a, 2);
+		put(b, 2);
+	} else if (sscanf(line, "lend %" SCNu32, &a) == 1) {
+		put(LEND, 1);
+		put_number(a);
+	} else if (sscanf(line, "answer %" SCNu32, &a) == 1) {
+		put(ANSWER, 1);
+		put(a, 1);
+	} else if (strcmp(line, "mend") == 0) {
+		put(MEND, 1);
+	} else if (strcmp(line, "round") == 0) {
+		put(ROUND, 1);
+	} else {
+		call = trial_call(line);
+		put_call(&call);
+	}
+}
+
+static void make_written(const char *path, const char *directory)
+{
+	FILE *text = fopen(path, "r");
+	char line[LINE], name[NAME];
+
+	CHECK(text != NULL);
+	while (fgets(line, sizeof line, text) != NULL) {
+		line[strcspn(line, "\n")] = '\0';
+		if (sscanf(line, "[%199[a-z0-9-]]", name) == 1)
+			seed_open(directory, name);
+		else if (line[0] != '#' && line[0] != '\0')
+			put_line(line);
+	}
+	fclose(text);
+}
+
+/* A list of calls on a table: many of the calls are accepted. */
+static void put_random(uint32_t cabinets, uint32_t lanes, uint32_t slots, uint32_t count)
+{
+	static const enum call_name names[] = {
+		CALL_ADD, CALL_ADD, CALL_ADD, CALL_REPLACE, CALL_DELETE, CALL_DELETE, CALL_BEGIN,
+		CALL_BEGIN, CALL_END, CALL_START, CALL_START, CALL_STEP, CALL_STEP, CALL_STEP,
+		CALL_PASS, CALL_PASS, CALL_CLOCK, CALL_CLOCK, CALL_CLOCK, CALL_ON, CALL_OFF,
+		CALL_HAND_BACK, CALL_HAND_BACK, CALL_AWAITED
+	};
+	uint64_t state = cabinets * 100 + lanes * 10 + slots;
+	struct call call = { CALL_SETUP, { cabinets, lanes, slots } };
+
+	put_call(&call);
+	for (uint32_t n = 0; n < count; n++) {
+		call.name = names[trial_random(&state, sizeof names / sizeof names[0])];
+		call.argument[0] = trial_random(&state, cabinets * lanes);
+		call.argument[1] = call.name == CALL_PASS ? trial_random(&state, KINDS) :
+			64 * trial_random(&state, 4) + trial_random(&state, 2);
+		call.argument[2] = trial_random(&state, 50);
+		call.argument[3] = trial_random(&state, 8);
+		put_call(&call);
+		if (n % 20 == 19)
+			put(ROUND, 1);
+	}
+}
+
+int main(int arguments, char **argument)
+{
+	static const uint32_t sizes[][3] = {
+		{ 1, 1, 1 }, { 1, 1, 2 }, { 1, 2, 2 }, { 1, 2, 4 }, { 1, 3, 3 }, { 2, 1, 3 },
+		{ 2, 2, 6 }, { 2, 3, 8 }, { 8, 1, 8 }, { 1, 8, 16 }
+	};
+	char name[NAME];
+
+	CHECK(arguments == 3);
+	make_written(argument[1], argument[2]);
+	for (size_t n = 0; n < sizeof sizes / sizeof sizes[0]; n++) {
+		snprintf(name, sizeof name, "random-%" PRIu32 "-%" PRIu32 "-%" PRIu32,
+			sizes[n][0], sizes[n][1], sizes[n][2]);
+		seed_open(argument[2], name);
+		put_random(sizes[n][0], sizes[n][1], sizes[n][2], 100);
+	}
+	CHECK(seed == NULL || fclose(seed) == 0);
+	return 0;
+}

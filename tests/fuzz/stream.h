@@ -1,0 +1,121 @@
+/*
+ * stream.h - calls and damages as bytes, for the fuzzer: what its bytes mean, and how
+ * the seeds are written. Any bytes are a stream, and each byte changed is a stream near
+ * by. An operation is one byte, modulo OPERATIONS, and then its arguments:
+ *   a call (below CALLS), its arguments as numbers, codes where it takes codes;
+ *   POKE, an address and a number: a word of the memory changes;
+ *   COPY, two addresses: a word is written over another;
+ *   LEND, a number: how many words of the memory are lent from here on, below 16 that
+ *     many more than the total less 8, below 32 that many less 16, else the number;
+ *   ANSWER, a byte: how many words of answer are lent from here on;
+ *   MEND: what the last accepted call left is put back, and everything is lent again;
+ *   ROUND: each lane makes the calls clock, pass 0 and clock.
+ * A number is a byte below EDGES for itself, one of the edges, or RAW and four bytes,
+ * low byte first. A lane is a number too, but bytes from LANES to EDGES are taken modulo
+ * the table's lanes and one. A code is a byte below EDGES for one of sixteen codes, a code
+ * about the limit, or RAW and eight bytes. An address is two bytes, modulo the words lent.
+ */
+#ifndef FUZZ_STREAM_H
+#define FUZZ_STREAM_H
+
+#include <stddef.h>
+#include <stdint.h>
+
+#include "calls.h"
+#include "product_table.h"
+
+enum {
+	POKE = CALLS,
+	COPY,
+	LEND,
+	ANSWER,
+	MEND,
+	ROUND,
+	OPERATIONS
+};
+
+enum { LANES = 0x40, EDGES = 0xe0, RAW = 0xf0 };
+
+static const uint32_t edges[RAW - EDGES] = {
+	PT_NONE, PT_NONE - 1, 0x7fffffffu, 0x80000000u, 1023, 1024, 1025, PT_MAX_DEPOSIT,
+	PT_MAX_DEPOSIT + 1, (uint32_t)PT_MAX_CODE, (uint32_t)PT_MAX_CODE + 1,
+	(uint32_t)(PT_MAX_CODE >> 32), (uint32_t)(PT_MAX_CODE >> 32) + 1, 256, 65535, 65536,
+};
+
+/* The code that a byte below EDGES is: four codes of two chains, each with two high words. */
+static inline uint64_t spread(uint32_t byte)
+{
+	return (uint64_t)(byte >> 3 & 1u) << 32 | (byte & 3u) << 6 | (byte >> 2 & 1u);
+}
+
+/* What is left of a stream. */
+struct stream {
+	const uint8_t *at;
+	size_t left;
+};
+
+/* The next byte, 0 at the end. */
+static inline uint32_t stream_byte(struct stream *stream)
+{
+	if (stream->left == 0)
+		return 0;
+	stream->left--;
+	return *stream->at++;
+}
+
+static inline uint64_t stream_bytes(struct stream *stream, unsigned count)
+{
+	uint64_t value = 0;
+
+	for (unsigned n = 0; n < count; n++)
+		value |= (uint64_t)stream_byte(stream) << 8 * n;
+	return value;
+}
+
+/* The number that begins with a byte. */
+static inline uint32_t stream_rest(struct stream *stream, uint32_t byte)
+{
+	if (byte < EDGES)
+		return byte;
+	return byte < RAW ? edges[byte - EDGES] : (uint32_t)stream_bytes(stream, 4);
+}
+
+static inline uint32_t stream_number(struct stream *stream)
+{
+	return stream_rest(stream, stream_byte(stream));
+}
+
+static inline uint32_t stream_lane(struct stream *stream, uint32_t lanes)
+{
+	uint32_t byte = stream_byte(stream);
+
+	return byte >= LANES && byte < EDGES ? byte % (lanes + 1) : stream_rest(stream, byte);
+}
+
+static inline uint64_t stream_code(struct stream *stream)
+{
+	uint32_t byte = stream_byte(stream);
+
+	if (byte < EDGES)
+		return spread(byte);
+	if (byte < RAW)
+		return PT_MAX_CODE - 8 + (byte - EDGES);
+	return stream_bytes(stream, 8);
+}
+
+/* The call whose operation byte was read, for a table of so many lanes. */
+static inline struct call stream_call(struct stream *stream, enum call_name name, uint32_t lanes)
+{
+	struct call call = { .name = name };
+
+	for (uint32_t n = 0; n < call_forms[name].arguments; n++)
+		if (call_forms[name].codes >> n & 1u)
+			call.argument[n] = stream_code(stream);
+		else if (n == 0 && name != CALL_SETUP)
+			call.argument[n] = stream_lane(stream, lanes);
+		else
+			call.argument[n] = stream_number(stream);
+	return call;
+}
+
+#endif /* FUZZ_STREAM_H */

@@ -1,0 +1,54 @@
+/*
+ * program.c - links with the library, as C and as C++: each call once, its answer against
+ * document 01's rules, and a table in a memory from malloc. Prints "linked" and ends with 0.
+ */
+#include <stdio.h>
+#include <stdlib.h>
+
+#include "product_table.h"
+
+static uint32_t answer[PT_ANSWER_WORDS];
+static int wrong;
+
+static void is(const char *call, uint32_t status, uint32_t a, uint32_t b, uint32_t c,
+		uint32_t d, uint32_t e)
+{
+	if (status == a && answer[0] == a && answer[1] == b && answer[2] == c && answer[3] == d &&
+			answer[4] == e)
+		return;
+	fprintf(stderr, "%s: %lu %lu %lu %lu %lu, status %lu\n", call, (unsigned long)answer[0],
+		(unsigned long)answer[1], (unsigned long)answer[2], (unsigned long)answer[3],
+		(unsigned long)answer[4], (unsigned long)status);
+	wrong = 1;
+}
+
+int main(void)
+{
+	size_t words = PT_WORDS(1, 2, 3);
+	uint32_t *memory = (uint32_t *)malloc(words * sizeof *memory);
+
+	if (memory == NULL)
+		return 2;
+#define LENT memory, words, answer, PT_ANSWER_WORDS
+	is("setup", pt_setup(LENT, 1, 2, 3), 0, 145, 0, 0, 0);
+	is("add", pt_add(LENT, 0, 17, 25, 1), 0, 0, 0, 0, 0);
+	is("replace", pt_replace(LENT, 0, 17, 30, 2), 0, 1, 0, 0, 0);
+	is("begin", pt_begin(LENT, 1), 0, 0, 0, 0, 0);
+	is("start", pt_start(LENT, 1, 17), 0, 0, 0, 0, 0);
+	is("delete", pt_delete(LENT, 0, 17), 0, 1, 0, 0, 0);
+	is("step", pt_step(LENT, 1), 0, 1, 1, 30, 2);
+	is("end", pt_end(LENT, 1), 0, 0, 0, 0, 0);
+	is("clock", pt_clock(LENT, 0), 0, 1, 1, 1, 0);
+	is("awaited", pt_awaited(LENT), 0, 2, 0, 1, 2);
+	is("off", pt_off(LENT, 1), 0, 0, 0, 0, 0);
+	is("on", pt_on(LENT, 1), 0, 0, 0, 0, 0);
+	is("pass", pt_pass(LENT, 0, PT_CHANGED_OVER), 0, 0, 0, 0, 0);
+	is("clock", pt_clock(LENT, 0), 0, 2, 1, 0, 0);
+	is("hand_back", pt_hand_back(LENT, 0), 0, 0, 0, 0, 0);
+	if (pt_awaited(memory, words, answer, 4) != PT_SHORT_ANSWER)
+		wrong = 1;
+	free(memory);
+	if (!wrong)
+		puts("linked");
+	return wrong;
+}
