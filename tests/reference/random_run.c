@@ -8,13 +8,9 @@
 #include <stdlib.h>
 #include <string.h>
 
+#include "draw.h"
 #include "ledger.h"
 #include "trial.h"
-
-/* A list: sizes of the table, codes in use, calls, and the first generation. */
-struct list {
-	uint32_t cabinets, lanes, slots, codes, calls, generation;
-};
 
 static const struct list lists[] = {
 	{ 1, 1, 1, 2, 1000, 1 },
@@ -95,52 +91,6 @@ static void make_short(const struct call *call, size_t total)
 	trial.words = TRIAL_WORDS;
 }
 
-/* Half of the codes share a chain; the others use their high word. */
-static uint64_t draw_code(const struct list *list)
-{
-	uint64_t n = draw(list->codes);
-
-	if (draw(60) == 0)
-		return PT_MAX_CODE + draw(2);
-	return n % 2 == 0 ? 64 * n : (n << 32) + 5;
-}
-
-static enum call_name draw_name(void)
-{
-	static const uint32_t weights[CALLS] = {
-		1, 44, 14, 20, 32, 16, 40, 90, 24, 36, 24, 6, 30, 4
-	};
-	uint32_t sum = 0, at;
-	int name = 0;
-
-	for (int n = 0; n < CALLS; n++)
-		sum += weights[n];
-	at = draw(sum);
-	while (at >= weights[name])
-		at -= weights[name++];
-	return (enum call_name)name;
-}
-
-static struct call draw_call(const struct list *list)
-{
-	uint32_t lanes = list->cabinets * list->lanes;
-	enum call_name name = draw_name();
-	struct call call = { .name = name };
-
-	call.argument[0] = draw(50) == 0 ? lanes + draw(3) : draw(lanes);
-	call.argument[1] = name == CALL_PASS ? draw(draw(20) == 0 ? 6 : 4) : draw_code(list);
-	call.argument[2] = draw(60) == 0 ? PT_MAX_DEPOSIT + draw(2) : draw(PT_MAX_DEPOSIT);
-	call.argument[3] = draw(60) == 0 ? 8 : draw(8);
-	if (name == CALL_SETUP) {
-		call.argument[0] = list->cabinets;
-		call.argument[1] = draw(3) == 0 ? list->lanes : 9;
-		call.argument[2] = list->slots;
-	}
-	for (uint32_t n = call_forms[name].arguments; n < CALL_ARGUMENTS; n++)
-		call.argument[n] = 0;
-	return call;
-}
-
 /* A lane finishes its lookup and its section, passes, and reclaims a slot. */
 static void let_pass(uint32_t lane, size_t total)
 {
@@ -196,7 +146,7 @@ static void run(const struct list *list)
 	CHECK(exact != NULL);
 	set_up(list, total);
 	for (uint32_t n = 0; n < list->calls; n++) {
-		struct call call = draw_call(list);
+		struct call call = draw_call(&seed, list);
 
 		if (draw(300) == 0)
 			make_short(&call, total);

@@ -1,0 +1,120 @@
+/*
+ * compare.c - many calls on tables of a dozen sizes, on memories damaged on the way. Each
+ * call is made with all checks of a trial: if the library is tried, its answer and every
+ * word it leaves are those of the reference. Usage: compare [SEED [CALLS]], the calls of
+ * each list; a run is made again by its seed.
+ */
+#include <inttypes.h>
+#include <stdio.h>
+#include <stdlib.h>
+#include <string.h>
+
+#include "draw.h"
+#include "trial.h"
+
+static const struct list lists[] = {
+	{ 1, 1, 1, 2, 30000, 1 },
+	{ 1, 2, 2, 3, 30000, 4294967295u },
+	{ 1, 2, 3, 4, 30000, 4294967290u },
+	{ 2, 1, 2, 3, 30000, 1 },
+	{ 1, 4, 3, 3, 30000, 2147483647u },
+	{ 2, 2, 5, 6, 30000, 2147483640u },
+	{ 1, 3, 8, 9, 30000, 4294967290u },
+	{ 2, 4, 16, 14, 30000, 1 },
+	{ 3, 3, 12, 20, 30000, 4294967294u },
+	{ 8, 1, 20, 12, 30000, 1 },
+	{ 4, 4, 100, 60, 10000, 1 },
+	{ 8, 8, 1024, 400, 2000, 4294967295u },
+};
+
+static struct trial trial;
+static uint64_t seed;
+
+/* What all lists reached. */
+static uint32_t calls, damaged, accepted[CALLS], refused[PT_NOTHING_DONE + 1];
+
+static uint32_t draw(uint32_t below)
+{
+	return trial_random(&seed, below);
+}
+
+static void make(const struct call *call)
+{
+	trial_make(&trial, call);
+	calls++;
+	if (trial.answer[0] == PT_OK)
+		accepted[call->name]++;
+	else
+		refused[trial.answer[0]]++;
+}
+
+/* A word that may fit where another stood. */
+static uint32_t draw_word(size_t total)
+{
+	switch (draw(5)) {
+	case 0:
+		return PT_NONE;
+	case 1:
+		return draw(16);
+	case 2:
+		return trial.memory[draw((uint32_t)total)];
+	case 3:
+		return 1u << draw(32);
+	default:
+		return draw(PT_NONE);
+	}
+}
+
+/* Calls on the memory with one to three of its words changed; then it is as it was. */
+static void make_damaged(const struct list *list, size_t total)
+{
+	uint32_t before[TRIAL_WORDS];
+
+	memcpy(before, trial.memory, sizeof before);
+	for (uint32_t n = 1 + draw(3); n > 0; n--)
+		trial.memory[draw((uint32_t)total)] = draw_word(total);
+	damaged++;
+	for (uint32_t n = 1 + draw(3); n > 0; n--) {
+		struct call call = draw_call(&seed, list);
+
+		make(&call);
+	}
+	memcpy(trial.memory, before, sizeof before);
+}
+
+static void run(const struct list *list, uint32_t count)
+{
+	size_t total = PT_WORDS(list->cabinets, list->lanes, list->slots);
+
+	trial_start(&trial);
+	make(&(struct call){ CALL_SETUP, { list->cabinets, list->lanes, list->slots } });
+	trial_global(trial.memory)[GLOBAL_CURRENT_GENERATION] = list->generation;
+	trial_global(trial.memory)[GLOBAL_LARGEST_GENERATION] = list->generation - 1u;
+	while (count > 0) {
+		struct call call = draw_call(&seed, list);
+
+		count--;
+		trial.words = draw(100) == 0 ? draw((uint32_t)total) : TRIAL_WORDS;
+		make(&call);
+		trial.words = TRIAL_WORDS;
+		if (draw(10) == 0)
+			make_damaged(list, total);
+	}
+}
+
+int main(int argc, char **argv)
+{
+	uint64_t first = argc > 1 ? strtoull(argv[1], NULL, 10) : 2000;
+
+	for (size_t n = 0; n < sizeof lists / sizeof lists[0]; n++) {
+		seed = first + n;
+		run(&lists[n], argc > 2 ? (uint32_t)strtoul(argv[2], NULL, 10) : lists[n].calls);
+	}
+	for (int name = 0; name < CALLS && argc <= 2; name++)
+		CHECK(accepted[name] > 0);
+	for (uint32_t cause = PT_BAD_SIZE; cause <= PT_NOTHING_DONE && argc <= 2; cause++)
+		CHECK(refused[cause] > 0);
+	printf("compare: seed %" PRIu64 ", %" PRIu32 " calls, %" PRIu32 " memories damaged, %"
+		PRIu32 " slots handed back\n", first, calls, damaged, accepted[CALL_HAND_BACK]);
+	return 0;
+}
