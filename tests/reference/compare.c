@@ -110,9 +110,9 @@ int main(int argc, char **argv)
 		seed = first + n;
 		run(&lists[n], argc > 2 ? (uint32_t)strtoul(argv[2], NULL, 10) : lists[n].calls);
 	}
-	for (int name = 0; name < CALLS && argc <= 2; name++)
+	for (int name = 0; name < CALLS && argc == 1; name++)
 		CHECK(accepted[name] > 0);
-	for (uint32_t cause = PT_BAD_SIZE; cause <= PT_NOTHING_DONE && argc <= 2; cause++)
+	for (uint32_t cause = PT_BAD_SIZE; cause <= PT_NOTHING_DONE && argc == 1; cause++)
 		CHECK(refused[cause] > 0);
 	printf("compare: seed %" PRIu64 ", %" PRIu32 " calls, %" PRIu32 " memories damaged, %"
 		PRIu32 " slots handed back\n", first, calls, damaged, accepted[CALL_HAND_BACK]);
