@@ -1,0 +1,34 @@
+-- `answers::answer_line` meets its contract: what the line asks for is what its bytes say. Assumes nothing.
+use Rattle.listing.proofs.AnswerLaws.{answers-line}
+use borrow.Author.Needs.{needs}
+use Rattle.listing.proofs.answers.answer_line.Statement.{statement}
+use Rattle.listing.proofs.answers.answer_line.Tie as tie
+
+finish-requires : tie.Need-finish-requires
+finish-requires c κs = search needs
+
+call-of-requires : tie.Need-call-of-requires
+call-of-requires c κs = search needs
+
+put-asked-requires : tie.Need-put-asked-requires
+put-asked-requires c κs = search needs
+
+same-length : tie.Need-same-length
+same-length c = search needs
+
+same-length-2 : tie.Need-same-length-2
+same-length-2 c = search needs
+
+returns : tie.Need-returns
+returns c = answers-line _ _ _ (c .before .before .before .before .before .before .before .before .finish .ensures) (c .before .before .before .before .before .before .before .call-of .ensures) (c .before .before .before .before .put-asked .ensures)
+
+pub answer-line-spec : {M : Type 1} → statement M
+answer-line-spec =
+    tie.close
+    (tie.spec
+    finish-requires
+    call-of-requires
+    put-asked-requires
+    same-length
+    same-length-2
+    returns)

@@ -1,0 +1,3 @@
+-- What the listing program prints, and what its functions ensure.
+pub mod Output
+pub mod Contract
