@@ -14,7 +14,8 @@ use Rattle.representation.specs.Facts.{SizesFit}
 use Rattle.representation.specs.WellFormed.{WellFormed}
 use Rattle.representation.specs.Standing.{fit}
 use Rattle.representation.specs.Round.{ready, stored-state}
-use Rattle.representation.specs.Memories.{Sound, reply-illegal, left-illegal, reply-legal, left-legal}
+use Rattle.representation.specs.MemoryCalls.{reply-illegal, left-illegal, reply-legal, left-legal}
+use Rattle.representation.specs.Memories.{Sound}
 use Rattle.changes.specs.Shows.{Shows, shows-state}
 use Rattle.access.specs.declared.Answer.{Answer}
 use Rattle.access.specs.Contract.{five, Does}

@@ -10,12 +10,13 @@ use Rattle.model.specs.State.{laneCount, Lane}
 use Rattle.model.specs.Layout.{maxSlots, freeAt, globalQueuesAt, queuesAt, queueLinkAt, laneAddress, slotsBody}
 use Rattle.model.specs.Rules.{queued, queuedIn}
 use Rattle.model.specs.Memory.{at, readQueue, readLane, sizes, state}
-use Rattle.laws.specs.Counts.{length-at-most}
+use Rattle.laws.specs.Repeats.{length-at-most}
 use Rattle.laws.specs.Sums.{sum, sum-of-map}
 use Rattle.representation.specs.Reading.{state-lane}
 use Rattle.representation.specs.Memories.{Sound}
 use Rattle.changes.specs.Shape.{wellFormed-shape}
-use Rattle.changes.specs.Queues.{Part, next, current, done, Queue, free, global, lane, queueOf, partAt, queue-le}
+use Rattle.changes.specs.Queues.{Part, next, current, done, Queue, free, global, lane, queueOf, partAt}
+use Rattle.changes.specs.QueueStates.{queue-le}
 use Rattle.changes.specs.QueueChanges.{queue-below, queues-once}
 use Rattle.access.specs.Ways.{wellFormed, inRange, long}
 use Rattle.laws.specs.Loops.{sumBelow, sumBelow-few}

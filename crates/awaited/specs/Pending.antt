@@ -17,7 +17,8 @@ use Rattle.model.specs.Engine.{runs}
 use Rattle.model.specs.Rules.{pendingFrom}
 use Rattle.model.specs.Memory.{at, flag, contents, maskWord, isNotZero, laneMask, laneMasks, cabinetMask, sizes, state}
 use Rattle.laws.specs.Lists.{length-map-from}
-use Rattle.laws.specs.Masks.{trues, firstTrue, firstTrue-lt, some, mask-zero}
+use Rattle.laws.specs.Masks.{some, mask-zero}
+use Rattle.laws.specs.MaskFlags.{trues, firstTrue, firstTrue-lt}
 use Rattle.masks.specs.Bits.{width, bits}
 use Rattle.masks.proofs.BitLaws.{ones-trues, trailing-firstTrue, firstTrue-mask}
 use Rattle.representation.specs.Fields.{top, mask}

@@ -15,7 +15,8 @@ use Rattle.model.specs.Lists.{update, concat, first, count, successor, successo
 use Rattle.laws.specs.Tests.{same, other, decide, eqb-self}
 use Rattle.laws.specs.Lists.{getD-update-same}
 use Rattle.laws.specs.Counts.{mark, mark-self, mark-other, count-self, count-without, count-swapped, count-concat-update, count-concat-getD}
-use Rattle.laws.specs.Successors.{beforeIn, beforeIn-self, beforeIn-in, first-without, successor-without, successorIn-update, successorIn-one, successorIn-out}
+use Rattle.laws.specs.Successors.{successorIn-update, successorIn-one, successorIn-out}
+use Rattle.laws.specs.Removals.{beforeIn, beforeIn-self, beforeIn-in, first-without, successor-without}
 use Rattle.chains.proofs.Swaps.{first-swapped, successor-swapped}
 
 -- the link of slot j

@@ -2,5 +2,7 @@
 mod Swaps
 pub mod SeekLaws
 pub mod ChainLaws
+pub mod UnlinkLaws
+pub mod OtherChains
 pub mod AllChains
 pub mod OutcomeLaws

@@ -13,7 +13,7 @@ use Rattle.model.specs.State.{Product}
 use Rattle.model.specs.Table.{productAt, slotIn}
 use Rattle.model.specs.Memory.{at, walk}
 use Rattle.laws.specs.Tests.{same, other, decide, eqb-self}
-use Rattle.laws.specs.Successors.{beforeIn}
+use Rattle.laws.specs.Removals.{beforeIn}
 use Rattle.laws.specs.Walks.{stop, on, step, walk-stop, walk-on}
 use Rattle.chains.specs.declared.Found.{Found}
 use Rattle.chains.specs.Chain.{linkAddress, codeWords, foundAt, seek}

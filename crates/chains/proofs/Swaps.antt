@@ -9,7 +9,7 @@ use lib.Dec.{eqb}
 use borrow.Author.Tests.{eq-eqb, ne-eqb}
 use Rattle.model.specs.Lists.{first, count, successor, swapped}
 use Rattle.laws.specs.Tests.{same, other, decide, eqb-self}
-use Rattle.laws.specs.Successors.{beforeIn, beforeIn-not}
+use Rattle.laws.specs.Removals.{beforeIn, beforeIn-not}
 
 pub first-swapped : (xs : List ℕ) (o s e : ℕ) → count o xs ≡ 1 → count e xs ≡ 0 → first (swapped o s xs) ≡ cond (eqb e (beforeIn o xs e)) s (first xs)
 unfolding count first swapped

@@ -1,4 +1,4 @@
--- Which slots the words of a chain stand for. The laws of ChainLaws say so of each function of Chain; callers join it with the state.
+-- Which slots the words of a chain stand for. ChainLaws and UnlinkLaws say so of the functions of Chain; callers join it with the state.
 use Prim.Native.Nat.{ℕ, _+_, _*_, _≤_, _<_}
 use mathlib.Core.Bool.{cond}
 use mathlib.Core.Path.{_≡_}

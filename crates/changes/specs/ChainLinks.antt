@@ -17,7 +17,7 @@ use Rattle.model.specs.Table.{linkOf}
 use Rattle.laws.specs.Tests.{same, other, decide}
 use Rattle.laws.specs.Lists.{getD-update}
 use Rattle.laws.specs.Counts.{mark, count-without, count-swapped, count-concat-update, count-concat-getD}
-use Rattle.laws.specs.Successors.{beforeIn, beforeIn-in}
+use Rattle.laws.specs.Removals.{beforeIn, beforeIn-in}
 use Rattle.chains.proofs.AllChains.{unlink-head, unlink-links, replace-head, replace-links}
 use Rattle.changes.specs.Shape.{Shape}
 use Rattle.changes.specs.Chains.{headsWith, chainLinksWith}

@@ -16,8 +16,10 @@ use Rattle.model.specs.Rules.{outcome}
 use Rattle.model.specs.Memory.{at, walk, slotWords, wholeOf}
 use Rattle.laws.specs.Tests.{clash}
 use Rattle.laws.specs.Lists.{length-map-from, getD-map-below}
-use Rattle.laws.specs.Counts.{count-concat-getD, length-at-most}
-use Rattle.laws.specs.Successors.{successorIn-one, beforeIn}
+use Rattle.laws.specs.Counts.{count-concat-getD}
+use Rattle.laws.specs.Repeats.{length-at-most}
+use Rattle.laws.specs.Successors.{successorIn-one}
+use Rattle.laws.specs.Removals.{beforeIn}
 use Rattle.laws.specs.Walks.{linked, walk-back}
 use Rattle.representation.specs.Fields.{slot}
 use Rattle.representation.specs.Places.{present-in}

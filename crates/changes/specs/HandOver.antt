@@ -14,7 +14,8 @@ use Rattle.laws.specs.Lists.{update-update}
 use Rattle.queues.specs.Queue.{joined}
 use Rattle.changes.specs.Shows.{Shows, shows-then, stored-then}
 use Rattle.changes.specs.Shape.{Shape}
-use Rattle.changes.specs.Queues.{Queue, Part, next, current, done, global, lane, atPart, queueOf, withQueue, joinedState, endsAt, queueOf-other}
+use Rattle.changes.specs.Queues.{Queue, Part, next, current, done, global, lane, atPart, queueOf, withQueue, joinedState, endsAt}
+use Rattle.changes.specs.QueuePlaces.{queueOf-other}
 use Rattle.changes.specs.QueueJoins.{join-queues}
 use Rattle.changes.specs.QueueShapes.{shape-join}
 

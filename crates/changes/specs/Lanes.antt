@@ -16,7 +16,8 @@ use Rattle.model.specs.Rules.{withLane}
 use Rattle.model.specs.Memory.{laneWords, slotWords, queuesOf, laneQueues}
 use Rattle.model.specs.Calls.{stored}
 use Rattle.laws.specs.Tests.{and-false-right, eqb-self, same, other, decide}
-use Rattle.laws.specs.Lists.{Each, length-update, getD-set, getD-update-same, getD-update-other}
+use Rattle.laws.specs.Lists.{length-update, getD-set, getD-update-same, getD-update-other}
+use Rattle.laws.specs.Elements.{Each}
 use Rattle.representation.specs.Fields.{Field, top, head, end, mask, lane, slot, value}
 use Rattle.representation.specs.Writes.{Writes, put, writes-none, writes-put, writes-done}
 use Rattle.representation.specs.Changes.{laneMask-kept, top-kept}

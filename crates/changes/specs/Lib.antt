@@ -8,8 +8,12 @@ pub mod Shape
 pub mod Puts
 -- queues by name
 pub mod Queues
+pub mod QueuePlaces
+pub mod QueueStates
+pub mod QueueEnds
 pub mod QueueFields
 pub mod QueueChanges
+pub mod QueueTakes
 pub mod QueueJoins
 pub mod QueueShapes
 -- chains and slots
@@ -21,6 +25,8 @@ pub mod Find
 pub mod ChainShapes
 -- add, replace, delete and hand-back
 pub mod CallSteps
+pub mod AddWords
+pub mod DeleteWords
 pub mod Calls
 -- the engine's words: generations and masks; a lane's own words; begin, end, on, start, pass and step
 pub mod Engines

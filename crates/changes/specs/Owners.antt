@@ -14,13 +14,15 @@ use Rattle.model.specs.Layout.{globalGenerationAt, generationAt, laneAddress, s
 use Rattle.model.specs.Engine.{freshLane, laneAt, setQueues, withLanes, withGlobal, settled, batched}
 use Rattle.model.specs.Rules.{withEngine, withLane}
 use Rattle.model.specs.Calls.{stored}
-use Rattle.laws.specs.Lists.{update-update, isEmpty-true}
+use Rattle.laws.specs.Lists.{update-update}
+use Rattle.laws.specs.Elements.{isEmpty-true}
 use Rattle.queues.specs.Queue.{joined}
 use Rattle.laws.specs.Updates.{update-same, update-alike}
 use Rattle.changes.specs.Shows.{Shows, shows-then, stored-then}
 use Rattle.changes.specs.Shape.{LaneAtEach, Shape}
 use Rattle.changes.specs.Queues.{Part, next, current, done, Queue, global, lane, Named, partOf, withPart, atPart, queueOf}
-use Rattle.changes.specs.Queues.{withQueue, joinedState, endsAt, lanes-withQueue}
+use Rattle.changes.specs.Queues.{withQueue, joinedState, endsAt}
+use Rattle.changes.specs.QueueStates.{lanes-withQueue}
 use Rattle.changes.specs.QueueJoins.{join-queues}
 use Rattle.changes.specs.QueueShapes.{shape-join}
 use Rattle.changes.specs.Engines.{withGeneration, atGeneration, write-global-generation}

@@ -22,10 +22,14 @@ use Rattle.laws.specs.Updates.{update-commutes}
 use Rattle.changes.specs.Shows.{Shows, stored-shown}
 use Rattle.changes.specs.Shape.{Shape}
 use Rattle.changes.specs.Puts.{linked, put-over}
-use Rattle.changes.specs.Queues.{Queue, Named, queueOf, withQueue, joinedState, endsAt, position, position-apart, allQueues-withQueue, allQueues-at}
-use Rattle.changes.specs.Queues.{position-inside, withQueue-same, lanes-withQueue}
-use Rattle.changes.specs.QueueFields.{firstField, lastField, first-shown, last-shown, linksWith, value-withQueue, linked-over}
-use Rattle.changes.specs.QueueChanges.{few-none, queues-once, first-below, followedValue, run-writes, followed-values, first-writes, last-writes}
+use Rattle.changes.specs.Queues.{Queue, Named, queueOf, withQueue, joinedState, endsAt}
+use Rattle.changes.specs.QueuePlaces.{position, position-apart, allQueues-withQueue, allQueues-at}
+use Rattle.changes.specs.QueuePlaces.{position-inside}
+use Rattle.changes.specs.QueueStates.{withQueue-same, lanes-withQueue}
+use Rattle.changes.specs.QueueEnds.{firstField, lastField, first-shown, last-shown}
+use Rattle.changes.specs.QueueFields.{linksWith, value-withQueue, linked-over}
+use Rattle.changes.specs.QueueChanges.{few-none, queues-once, first-below, followedValue, run-writes, followed-values}
+use Rattle.changes.specs.QueueTakes.{first-writes, last-writes}
 
 -- queue r is appended to queue q, and is empty afterwards
 module _ (s : State) (m : List ℕ) (shows : Shows m s) (w : Shape s) (q r : Queue) (namedQ : Named (s .sizes) q) (namedR : Named (s .sizes) r) (apart : q ≢ r) where

@@ -10,7 +10,9 @@ use Rattle.model.specs.State.{State}
 use Rattle.laws.specs.Tests.{same, other, decide}
 use Rattle.laws.specs.Counts.{mark-self, count-first, count-append}
 use Rattle.changes.specs.Shape.{Shape, chained, queued}
-use Rattle.changes.specs.Queues.{Queue, Named, queueOf, withQueue, joinedState, queueOf-other, lanes-withQueue, queued-withQueue, shape-withQueue, queue-le}
+use Rattle.changes.specs.Queues.{Queue, Named, queueOf, withQueue, joinedState}
+use Rattle.changes.specs.QueuePlaces.{queueOf-other}
+use Rattle.changes.specs.QueueStates.{lanes-withQueue, queued-withQueue, shape-withQueue, queue-le}
 
 -- a slot that stood nowhere is appended
 module _ (s : State) (w : Shape s) (q : Queue) (named : Named (s .sizes) q) (o : ℕ) (inside : o < s .sizes .slots) (out : chained o s + queued o s ≡ 0) where

@@ -6,7 +6,8 @@ use Rattle.model.specs.Rules.{Answer as Reply, Op, refused, answer, next}
 use Rattle.model.specs.Memory.{state}
 use Rattle.model.specs.Calls.{Call, set-up, on-state, refusalOf, leftAll}
 use Rattle.model.specs.Ledger.{Event, events, Demand, RefusesSetUps}
-use Rattle.representation.specs.Memories.{Sound, refused-keeps, refused-reply, reply-legal, left-sound, left-state}
+use Rattle.representation.specs.MemoryCalls.{refused-keeps, refused-reply, reply-legal, left-state}
+use Rattle.representation.specs.Memories.{Sound, left-sound}
 use Rattle.history.specs.Demand3.{demand3}
 use Rattle.access.specs.declared.Answer.{Answer}
 use Rattle.access.specs.Contract.{five, Does}

@@ -3,10 +3,14 @@
 -- grace periods: begin, end and request; their words, laws of those, and the change of the state
 pub mod Period
 pub mod PeriodWords
+pub mod StartLaws
 pub mod PeriodLaws
 -- the release of a lane
 pub mod Release
 pub mod ReleaseWords
+pub mod ReleaseBits
+pub mod ReleaseMasks
+pub mod ReleaseStores
 pub mod ReleaseLaws
 -- the advance of an owner: its words, laws of those, its steps on the state, what its tests read, and the change of the state
 pub mod Advance

@@ -17,7 +17,8 @@ use Rattle.model.specs.Layout.{maxCabinets, currentGenerationAt, largestGenerat
 use Rattle.model.specs.Memory.{at, flag, isNotZero}
 use Rattle.laws.specs.Tests.{same, other, decide}
 use Rattle.laws.specs.Lists.{map-from-alike}
-use Rattle.laws.specs.Masks.{shl-bit, mask-from-lt, mask-from-suc}
+use Rattle.laws.specs.Masks.{mask-from-lt, mask-from-suc}
+use Rattle.laws.specs.MaskFlags.{shl-bit}
 use Rattle.masks.specs.Bits.{withBit}
 use Rattle.masks.proofs.BitLaws.{or-withBit}
 use Rattle.lanes.specs.Record.{onlineBit}

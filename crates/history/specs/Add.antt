@@ -18,9 +18,10 @@ use Rattle.laws.specs.Counts.{mark-self, count-first, count-cons}
 use Rattle.representation.specs.Frame.{queued}
 use Rattle.representation.specs.Places.{in-added}
 use Rattle.representation.specs.WellFormed.{WellFormed, chained}
-use Rattle.history.specs.Invariant.{something, searched, Invariant, inChain}
+use Rattle.history.specs.Halves.{something, searched}
+use Rattle.history.specs.Invariant.{Invariant, inChain}
 use Rattle.history.specs.Chains.{SameOr, searched-here}
-use Rattle.history.specs.Trail.{Turn, turn-others}
+use Rattle.history.specs.TrailLeaves.{Turn, turn-others}
 use Rattle.history.specs.Entries.{search-drops-other, search-made, search-made-other}
 use Rattle.history.specs.Slots.{standing-once, retains-queued}
 use Rattle.history.specs.Respects.{Respects, looks-kept, trail-kept, looking-kept, sections-same, outs-same, Keeps}

@@ -14,10 +14,11 @@ use Rattle.model.specs.Ledger.{Section, Search, Out, Ledger, isAnswer}
 use Rattle.laws.specs.Tests.{clash}
 use Rattle.representation.specs.Passed.{clear, call-cases}
 use Rattle.representation.specs.WellFormed.{chained}
-use Rattle.history.specs.Invariant.{Window, Looks, Looking, Invariant, Anchored, inChain, retained, Held, RetainedBy}
+use Rattle.history.specs.Halves.{Window, Looks, Looking, RetainedBy}
+use Rattle.history.specs.Invariant.{Invariant, Anchored, inChain, retained, Held}
 use Rattle.history.specs.Trail.{trail-anchored}
 use Rattle.history.specs.Slots.{retains-queued}
-use Rattle.history.specs.Lookups.{Stepped, ends, finds, goes, stepped-cases, answer-window}
+use Rattle.history.specs.LookupSteps.{Stepped, ends, finds, goes, stepped-cases, answer-window}
 use Rattle.history.specs.Calls.{inside}
 use Rattle.history.specs.Reclaim.{none-retains, was-out}
 

@@ -22,7 +22,8 @@ use Rattle.laws.specs.Sums.{sum}
 use Rattle.representation.specs.Frame.{inLane}
 use Rattle.representation.specs.Passed.{clear, call-cases, status}
 use Rattle.representation.specs.WellFormed.{WellFormed}
-use Rattle.history.specs.Invariant.{WaitsFor, SafeIn, searched, quiet, Invariant}
+use Rattle.history.specs.Halves.{WaitsFor, SafeIn, searched, quiet}
+use Rattle.history.specs.Invariant.{Invariant}
 use Rattle.history.specs.Respects.{Keeps}
 use Rattle.history.specs.Unseen.{keeps-same, keeps-pass, keeps-on, keeps-clock, keeps-off}
 use Rattle.history.specs.Sections.{keeps-begin, keeps-end}

@@ -17,7 +17,7 @@ use Rattle.laws.specs.Sums.{sum-getD}
 use Rattle.laws.specs.Counts.{mark-self, count-self, count-append, count-concat}
 use Rattle.laws.specs.Successors.{successor-append-right, successorIn-one, successorIn-out}
 use Rattle.representation.specs.WellFormed.{chained}
-use Rattle.history.specs.Invariant.{nothing, something, searched}
+use Rattle.history.specs.Halves.{nothing, something, searched}
 
 -- m and n are the same or not, with what the test says
 abbrev pub SameOr : ℕ → ℕ → Type 0

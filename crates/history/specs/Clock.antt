@@ -10,12 +10,13 @@ use Rattle.model.specs.State.{held, Queues, Lane, Engine, isHeld}
 use Rattle.model.specs.Engine.{freshLane, laneAt, setPending, setQueues, withLargest, withGlobal, atLane, runs, started, settled, ready, target}
 use Rattle.model.specs.Engine.{batched, requested, advancedLane, advancedGlobal, quiesced, sampled, clocked, taken, emptied, wentOff, differs}
 use Rattle.laws.specs.Tests.{clash, and-true, cond-cases, same-self}
-use Rattle.laws.specs.Lists.{any-false-intro}
+use Rattle.laws.specs.Elements.{any-false-intro}
 use Rattle.laws.specs.Generations.{later-self, later-up, up-later, up-word}
 use Rattle.representation.specs.Requests.{none-pending, requested-lane, requested-global, raised}
-use Rattle.history.specs.Invariant.{this, following, SafeIn, Asked, now, soon, quiet, Grace}
-use Rattle.history.specs.Grace.{safe-mono, safe-raised, safe-settled, safe-taken, MayBecome, grace-lane, grace-global}
-use Rattle.history.specs.Grace.{started-awaited, grace-started, grace-released}
+use Rattle.history.specs.Halves.{this, following, SafeIn, Asked, now, soon, quiet, Grace}
+use Rattle.history.specs.SafeQueues.{safe-mono, safe-raised, safe-settled, safe-taken}
+use Rattle.history.specs.Grace.{MayBecome, grace-lane, grace-global}
+use Rattle.history.specs.GracePeriods.{started-awaited, grace-started, grace-released}
 
 -- the engine keeps the grace period, and the queues q would be safe in it
 pub record GraceWith (W : ℕ → ℕ → Type 0) (e : Engine) (q : Queues) : Type 0 where

@@ -8,7 +8,7 @@ use Rattle.model.specs.Rules.{fresh}
 use Rattle.model.specs.Calls.{Call, set-up, sized, refusalOf, replyOf, reply, left}
 use Rattle.model.specs.Ledger.{ledgerFrom, events, RefusesSetUps, Demand3}
 use Rattle.representation.specs.Fresh.{fresh-wellFormed}
-use Rattle.representation.specs.Memories.{setUp-accepted, left-setUp}
+use Rattle.representation.specs.MemoryCalls.{setUp-accepted, left-setUp}
 use Rattle.history.specs.Calls.{invariant-fresh}
 use Rattle.history.specs.Stands.{Stands, stands-stored}
 use Rattle.history.specs.Lists.{At}

@@ -10,7 +10,7 @@ use Rattle.model.specs.Lists.{drops}
 use Rattle.model.specs.Rules.{accepted}
 use Rattle.model.specs.Ledger.{Entry, ofCode, searchIn}
 use Rattle.laws.specs.Tests.{eqb-self, same-or}
-use Rattle.history.specs.Invariant.{nothing}
+use Rattle.history.specs.Halves.{nothing}
 use Rattle.history.specs.Chains.{SameOr}
 
 -- another code's entry stays

@@ -10,7 +10,7 @@ use Rattle.model.specs.Memory.{state}
 use Rattle.model.specs.Calls.{Call, set-up, on-state, reply, left, leftAll}
 use Rattle.model.specs.Ledger.{Section, Ledger, Event, fedCall, ledger, events, RefusesSetUps}
 use Rattle.representation.specs.Next.{next-wellFormed}
-use Rattle.representation.specs.Memories.{refused-keeps}
+use Rattle.representation.specs.MemoryCalls.{refused-keeps}
 use Rattle.history.specs.Invariant.{Invariant, Held}
 use Rattle.history.specs.Respects.{Respects, held-kept, Keeps}
 use Rattle.history.specs.Unseen.{keeps-same}

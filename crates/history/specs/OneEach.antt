@@ -11,7 +11,7 @@ use Rattle.model.specs.Rules.{Op, add, replace, delete, begin, end, start, step
 use Rattle.model.specs.Calls.{Call, set-up, on-state}
 use Rattle.model.specs.Ledger.{Entry, Search, Out, Ledger, searchOf, ofCode, ofSlot, entryOf, isAnswer, fed, fedCall, Event, ledgerFrom, ledger}
 use Rattle.laws.specs.Tests.{clash, cond-cases}
-use Rattle.laws.specs.Lists.{of-drops}
+use Rattle.laws.specs.Elements.{of-drops}
 
 module _ {A : Type 0} (key : A → ℕ) where
   -- no two have one key

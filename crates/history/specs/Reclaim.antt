@@ -15,12 +15,14 @@ use Rattle.model.specs.Table.{blank, chainOf, reclaimed}
 use Rattle.model.specs.Rules.{laneOf, with, lessDone, reclaiming, fromGlobal, handedBack, lessHandedBack}
 use Rattle.model.specs.Ledger.{Section, Ledger, ofSlot, slotBack}
 use Rattle.laws.specs.Tests.{same-or}
-use Rattle.laws.specs.Lists.{update-cases, of-drops, to-drops}
+use Rattle.laws.specs.Lists.{update-cases}
+use Rattle.laws.specs.Elements.{of-drops, to-drops}
 use Rattle.laws.specs.Counts.{mark, mark-self, count-first}
 use Rattle.representation.specs.Frame.{queued}
 use Rattle.representation.specs.Places.{in-handed}
 use Rattle.representation.specs.WellFormed.{WellFormed, chained}
-use Rattle.history.specs.Invariant.{Retains, Waits, SafeIn, OutOf, Outs, Grace, Invariant, inChain, RetainedBy, WaitsFor}
+use Rattle.history.specs.Halves.{Retains, Waits, SafeIn, Grace, RetainedBy, WaitsFor}
+use Rattle.history.specs.Invariant.{OutOf, Outs, Invariant, inChain}
 use Rattle.history.specs.Grace.{grace-lane, grace-global, grace-wider}
 use Rattle.history.specs.Chains.{SameOr, searched-agree}
 use Rattle.history.specs.Trail.{Kept, agree-chain}

@@ -10,7 +10,8 @@ use Rattle.model.specs.Rules.{Answer}
 use Rattle.model.specs.Ledger.{Section, Search, Out, Ledger}
 use Rattle.representation.specs.Frame.{queued}
 use Rattle.representation.specs.WellFormed.{chained}
-use Rattle.history.specs.Invariant.{Window, Trail, Looks, Looking, Sections, Outs, Invariant, Anchored, inChain, retained, Held, RetainedBy}
+use Rattle.history.specs.Halves.{Window, Trail, Looks, Looking, RetainedBy}
+use Rattle.history.specs.Invariant.{Sections, Outs, Invariant, Anchored, inChain, retained, Held}
 use Rattle.history.specs.Slots.{retains-map}
 use Rattle.history.specs.Trail.{Stay, Kept, Suffixes, trail-suffix}
 

@@ -15,16 +15,18 @@ use Rattle.model.specs.Table.{productAt, chainOf}
 use Rattle.model.specs.Rules.{with, retired, retiring, laneOf}
 use Rattle.model.specs.Ledger.{Section, Out, Entry, Ledger, ofSlot, searchIn}
 use Rattle.laws.specs.Tests.{same-or}
-use Rattle.laws.specs.Lists.{update-cases, of-drops, to-drops}
+use Rattle.laws.specs.Lists.{update-cases}
+use Rattle.laws.specs.Elements.{of-drops, to-drops}
 use Rattle.laws.specs.Counts.{mark-self, mark-other, count-append}
 use Rattle.representation.specs.Frame.{queued}
 use Rattle.representation.specs.Places.{in-retired}
 use Rattle.representation.specs.WellFormed.{WellFormed, chained}
-use Rattle.history.specs.Invariant.{Retains, RetainedBy, Waits, WaitsFor, searched, Window, Trail, OutOf, Outs, Grace, Invariant}
+use Rattle.history.specs.Halves.{Retains, RetainedBy, Waits, WaitsFor, searched, Window, Trail, Grace}
+use Rattle.history.specs.Invariant.{OutOf, Outs, Invariant}
 use Rattle.history.specs.Invariant.{inChain, retained}
 use Rattle.history.specs.Grace.{grace-lane, Newly, grace-wider}
 use Rattle.history.specs.Chains.{SameOr, chained-at}
-use Rattle.history.specs.Trail.{Leaves, trail-leaves}
+use Rattle.history.specs.TrailLeaves.{Leaves, trail-leaves}
 use Rattle.history.specs.Slots.{standing-once, reading-online, retains-queued, retains-map}
 use Rattle.history.specs.Respects.{Respects, window-later, looks-kept, looking-kept, sections-same, Keeps}
 

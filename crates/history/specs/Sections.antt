@@ -14,9 +14,11 @@ use Rattle.model.specs.Engine.{freshLane, laneAt, setReading, atLane}
 use Rattle.model.specs.Rules.{laneOf, withLane}
 use Rattle.model.specs.Ledger.{Section, Ledger, sectionOf, sectionOpened, sectionEnded}
 use Rattle.laws.specs.Tests.{clash, same-or}
-use Rattle.laws.specs.Lists.{update-cases, getD-update-same, getD-update-other, of-drops, to-drops}
+use Rattle.laws.specs.Lists.{update-cases, getD-update-same, getD-update-other}
+use Rattle.laws.specs.Elements.{of-drops, to-drops}
 use Rattle.representation.specs.WellFormed.{WellFormed}
-use Rattle.history.specs.Invariant.{Waits, OpenOn, Sections, Grace, Invariant, WaitsFor}
+use Rattle.history.specs.Halves.{Waits, Grace, WaitsFor}
+use Rattle.history.specs.Invariant.{OpenOn, Sections, Invariant}
 use Rattle.history.specs.Grace.{grace-same, grace-wider}
 use Rattle.history.specs.Chains.{SameOr}
 use Rattle.history.specs.Slots.{queued-lane, retains-map, waits-map}

@@ -17,7 +17,8 @@ use Rattle.laws.specs.Sums.{sum-update-same}
 use Rattle.model.specs.Rules.{laneOf}
 use Rattle.representation.specs.Frame.{inLane, queued}
 use Rattle.representation.specs.WellFormed.{WellFormed, standing}
-use Rattle.history.specs.Invariant.{Retains, Waits, Outs}
+use Rattle.history.specs.Halves.{Retains, Waits}
+use Rattle.history.specs.Invariant.{Outs}
 
 module _ {s : State} (w : WellFormed s) where
   -- each slot stands in at most one chain or queue

@@ -14,7 +14,7 @@ use Rattle.representation.specs.Passed.{sizes-next}
 use Rattle.representation.specs.WellFormed.{WellFormed}
 use Rattle.representation.specs.Next.{next-wellFormed}
 use Rattle.representation.specs.Round.{round}
-use Rattle.representation.specs.Memories.{reply-legal}
+use Rattle.representation.specs.MemoryCalls.{reply-legal}
 
 -- memory m holds the well-formed state s
 pub record Stands (s : State) (m : List ℕ) : Type 0 where

@@ -9,7 +9,8 @@ use Rattle.model.specs.Ledger.{Ledger}
 use Rattle.laws.specs.Tests.{clash}
 use Rattle.representation.specs.Frame.{Frame, frame-refl, frame-lane, frame-clocked, frame-wentOff}
 use Rattle.representation.specs.WellFormed.{WellFormed}
-use Rattle.history.specs.Invariant.{Grace, Invariant, WaitsFor}
+use Rattle.history.specs.Halves.{Grace, WaitsFor}
+use Rattle.history.specs.Invariant.{Invariant}
 use Rattle.history.specs.Grace.{grace-same}
 use Rattle.history.specs.Clock.{grace-clocked, grace-wentOff}
 use Rattle.history.specs.Respects.{Respects, respects-still, looks-kept, trail-kept, looking-kept, sections-same, outs-same, Keeps}

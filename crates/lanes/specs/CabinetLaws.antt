@@ -14,7 +14,8 @@ use Rattle.model.specs.State.{Sizes}
 use Rattle.model.specs.Layout.{kinds, countLimit, quiescentAt, snapshotAt, laneLength, lanesBody, laneAddress}
 use Rattle.model.specs.Memory.{at, flag, readCounts}
 use Rattle.laws.specs.Lists.{length-update}
-use Rattle.laws.specs.Masks.{shl-bit, mask-from-suc}
+use Rattle.laws.specs.Masks.{mask-from-suc}
+use Rattle.laws.specs.MaskFlags.{shl-bit}
 use Rattle.laws.specs.Stores.{set-sets, sets-sets, update-sets, getD-part, part-update, part-set-sets}
 use Rattle.lanes.specs.Record.{recordAt, recordWords, recordStored, heldBit, withFlag, countedRecord, sampledRecord, droppedRecord}
 use Rattle.lanes.specs.RecordLaws.{recordStored-recordAt, recordAt-recordStored}

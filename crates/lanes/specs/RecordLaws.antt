@@ -15,7 +15,8 @@ use Rattle.model.specs.Layout.{kinds, countLimit, laneLength, quiescentAt, snap
 use Rattle.model.specs.Engine.{counted, setPending}
 use Rattle.model.specs.Memory.{at, flags, readCounts, laneWords, snapshotCount}
 use Rattle.laws.specs.Lists.{length-update}
-use Rattle.laws.specs.Masks.{and-bit, and-complement, mask-set, flag-mask}
+use Rattle.laws.specs.Masks.{flag-mask}
+use Rattle.laws.specs.MaskFlags.{and-bit, and-complement, mask-set}
 use Rattle.laws.specs.Stores.{getD-sets-below, getD-sets-above, map-sets, sets-same}
 use Rattle.lanes.specs.Offsets.{plus-1, plus-2, plus-3, plus-4, plus-5, plus-9, plus-10, plus-16, plus-18}
 use Rattle.lanes.specs.Record.{recordAt, recordWith, recordWords, recordStored, recordOf, withFlag, heldBit, withQuiescent, withSnapshot, countedRecord, sampledRecord, droppedRecord}

@@ -11,9 +11,11 @@ use lib.Count.{ones}
 use lib.Seq.{ext-getD}
 use Rattle.model.specs.Lists.{update, any, concat, from, mask, bit}
 use Rattle.laws.specs.Tests.{clash}
-use Rattle.laws.specs.Lists.{Each, getD-map-below, length-map-from, map-from-suc, any-append, getD-map-from}
+use Rattle.laws.specs.Lists.{getD-map-below, length-map-from, map-from-suc, getD-map-from}
+use Rattle.laws.specs.Elements.{Each, any-append}
 use Rattle.laws.specs.Sums.{sum, sum-append}
-use Rattle.laws.specs.Masks.{isTrue, some, trues, firstTrue, ones-mask}
+use Rattle.laws.specs.Masks.{isTrue, some}
+use Rattle.laws.specs.MaskFlags.{trues, firstTrue, ones-mask}
 
 -- ---- rows, one after another
 

@@ -1,143 +1,26 @@
 -- The arguments of a line: what the machine makes of each word after the first is what `asked` makes of their values, or the line is bad. Assumes nothing.
 use Prim.Native.Nat.{ℕ, suc, _+_, _-_, _*_, _^_, _≤_, _<_, min}
-use mathlib.Core.Bool.{Bool, true, false, cond}
+use mathlib.Core.Bool.{true, false, cond}
 use mathlib.Core.List.{List, [], _∷_, _++_, map, append-nil, append-assoc}
 use mathlib.Core.Logic.{_⊎_, inl, inr}
 use mathlib.Core.Path.{_≡_, refl, sym, ap, _∙_}
-use native.Mathlib.Nat.{le-trans}
 use native.Mathlib.Numerals.{add-one}
-use native.Mathlib.Decide.{decLt, decLe}
+use native.Mathlib.Decide.{decLt}
 use native.Mathlib.Omega.{arith}
 use lib.ListN.{length, take, set, length-set, length-append, length-take}
 use lib.Seq.{take-suc-set}
-use lib.Dec.{leb, ltb}
-use borrow.Author.Tests.{le-ltb, le-leb, leb-true}
 use Rattle.model.specs.Lists.{isEmpty, all}
 use Rattle.listing_text.specs.Number.{isDigit, isNumber, value, valueFrom}
-use Rattle.listing_text.specs.Call.{Parsed, bad, limits, fit, callOf, asked}
-use Rattle.listing_text.specs.Machine.{arguing, refused, counted, grown, argued, ended, commandOf, within, askedOf, requested}
+use Rattle.listing_text.specs.Call.{Parsed, bad, limits, fit, asked}
+use Rattle.listing_text.specs.Machine.{arguing, refused, argued, ended, commandOf, requested}
 use Rattle.listing_text.specs.declared.line.Line.{Line}
 use Rattle.listing_text.specs.declared.line.Command.{Command}
-use Rattle.listing_text.specs.declared.line.Command.the-variants.{Setup, Add, Replace, Delete, Begin, End, Start, Step, Pass, Clock, On, Off, HandBack, Awaited, Unknown}
-use Rattle.listing_text.proofs.Bools.{either, true-false, and-left, and-right, and-true, and-false, cond-same}
+use Rattle.listing_text.proofs.Bools.{either, true-false, and-left, and-right, cond-same}
 use Rattle.listing_text.proofs.NumberLaws.{valueFrom-grows}
-use Rattle.listing_text.proofs.MachineLaws.{counted-below, counted-above, counted-digit, counted-full, grown-named, argued-empty, argued-more, argued-full, ended-named, grownAll, wordsFed, grownAll-bad, word-bad, end-bad}
+use Rattle.listing_text.proofs.MachineLaws.{argued-empty, argued-more, argued-full, ended-named, grownAll, wordsFed, word-bad, end-bad}
 use Rattle.listing_text.proofs.LimitLaws.{fit-count}
-
--- ---- limits
-
-limits-few : (c : Command) → length (limits c) ≤ 4
-unfolding limits
-limits-few Setup = omega arith
-limits-few Add = omega arith
-limits-few Replace = omega arith
-limits-few Delete = omega arith
-limits-few Begin = omega arith
-limits-few End = omega arith
-limits-few Start = omega arith
-limits-few Step = omega arith
-limits-few Pass = omega arith
-limits-few Clock = omega arith
-limits-few On = omega arith
-limits-few Off = omega arith
-limits-few HandBack = omega arith
-limits-few Awaited = omega arith
-limits-few Unknown = omega arith
-
-abbrev isNarrow : ℕ → Bool
-isNarrow l = leb l (2 ^ 64)
-
-limits-narrow : (c : Command) → all isNarrow (limits c) ≡ true
-unfolding limits all
-limits-narrow Setup = refl
-limits-narrow Add = refl
-limits-narrow Replace = refl
-limits-narrow Delete = refl
-limits-narrow Begin = refl
-limits-narrow End = refl
-limits-narrow Start = refl
-limits-narrow Step = refl
-limits-narrow Pass = refl
-limits-narrow Clock = refl
-limits-narrow On = refl
-limits-narrow Off = refl
-limits-narrow HandBack = refl
-limits-narrow Awaited = refl
-limits-narrow Unknown = refl
-
--- a number of more than 64 bits fits nowhere
-fit-wide : (ls us : List ℕ) (v : ℕ) (ws : List ℕ) → all isNarrow ls ≡ true → 2 ^ 64 ≤ v → fit ls (us ++ v ∷ ws) ≡ false
-unfolding fit all
-fit-wide [] [] v ws h k = refl
-fit-wide [] (u ∷ us) v ws h k = refl
-fit-wide (l ∷ ls) [] v ws h k =
-    let e : l ≤ 2 ^ 64 = leb-true l (2 ^ 64) (and-left (isNarrow l) (all isNarrow ls) h) in
-    rw (le-ltb v l (le-trans e k))
-fit-wide (l ∷ ls) (u ∷ us) v ws h k = and-false (ltb u l) (fit-wide ls us v ws (and-right (isNarrow l) (all isNarrow ls) h) k)
-
-asked-unfit : (c : Command) (ns : List ℕ) → fit (limits c) ns ≡ false → asked c ns ≡ bad
-unfolding asked
-asked-unfit c ns e = rw e
-
-pub asked-unknown : (ns : List ℕ) → asked Unknown ns ≡ bad
-unfolding asked callOf
-asked-unknown ns = cond-same (fit (limits Unknown) ns) bad
-
--- within four, the machine asks for what the numbers ask for
-askedOf-asked : (c : Command) (n : ℕ) (vs : List ℕ) → n ≤ 4 → askedOf c n vs ≡ asked c (take n vs)
-unfolding askedOf asked within
-askedOf-asked c n vs h = rw (le-leb n 4 h)
-
--- ---- an argument
-
--- a digit after v
-digit-read : (w n v : ℕ) (vs : List ℕ) (d : Bool) (b : ℕ) → isDigit b ≡ true → v * 10 + (b - 48) < 2 ^ 64 → grown (arguing w n vs v d) b ≡ arguing w n vs (v * 10 + (b - 48)) true
-digit-read w n v vs d b h k =
-    let lo : 48 ≤ b = leb-true 48 b (and-left (leb 48 b) (leb b 57) h) in
-    let hi : b ≤ 57 = leb-true b 57 (and-right (leb 48 b) (leb b 57) h) in
-    grown-named (arguing w n vs v d) b refl refl ∙ counted-digit (arguing w n vs v d) b lo hi (omega arith)
-
-digits-read : (w n v : ℕ) (vs : List ℕ) (x : List ℕ) → all isDigit x ≡ true → valueFrom v x < 2 ^ 64 → grownAll (arguing w n vs v true) x ≡ arguing w n vs (valueFrom v x) true
-unfolding grownAll all valueFrom
-digits-read w n v vs [] h k = refl
-digits-read w n v vs (b ∷ x) h k =
-    let g : v * 10 + (b - 48) ≤ valueFrom (v * 10 + (b - 48)) x = valueFrom-grows (v * 10 + (b - 48)) x in
-    let e : v * 10 + (b - 48) < 2 ^ 64 = omega arith in
-    ap (λ (l : Line). grownAll l x) (digit-read w n v vs true b (and-left (isDigit b) (all isDigit x) h) e)
-    ∙ digits-read w n (v * 10 + (b - 48)) vs x (and-right (isDigit b) (all isDigit x) h) k
-
--- a byte that makes the line bad
-grown-refused : (l : Line) (b : ℕ) (x : List ℕ) → grown l b ≡ refused l → grownAll l (b ∷ x) .bad ≡ true
-unfolding grownAll refused
-grown-refused l b x e = ap (λ (y : Line). grownAll y x .bad) e ∙ ap (λ (y : Line). y .bad) (grownAll-bad (refused l) x refl)
-
-no-digit : (w n v : ℕ) (vs : List ℕ) (d : Bool) (b : ℕ) → isDigit b ≡ false → grown (arguing w n vs v d) b ≡ refused (arguing w n vs v d)
-no-digit w n v vs d b h = grown-named (arguing w n vs v d) b refl refl ∙ go (decLe 48 b) (decLe b 57)
-  where
-    go : Dec (48 ≤ b) → Dec (b ≤ 57) → counted (arguing w n vs v d) b ≡ refused (arguing w n vs v d)
-    go (no p) q = counted-below (arguing w n vs v d) b (omega arith)
-    go (yes p) (no q) = counted-above (arguing w n vs v d) b p (omega arith)
-    go (yes p) (yes q) = absurd (true-false (isDigit b) (and-true (le-leb 48 b p) (le-leb b 57 q)) h)
-
-too-wide : (w n v : ℕ) (vs : List ℕ) (d : Bool) (b : ℕ) → isDigit b ≡ true → 2 ^ 64 ≤ v * 10 + (b - 48) → grown (arguing w n vs v d) b ≡ refused (arguing w n vs v d)
-too-wide w n v vs d b h k =
-    let lo : 48 ≤ b = leb-true 48 b (and-left (leb 48 b) (leb b 57) h) in
-    let hi : b ≤ 57 = leb-true b 57 (and-right (leb 48 b) (leb b 57) h) in
-    grown-named (arguing w n vs v d) b refl refl ∙ counted-full (arguing w n vs v d) b lo hi (omega arith)
-
--- a word that is no digits, or too large a number, makes the line bad
-digits-bad : (w n v : ℕ) (vs : List ℕ) (d : Bool) (x : List ℕ) → v < 2 ^ 64 → (all isDigit x ≡ true → 2 ^ 64 ≤ valueFrom v x) → grownAll (arguing w n vs v d) x .bad ≡ true
-unfolding grownAll all valueFrom
-digits-bad w n v vs d [] h k = absurd (let z : 2 ^ 64 ≤ v = k refl in omega arith)
-digits-bad w n v vs d (b ∷ x) h k = go (either (isDigit b)) (decLt (v * 10 + (b - 48)) (2 ^ 64)) (digits-bad w n (v * 10 + (b - 48)) vs true x)
-  where
-    go : (isDigit b ≡ true) ⊎ (isDigit b ≡ false) → Dec (v * 10 + (b - 48) < 2 ^ 64)
-        → (v * 10 + (b - 48) < 2 ^ 64 → (all isDigit x ≡ true → 2 ^ 64 ≤ valueFrom (v * 10 + (b - 48)) x) → grownAll (arguing w n vs (v * 10 + (b - 48)) true) x .bad ≡ true)
-        → grownAll (arguing w n vs v d) (b ∷ x) .bad ≡ true
-    go (inr f) j ih = grown-refused (arguing w n vs v d) b x (no-digit w n v vs d b f)
-    go (inl t) (yes j) ih =
-        ap (λ (l : Line). grownAll l x .bad) (digit-read w n v vs d b t j) ∙ ih j (λ e. k (and-true t e))
-    go (inl t) (no j) ih = grown-refused (arguing w n vs v d) b x (too-wide w n v vs d b t (omega arith))
+use Rattle.listing_text.proofs.ReachLaws.{limits-few, limits-narrow, fit-wide, asked-unfit, askedOf-asked}
+use Rattle.listing_text.proofs.DigitLaws.{digit-read, digits-read, digits-bad}
 
 -- ---- arguments
 

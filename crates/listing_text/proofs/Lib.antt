@@ -6,5 +6,7 @@ pub mod MachineLaws
 pub mod LimitLaws
 pub mod BlockLaws
 pub mod CommandLaws
+pub mod ReachLaws
+pub mod DigitLaws
 pub mod ArgumentLaws
 pub mod LineLaws

@@ -17,7 +17,8 @@ use Rattle.listing_text.specs.declared.line.Request.{Request}
 use Rattle.listing_text.specs.declared.line.Command.{Command}
 use Rattle.listing_text.proofs.Bools.{cond-same}
 use Rattle.listing_text.proofs.MachineLaws.{ended-unnamed, grownAll, wordsFed, word-bad}
-use Rattle.listing_text.proofs.ArgumentLaws.{asks, asked-unknown, arguments-read}
+use Rattle.listing_text.proofs.ReachLaws.{asked-unknown}
+use Rattle.listing_text.proofs.ArgumentLaws.{asks, arguments-read}
 use Rattle.listing_text.proofs.CommandLaws.{Commanded, Uncommanded, command-read}
 
 -- ---- words

@@ -4,7 +4,7 @@ ghost use mathlib.Core.Path.{_≡_};
 ghost use Prim.Native.Nat.{_<_};
 ghost use Rattle.model.specs.Word.{up as Word·up, down as Word·down, later as Word·later};
 ghost use Rattle.model.specs.Memory.{flag};
-ghost use Rattle.laws.specs.Masks.{trues, firstTrue};
+ghost use Rattle.laws.specs.MaskFlags.{trues, firstTrue};
 ghost use Rattle.masks.specs.Bits.{width, bits, withBit, withoutBit};
 
 // ---- masks

@@ -1,4 +1,4 @@
--- Which slots the words of a queue stand for. The laws of QueueLaws say so of each function of Queue; callers join it with the state.
+-- Which slots the words of a queue stand for. AppendLaws, JoinLaws and TakeLaws say so of the functions of Queue; callers join it with the state.
 use Prim.Native.Nat.{ℕ, _+_, _*_, _≤_, _<_}
 use mathlib.Core.Path.{_≡_}
 use mathlib.Core.Logic.{_≢_}

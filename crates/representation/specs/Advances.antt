@@ -13,7 +13,8 @@ use Rattle.model.specs.Engine.{freshLane, awaiting, isPending, laneAt, setQueue
 use Rattle.model.specs.Rules.{isOnline}
 use Rattle.laws.specs.Generations.{later-self, later-up, up-later, up-word}
 use Rattle.laws.specs.Tests.{clash, and-true, cond-cases, same-or}
-use Rattle.laws.specs.Lists.{update-cases, getD-update-same, getD-update-other, map-cases, map-cases-default, any-map, any-update-same}
+use Rattle.laws.specs.Lists.{update-cases, getD-update-same, getD-update-other}
+use Rattle.laws.specs.Elements.{map-cases, map-cases-default, any-map, any-update-same}
 use Rattle.representation.specs.Frame.{frame-requested}
 use Rattle.representation.specs.Requests.{none-pending, requested-lane, requested-global, raised}
 use Rattle.representation.specs.Ages.{none, now, soon, Strict, Loose, Clean, Level, rests, goes, Tidy, Disciplined, LooseGlobal, age-map, age-settled, loosen, level-anew, strict-anew, OffEmpty}

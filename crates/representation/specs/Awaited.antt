@@ -15,9 +15,11 @@ use Rattle.model.specs.Engine.{freshLane, isPending, laneAt, runs}
 use Rattle.model.specs.Rules.{pendingFrom}
 use Rattle.model.specs.Memory.{pendingAt, isNotZero, laneMask, cabinetMask}
 use Rattle.laws.specs.Tests.{not-not}
-use Rattle.laws.specs.Lists.{each-map, any-map, length-map-from, getD-map-below, map-map-from, map-from-alike, map-from-getD}
+use Rattle.laws.specs.Lists.{length-map-from, getD-map-below, map-map-from, map-from-alike, map-from-getD}
+use Rattle.laws.specs.Elements.{each-map, any-map}
 use Rattle.laws.specs.Sums.{sum, sum-of-map}
-use Rattle.laws.specs.Masks.{isTrue, some, trues, firstTrue, firstTrue-lt, getD-firstTrue, mask-zero, trailing-mask}
+use Rattle.laws.specs.Masks.{isTrue, some, mask-zero}
+use Rattle.laws.specs.MaskFlags.{trues, firstTrue, firstTrue-lt, getD-firstTrue, trailing-mask}
 use Rattle.laws.specs.Levels.{concat-rows, upper, trues-concat, firstTrue-concat, some-concat}
 use Rattle.representation.specs.Facts.{SizesFit}
 

@@ -10,7 +10,8 @@ use Rattle.model.specs.Word.{up}
 use Rattle.model.specs.Engine.{withCurrent, noQueues, freshLane, awaiting, isPending, emptied, laneAt, setPending, setOnline, withGlobal, atLane, runs, started, released, quiesced, sampled, clocked, taken, wentOff}
 use Rattle.model.specs.Rules.{isOnline}
 use Rattle.laws.specs.Tests.{and-true, cond-cases}
-use Rattle.laws.specs.Lists.{update-cases, getD-update-same, map-cases, any-update-same, any-update-alike}
+use Rattle.laws.specs.Lists.{update-cases, getD-update-same}
+use Rattle.laws.specs.Elements.{map-cases, any-update-same, any-update-alike}
 use Rattle.representation.specs.Frame.{ended-cases, frame-released}
 use Rattle.representation.specs.Ages.{none, old, now, soon, Strict, Clean, Disciplined, LooseAt, LooseGlobal, age-map, level-anew, strict-anew, OffEmpty}
 use Rattle.representation.specs.Advances.{tidy-advancedLane, tidy-advancedGlobal}

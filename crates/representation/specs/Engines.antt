@@ -10,7 +10,8 @@ use Rattle.model.specs.State.{Snapshot, unheld, held, Queues, Lane, Engine, isH
 use Rattle.model.specs.Engine.{freshLane, awaiting, isPending, emptied, laneAt, setPending, setQueues, setOnline, withCurrent, withLargest, withGlobal, atLane, runs, started, released, settled, ready, target, batched, requested, advancedLane, advancedGlobal, quiesced, sampled, clocked, taken, wentOff}
 use Rattle.model.specs.Rules.{isOnline}
 use Rattle.laws.specs.Tests.{clash, and-true, cond-cases}
-use Rattle.laws.specs.Lists.{update-cases, update-update, map-cases, any-update-same, any-true}
+use Rattle.laws.specs.Lists.{update-cases, update-update}
+use Rattle.laws.specs.Elements.{map-cases, any-update-same, any-true}
 use Rattle.representation.specs.Frame.{ended-cases}
 use Rattle.representation.specs.Requests.{raised}
 use Rattle.representation.specs.Ages.{none as noneA, old, now, soon, Strict, Clean, Disciplined, level-anew, strict-anew}

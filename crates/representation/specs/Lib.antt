@@ -16,6 +16,8 @@ pub mod WellFormed
 pub mod Ranges
 -- the sentences of legality
 pub mod Facts
+pub mod FactsSaid
+pub mod SentencesHold
 pub mod Sentences
 -- one address for each field, and stores by fields
 pub mod Fields
@@ -29,15 +31,25 @@ pub mod Represent
 pub mod Standing
 pub mod Periods
 pub mod Awaited
+pub mod RereadQueues
+pub mod RereadLanes
 pub mod Reread
+pub mod LawfulGenerations
+pub mod LawfulLanes
 pub mod Lawful
 pub mod Worded
 -- calls keep a state well-formed
 pub mod Engines
 pub mod Tables
+pub mod TableGifts
+pub mod NextLanes
 pub mod Next
 pub mod Fresh
 -- the theorems
+pub mod LegalGenerations
+pub mod LegalLanes
+pub mod LegalTable
 pub mod OfLegal
 pub mod Round
+pub mod MemoryCalls
 pub mod Memories

@@ -11,7 +11,8 @@ use Rattle.model.specs.Engine.{freshLane, isPending, laneAt, setPending, withCu
 use Rattle.model.specs.Rules.{isOnline}
 use Rattle.laws.specs.Generations.{later-self, up-later, up-word, up-up-later}
 use Rattle.laws.specs.Tests.{clash, same-or}
-use Rattle.laws.specs.Lists.{update-cases, getD-update-other, any-update-same, any-false-intro}
+use Rattle.laws.specs.Lists.{update-cases, getD-update-other}
+use Rattle.laws.specs.Elements.{any-update-same, any-false-intro}
 use Rattle.representation.specs.Frame.{ended-cases}
 use Rattle.representation.specs.Requests.{none-pending}
 use Rattle.representation.specs.Ages.{Strict, Loose, Level, rests, goes, Tidy, Disciplined, LooseAt, age-map, age-next, loosen, level-moving, OffEmpty}

@@ -13,7 +13,7 @@ use Rattle.model.specs.State.{Product}
 use Rattle.model.specs.Table.{slotIn, productAt}
 use Rattle.laws.specs.Tests.{same, other, decide, eqb-self}
 use Rattle.laws.specs.Counts.{count-self}
-use Rattle.laws.specs.Successors.{beforeIn}
+use Rattle.laws.specs.Removals.{beforeIn}
 
 module _ (ps : List Product) (c : ℕ) where
   abbrev codeIn : ℕ → ℕ

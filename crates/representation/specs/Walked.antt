@@ -14,8 +14,9 @@ use Rattle.model.specs.State.{laneCount}
 use Rattle.model.specs.Layout.{chainCount, headsAt, chainLinkAt, queueLinkAt}
 use Rattle.model.specs.Table.{linkOf}
 use Rattle.model.specs.Memory.{at, sizes, walk, slotField, slotWord, readChain, readChains, readLane, allQueues, laneQueues, state}
-use Rattle.laws.specs.Lists.{Each}
-use Rattle.laws.specs.Counts.{count-append, each-below, length-once, member-false}
+use Rattle.laws.specs.Elements.{Each}
+use Rattle.laws.specs.Counts.{count-append, each-below, member-false}
+use Rattle.laws.specs.Repeats.{length-once}
 use Rattle.laws.specs.Successors.{successorIn-out, successorIn-each}
 use Rattle.laws.specs.Walks.{walk-first, walk-below, walk-successor}
 use Rattle.representation.specs.WellFormed.{SlotOrNone}

@@ -17,7 +17,7 @@ use Rattle.chains.specs.declared.Found.{Found}
 use Rattle.chains.specs.Chain.{seek}
 use Rattle.changes.specs.Shape.{Shape, wellFormed-shape}
 use Rattle.changes.specs.Queues.{Queue, free, global, lane, next, current, done, Named, queueOf, endsAt}
-use Rattle.changes.specs.QueueFields.{first-shown}
+use Rattle.changes.specs.QueueEnds.{first-shown}
 use Rattle.changes.specs.QueueChanges.{empty-shown}
 use Rattle.changes.specs.ChainLinks.{old-inside}
 use Rattle.changes.specs.Find.{find-slot, slot-in-chain}
