@@ -186,17 +186,6 @@ pub fn write_fresh(m: &mut [u32], cabinets: u32, places: u32, slots: u32)
     );
 }
 
-// Cabinets 1 to 8, lanes per cabinet 1 to 8, slots 1 to 1,024.
-pub fn sizes_fit(cabinets: u32, places: u32, slots: u32) -> bool
-    ensures { λ r. ⌜ r ≡ sizesFit (sized cabinets places slots) ⌝ }
-{
-    (1 <= cabinets)
-        & ((cabinets <= words::MAX_CABINETS)
-            & ((1 <= places)
-                & ((places <= words::MAX_PLACES)
-                    & ((1 <= slots) & ((slots <= words::MAX_SLOTS) & true)))))
-}
-
 // The number of words of a table of these sizes.
 pub fn total_words(cabinets: u32, places: u32, slots: u32) -> u32
     requires { ⌜ sizesFit (sized cabinets places slots) ≡ true ⌝ }
@@ -210,7 +199,7 @@ pub fn total_words(cabinets: u32, places: u32, slots: u32) -> u32
 pub fn set_up(m: &mut [u32], cabinets: u32, places: u32, slots: u32) -> access::Answer
     ensures { λ r. ⌜ Does (set-up cabinets places slots) (now (m .entry)) r (now (m .exit)) ⌝ }
 {
-    if !sizes_fit(cabinets, places, slots) {
+    if !words::sizes_fit(cabinets, places, slots) {
         return access::refused(1);
     }
     let total = total_words(cabinets, places, slots);

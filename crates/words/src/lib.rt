@@ -3,6 +3,8 @@
 ghost use mathlib.Core.Path.{_≡_};
 ghost use Prim.Native.Nat.{_+_, _<_};
 ghost use lib.ListN.{length};
+ghost use Rattle.model.specs.Legal.{sizesFit};
+ghost use Rattle.model.specs.Calls.{sized};
 ghost use Rattle.model.specs.Memory.{wide, wholeOf, low as lowWord, high as highWord};
 
 // no slot, no lane
@@ -98,6 +100,18 @@ pub const CHAIN_LINK_AT: usize = MATERIAL_AT + 1;
 pub const QUEUE_LINK_AT: usize = CHAIN_LINK_AT + 1;
 
 pub const SLOT_LENGTH: usize = QUEUE_LINK_AT + 1;
+
+// ---- sizes
+
+// Cabinets 1 to 8, lanes per cabinet 1 to 8, slots 1 to 1,024.
+pub fn sizes_fit(cabinets: u32, places: u32, slots: u32) -> bool
+    ensures { λ r. ⌜ r ≡ sizesFit (sized cabinets places slots) ⌝ }
+{
+    (1 <= cabinets)
+        & ((cabinets <= MAX_CABINETS)
+            & ((1 <= places)
+                & ((places <= MAX_PLACES) & ((1 <= slots) & ((slots <= MAX_SLOTS) & true)))))
+}
 
 // ---- numbers
 

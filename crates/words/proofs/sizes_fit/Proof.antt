@@ -2,8 +2,8 @@
 use mathlib.Core.Path.{refl}
 use Rattle.model.specs.Lists.{every}
 use Rattle.model.specs.Legal.{sizesFit}
-use Rattle.set_up.proofs.sizes_fit.Statement.{statement}
-use Rattle.set_up.proofs.sizes_fit.Tie as tie
+use Rattle.words.proofs.sizes_fit.Statement.{statement}
+use Rattle.words.proofs.sizes_fit.Tie as tie
 
 returns : tie.Need-returns
 unfolding sizesFit every
