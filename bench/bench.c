@@ -3,8 +3,9 @@
  * loop that reads every word of the table once and follows every link once. Each time
  * is the least of many rounds; printed are the plain loop's time and the ratios.
  *
- * Built with -DWITH_CALLS, the calls step and awaited of the library are measured;
- * otherwise the legality check alone, which each of them makes first.
+ * Built with -DTEST_LIBRARY, the calls of the library are measured: step and awaited
+ * on tables of several sizes, then each of the fourteen on the full table. Otherwise
+ * the legality check alone, which each call but set-up makes first.
  */
 #define _POSIX_C_SOURCE 199309L
 #include <stdbool.h>
@@ -14,14 +15,10 @@
 #include <string.h>
 #include <time.h>
 
+#include "calls.h"
 #include "reference.h"
 
-#ifndef WITH_CALLS
-extern bool pt_legal(const uint32_t *memory, size_t words);
-#endif
-
-enum { WORDS = 7456, ANSWER = 5, ROUNDS = 200, ROUND_NANOSECONDS = 200000 };
-#define NONE 0xffffffffu
+enum { WORDS = 7456, ANSWER = 5, ROUNDS = 200, ROUND_NANOSECONDS = 200000, CHANGES = 64 };
 
 /* How the slots of a table are used. */
 enum use { EVEN, ONE_CHAIN, HALF_RETIRED, COLLIDING, USES };
@@ -35,13 +32,21 @@ static uint32_t answer[ANSWER];
 static size_t total;
 static volatile uint32_t sink;
 
+static void fail(const char *what, const char *name)
+{
+	fprintf(stderr, "bench: %s: %s\n", name, what);
+	exit(1);
+}
+
 static void must(uint32_t status)
 {
-	if (status != 0) {
-		fprintf(stderr, "bench: a call was refused with %u\n", (unsigned)status);
-		exit(1);
-	}
+	if (status != 0)
+		fail("refused", "a call that builds a table");
 }
+
+#define LENT memory, WORDS, answer, ANSWER
+
+/* ---- tables, built by the C version */
 
 /* Code @n of the table: a code a chain in turn, or all of one chain. */
 static uint64_t code_of(enum use use, uint32_t n)
@@ -56,19 +61,25 @@ static uint64_t code_of(enum use use, uint32_t n)
 	}
 }
 
-#define LENT memory, WORDS, answer, ANSWER
-
-/* A legal table of these sizes, with lane 0's lookup running. */
-static void build(uint32_t cabinets, uint32_t lanes, uint32_t slots, enum use use)
+/* A table of these sizes, with records in its first @used slots. */
+static void fill(uint32_t cabinets, uint32_t lanes, uint32_t slots, uint32_t used, enum use use)
 {
-	uint32_t count = cabinets * lanes;
 	uint32_t n;
 
 	memset(memory, 0, sizeof(memory));
 	must(ref_setup(LENT, cabinets, lanes, slots));
 	total = answer[1];
-	for (n = 0; n < slots; n++)
-		must(ref_add(LENT, n % count, code_of(use, n), n, n % 8));
+	for (n = 0; n < used; n++)
+		must(ref_add(LENT, n % (cabinets * lanes), code_of(use, n), n, n % 8));
+}
+
+/* All slots used, and lane 0's lookup running. */
+static void build(uint32_t cabinets, uint32_t lanes, uint32_t slots, enum use use)
+{
+	uint32_t count = cabinets * lanes;
+	uint32_t n;
+
+	fill(cabinets, lanes, slots, slots, use);
 	if (use == HALF_RETIRED)
 		for (n = 0; n < slots; n += 2) {
 			must(ref_delete(LENT, n / 2 % count, code_of(use, n)));
@@ -77,11 +88,43 @@ static void build(uint32_t cabinets, uint32_t lanes, uint32_t slots, enum use us
 		}
 	must(ref_begin(LENT, 0));
 	must(ref_start(LENT, 0, code_of(use, 0)));
-	if (!ref_legal(memory, WORDS)) {
-		fprintf(stderr, "bench: the table is not legal\n");
-		exit(1);
-	}
+	if (!ref_legal(memory, WORDS))
+		fail("not legal", "the table");
 }
+
+#ifdef TEST_LIBRARY
+/*
+ * A full-size table on which each call is accepted: free slots; a slot in lane 0's
+ * done queue and some in its next queue; lane 0 in a lookup, lane 1 in a section, lane
+ * 2 in none and with its pass counted since its snapshot, lane 3 offline; a grace
+ * period running.
+ */
+static void build_for_all(void)
+{
+	enum { LANES = 64, SLOTS = 1024, USED = 1016, RETIRED = 4 };
+	uint32_t round;
+	uint32_t n;
+
+	fill(8, 8, SLOTS, USED, EVEN);
+	must(ref_delete(LENT, 0, USED - 1));
+	for (round = 0; round < 3; round++)
+		for (n = 0; n < LANES; n++) {
+			must(ref_clock(LENT, n));
+			must(ref_pass(LENT, n, 0));
+			must(ref_clock(LENT, n));
+		}
+	must(ref_clock(LENT, 0));
+	must(ref_off(LENT, 3));
+	for (n = 0; n < RETIRED; n++)
+		must(ref_delete(LENT, 1, USED - 2 - n));
+	must(ref_clock(LENT, 1));
+	must(ref_clock(LENT, 2));
+	must(ref_pass(LENT, 2, 1));
+	must(ref_begin(LENT, 0));
+	must(ref_start(LENT, 0, 0));
+	must(ref_begin(LENT, 1));
+}
+#endif
 
 /* ---- what is measured; each takes the table as it is and leaves it so */
 
@@ -121,45 +164,94 @@ static uint32_t plain(void)
 	return sum;
 }
 
-#ifdef WITH_CALLS
-static uint32_t words_at_start[WORDS];
+#ifdef TEST_LIBRARY
+static struct call measured_call;
 
-/* A step changes the lookup's words alone, which are put back. */
-static uint32_t step_of(uint32_t (*step)(uint32_t *, size_t, uint32_t *, size_t, uint32_t))
+/* The words that the call changes, with what stood there. */
+static struct {
+	size_t at;
+	uint32_t word;
+} changes[CHANGES];
+static size_t change_count;
+
+/* Makes the call and undoes it: a few stores. */
+static uint32_t make(const struct interface *interface)
 {
-	uint32_t lane = memory[8];
-	uint32_t status = step(LENT, 0);
+	uint32_t status = call_make(interface, LENT, &measured_call);
+	size_t i;
 
-	memory[lane] = words_at_start[lane];
-	memcpy(memory + lane + 16, words_at_start + lane + 16, 3 * sizeof(uint32_t));
+	for (i = 0; i < change_count; i++)
+		memory[changes[i].at] = changes[i].word;
 	return status + answer[1];
 }
 
-static uint32_t library_step(void) { return step_of(pt_step); }
-static uint32_t reference_step(void) { return step_of(ref_step); }
-static uint32_t library_awaited(void) { return pt_awaited(LENT) + answer[1]; }
-static uint32_t reference_awaited(void) { return ref_awaited(LENT) + answer[1]; }
-#else
-static uint32_t library_check(void) { return pt_legal(memory, WORDS); }
-static uint32_t reference_check(void) { return ref_legal(memory, WORDS); }
-#endif
+static uint32_t of_library(void) { return make(&tested); }
+static uint32_t of_reference(void) { return make(&reference); }
 
-struct measured {
-	const char *name;
-	uint32_t (*library)(void);
-	uint32_t (*reference)(void);
+/* Notes what the call changes. The library and the C version accept it and do the same. */
+static void choose(const struct call *call)
+{
+	static uint32_t before[WORDS];
+	static uint32_t after[WORDS];
+	const char *name = call_forms[call->name].command;
+	uint32_t answered[ANSWER];
+	size_t i;
+
+	measured_call = *call;
+	change_count = 0;
+	memcpy(before, memory, sizeof(memory));
+	if (call_make(&reference, LENT, call) != 0)
+		fail("refused", name);
+	memcpy(after, memory, sizeof(memory));
+	memcpy(answered, answer, sizeof(answer));
+	memcpy(memory, before, sizeof(memory));
+	call_make(&tested, LENT, call);
+	if (memcmp(memory, after, sizeof(memory)) != 0 || memcmp(answer, answered, sizeof(answer)) != 0)
+		fail("the library and the C version differ", name);
+	memcpy(memory, before, sizeof(memory));
+	for (i = 0; i < WORDS; i++)
+		if (before[i] != after[i]) {
+			if (change_count == CHANGES)
+				fail("too many words changed", name);
+			changes[change_count].at = i;
+			changes[change_count].word = before[i];
+			change_count++;
+		}
+}
+
+/* Accepted by every table of build(). */
+static const struct call everywhere[] = {
+	{ CALL_STEP, { 0 } },
+	{ CALL_AWAITED, { 0 } },
 };
 
-static const struct measured measured[] = {
-#ifdef WITH_CALLS
-	{ "step", library_step, reference_step },
-	{ "awaited", library_awaited, reference_awaited },
-#else
-	{ "check", library_check, reference_check },
-#endif
+/* Accepted by the table of build_for_all(); code 0 is the last of its chain. */
+static const struct call all_calls[CALLS] = {
+	{ CALL_SETUP, { 8, 8, 1024 } },
+	{ CALL_ADD, { 0, 2048, 25, 1 } },
+	{ CALL_REPLACE, { 0, 0, 25, 1 } },
+	{ CALL_DELETE, { 0, 0 } },
+	{ CALL_BEGIN, { 2 } },
+	{ CALL_END, { 1 } },
+	{ CALL_START, { 1, 0 } },
+	{ CALL_STEP, { 0 } },
+	{ CALL_PASS, { 2, 0 } },
+	{ CALL_CLOCK, { 2 } },
+	{ CALL_ON, { 3 } },
+	{ CALL_OFF, { 2 } },
+	{ CALL_HAND_BACK, { 0 } },
+	{ CALL_AWAITED, { 0 } },
 };
+#else
+extern bool pt_legal(const uint32_t *memory, size_t words);
+static uint32_t of_library(void) { return pt_legal(memory, WORDS); }
+static uint32_t of_reference(void) { return ref_legal(memory, WORDS); }
+#endif
 
 /* ---- time */
+
+enum { PLAIN, LIBRARY, REFERENCE, MEASURED };
+static uint32_t (*const measured[MEASURED])(void) = { plain, of_library, of_reference };
 
 static double now(void)
 {
@@ -179,22 +271,22 @@ static double round_of(uint32_t (*call)(void), unsigned long calls)
 	return (now() - start) / (double)calls;
 }
 
-/* Least nanoseconds of a call, for three functions in turns, so that all see the same machine. */
-static void least(uint32_t (*const call[3])(void), double nanoseconds[3])
+/* Least nanoseconds of a call, of the three in turns, so that all see the same machine. */
+static void least(double nanoseconds[MEASURED])
 {
-	unsigned long calls[3];
+	unsigned long calls[MEASURED];
 	int i;
 	int n;
 
-	for (i = 0; i < 3; i++) {
-		double once = round_of(call[i], 8);
+	for (i = 0; i < MEASURED; i++) {
+		double once = round_of(measured[i], 8);
 
 		calls[i] = once < ROUND_NANOSECONDS ? (unsigned long)(ROUND_NANOSECONDS / once) : 1;
 		nanoseconds[i] = once;
 	}
 	for (n = 0; n < ROUNDS; n++)
-		for (i = 0; i < 3; i++) {
-			double time = round_of(call[i], calls[i]);
+		for (i = 0; i < MEASURED; i++) {
+			double time = round_of(measured[i], calls[i]);
 
 			if (time < nanoseconds[i])
 				nanoseconds[i] = time;
@@ -207,27 +299,65 @@ static const struct {
 	uint32_t slots;
 } sizes[] = { { 1, 1, 1 }, { 1, 2, 3 }, { 4, 4, 128 }, { 8, 8, 1024 } };
 
+/* A row for what is measured on the table of size @s and use @use. */
+static void row(size_t s, int use, const char *name)
+{
+	double ns[MEASURED];
+
+	least(ns);
+	printf("| %u × %u × %u | %zu | %s | %s | %.0f | %.2f | %.2f |\n",
+		(unsigned)sizes[s].cabinets, (unsigned)sizes[s].lanes, (unsigned)sizes[s].slots,
+		total, use_names[use], name, ns[PLAIN], ns[LIBRARY] / ns[PLAIN], ns[REFERENCE] / ns[PLAIN]);
+}
+
+#ifdef TEST_LIBRARY
+static void rows_of_table(size_t s, int use)
+{
+	size_t i;
+
+	for (i = 0; i < sizeof(everywhere) / sizeof(everywhere[0]); i++) {
+		choose(&everywhere[i]);
+		row(s, use, call_forms[everywhere[i].name].command);
+	}
+}
+
+/* Each call on the full table. Set-up is made on a table that is set up already. */
+static void rows_of_calls(void)
+{
+	int i;
+
+	printf("\n| Call | Words changed | Plain loop, ns | Library, ns | C version, ns | Library / plain loop | Library / C version |\n");
+	printf("|---|---|---|---|---|---|---|\n");
+	for (i = 0; i < CALLS; i++) {
+		double ns[MEASURED];
+
+		if (all_calls[i].name == CALL_SETUP)
+			fill(8, 8, 1024, 0, EVEN);
+		else
+			build_for_all();
+		choose(&all_calls[i]);
+		least(ns);
+		printf("| %s | %zu | %.0f | %.0f | %.0f | %.2f | %.2f |\n", call_forms[all_calls[i].name].command, change_count,
+			ns[PLAIN], ns[LIBRARY], ns[REFERENCE], ns[LIBRARY] / ns[PLAIN], ns[LIBRARY] / ns[REFERENCE]);
+	}
+}
+#else
+static void rows_of_table(size_t s, int use) { row(s, use, "check"); }
+static void rows_of_calls(void) {}
+#endif
+
 int main(void)
 {
 	size_t s;
-	size_t f;
 	int use;
 
 	printf("| Table | Words | Slots | Call | Plain loop, ns | Library / plain loop | C version / plain loop |\n");
 	printf("|---|---|---|---|---|---|---|\n");
 	for (s = 0; s < sizeof(sizes) / sizeof(sizes[0]); s++)
-		for (use = 0; use < USES; use++)
-			for (f = 0; f < sizeof(measured) / sizeof(measured[0]); f++) {
-				double ns[3];
-
-				build(sizes[s].cabinets, sizes[s].lanes, sizes[s].slots, (enum use)use);
-#ifdef WITH_CALLS
-				memcpy(words_at_start, memory, sizeof(memory));
-#endif
-				least((uint32_t (*const[3])(void)){ plain, measured[f].library, measured[f].reference }, ns);
-				printf("| %u × %u × %u | %zu | %s | %s | %.0f | %.2f | %.2f |\n",
-					(unsigned)sizes[s].cabinets, (unsigned)sizes[s].lanes, (unsigned)sizes[s].slots,
-					total, use_names[use], measured[f].name, ns[0], ns[1] / ns[0], ns[2] / ns[0]);
-			}
+		for (use = 0; use < USES; use++) {
+			build(sizes[s].cabinets, sizes[s].lanes, sizes[s].slots, (enum use)use);
+			rows_of_table(s, use);
+		}
+	rows_of_calls();
 	return 0;
 }

@@ -2,16 +2,9 @@
 // in a few cells however many slots there are (document 01, "The memory": "no code twice").
 ghost use mathlib.Core.Path.{_≡_};
 ghost use Prim.Native.Nat.{ℕ, _+_, _*_, _/_, _<_, _≤_};
-ghost use lib.ListN.{length, getD};
-ghost use lib.Dec.{leb};
+ghost use lib.ListN.{length};
 ghost use Rattle.model.specs.Memory.{wide};
-ghost use Rattle.distinct_codes.specs.Tree.{rootsOf, Roots, Begins, Empty, Shape, Entered, Tells};
-
-// slots of a small table
-const FEW: usize = 64;
-
-// the marks up to this one are those of chains
-const LAST_CHAIN: u8 = 64;
+ghost use Rattle.distinct_codes.specs.Tree.{rootsOf, Roots, Begins, Shape, Entered};
 
 // The number of cells in which codes begin.
 fn roots(few: bool) -> usize
@@ -44,8 +37,9 @@ fn node(x: u16) -> usize
     x as usize
 }
 
-// Slot i is entered by its code; false where a slot entered before has that code.
-fn enter(m: &[u32], base: usize, i: usize, few: bool, cells: &mut [u16]) -> bool
+// Slot i is entered by its code; false where a slot entered before has that code. Slot t has six words
+// from base + 6 × t on, its code first. A tree for few slots, 64 at most, has fewer first cells.
+pub fn enter(m: &[u32], base: usize, i: usize, few: bool, cells: &mut [u16]) -> bool
     requires { ⌜ (base + 6 * i + 6 ≤ length (now m)) × (i < 1024) × (rootsOf few + 8 * i < length (now cells)) × Shape (rootsOf few) i (now cells) ⌝ }
     ensures { λ r. ⌜ Entered (rootsOf few) (λ (t : ℕ). wide (now (m .entry)) (base + 6 * t)) i (now (cells .entry)) r (now (cells .exit)) ⌝ }
 {
@@ -65,60 +59,4 @@ fn enter(m: &[u32], base: usize, i: usize, few: bool, cells: &mut [u16]) -> bool
     }
     cells[p] = (i + 1) as u16;
     true
-}
-
-// Whether the slots that are marked with a chain, 64 at most, have different codes. The cells are lent
-// empty.
-fn distinct_in(
-    m: &[u32],
-    base: usize,
-    slots: usize,
-    marks: &[u8; 1024],
-    few: bool,
-    cells: &mut [u16],
-) -> bool
-    requires { ⌜ (base + 6 * slots ≤ length (now m)) × (slots ≤ 1024) × (rootsOf few + 8 * slots ≤ length (now cells)) × Empty (now cells) ⌝ }
-    ensures { λ r. ⌜ Tells (λ (t : ℕ). wide (now (m .entry)) (base + 6 * t)) (λ (t : ℕ). leb (getD (now (marks .entry)) t 0) 64) slots r ⌝ }
-{
-    let mut i = 0;
-    while i < slots {
-        if marks[i] <= LAST_CHAIN {
-            if !enter(m, base, i, few, cells) {
-                return false;
-            }
-        }
-        i = i + 1;
-    }
-    true
-}
-
-// The same for at most 64 slots, on a small array.
-fn distinct_of_few(m: &[u32], base: usize, slots: usize, marks: &[u8; 1024]) -> bool
-    requires { ⌜ (base + 6 * slots ≤ length (now m)) × (slots ≤ 64) ⌝ }
-    ensures { λ r. ⌜ Tells (λ (t : ℕ). wide (now (m .entry)) (base + 6 * t)) (λ (t : ℕ). leb (getD (now (marks .entry)) t 0) 64) slots r ⌝ }
-{
-    let mut cells = [0u16; 576];
-    distinct_in(m, base, slots, marks, true, &mut cells)
-}
-
-// The same for at most 1,024 slots.
-fn distinct_of_many(m: &[u32], base: usize, slots: usize, marks: &[u8; 1024]) -> bool
-    requires { ⌜ (base + 6 * slots ≤ length (now m)) × (slots ≤ 1024) ⌝ }
-    ensures { λ r. ⌜ Tells (λ (t : ℕ). wide (now (m .entry)) (base + 6 * t)) (λ (t : ℕ). leb (getD (now (marks .entry)) t 0) 64) slots r ⌝ }
-{
-    let mut cells = [0u16; 12288];
-    distinct_in(m, base, slots, marks, false, &mut cells)
-}
-
-// Whether the slots that are marked with a chain, 64 at most, have different codes: slot t has six
-// words from base + 6 × t on, its code first.
-pub fn distinct_codes(m: &[u32], base: usize, slots: usize, marks: &[u8; 1024]) -> bool
-    requires { ⌜ (base + 6 * slots ≤ length (now m)) × (slots ≤ 1024) ⌝ }
-    ensures { λ r. ⌜ Tells (λ (t : ℕ). wide (now (m .entry)) (base + 6 * t)) (λ (t : ℕ). leb (getD (now (marks .entry)) t 0) 64) slots r ⌝ }
-{
-    if slots <= FEW {
-        distinct_of_few(m, base, slots, marks)
-    } else {
-        distinct_of_many(m, base, slots, marks)
-    }
 }

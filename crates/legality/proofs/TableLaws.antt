@@ -13,13 +13,13 @@ use Rattle.model.specs.Lists.{all, from, count, distinct, concat}
 use Rattle.model.specs.Layout.{slotsBody, slotAddress, lanesBody}
 use Rattle.model.specs.Memory.{at, wide, sizes, slotWord, readChain, readChains, readQueue, state}
 use Rattle.model.specs.Legal.{lastsAgree}
-use Rattle.laws.specs.Tests.{and-true, and-intro, all-below, all-below-intro, clash}
+use Rattle.laws.specs.Tests.{and-true, and-intro, or-right, all-below, all-below-intro, clash}
 use Rattle.slot_places.specs.Steps.{Step, run, spoilt, painted}
 use Rattle.slot_places.proofs.Marked.{slotsOf, checks, kindIn, taken, marks-are, marks-once, marks-checked, Spoilt, failed, doubled, spoilt-why}
 use Rattle.slot_places.proofs.Places.{kind-none, chain-kind, chain-find, Chained}
 use Rattle.distinct_codes.specs.Tree.{Tells}
-use Rattle.distinct_codes.proofs.Distinct.{Lists, tells-distinct}
-use Rattle.legality.specs.Slots.{slotInRange, slotInPlace, slotFits}
+use Rattle.distinct_codes.proofs.Distinct.{is, isnt, known, Lists, tells-distinct}
+use Rattle.legality.specs.Slots.{slotInRange, slotInPlace, slotFits, chainedFits, queuedFits, CodesTell, Decides, unfit, twice, right}
 use Rattle.legality.specs.Parts.{tableLegal, placeSteps}
 use Rattle.legality.proofs.StepsRead.{chainPart, allMarks, steps-are, steps-right, all-kind, all-count, all-checks, chains-count}
 use Rattle.legality.proofs.TableSaid.{chainedCount, freeCount, retiredCount, codeAt, blankSaid, productSaid, TableSaid, chain-below, free-below, chain-chained, chained-below, table-said, said-table}
@@ -190,8 +190,18 @@ module _ (m : List ℕ) (base lane n : ℕ) (eb : base ≡ slotsBody (sizes m)) 
         (and-intro (productSaid m i) (ltb (slotWord m 4 i) S || eqb (slotWord m 4 i) none) (s .products i b) (s .chainLinks i b)) (s .queueLinks i b))
         (place-said s i b))
 
-    pub table-unfit : (r : Bool) → r ≡ all (slotFits m base S t) (from 0 S) → r ≡ false → false ≡ tableLegal m
-    table-unfit r q e = refuted (tableLegal m) (λ l. clash (said-fits (table-said m l)) (sym q ∙ e))
+    -- tests that slots pass if they fit
+    unfit-by : (p : ℕ → Bool) → ((i : ℕ) → slotFits m base S t i ≡ true → p i ≡ true) → false ≡ all p (from 0 S) → false ≡ tableLegal m
+    unfit-by p h q =
+        refuted (tableLegal m) (λ l. clash (all-below-intro p S (λ i b. h i (all-below (slotFits m base S t) S i (said-fits (table-said m l)) b))) (sym q))
+
+    pub table-unfit : (r : Bool) → r ≡ all (queuedFits m base S t) (from 0 S) → r ≡ false → false ≡ tableLegal m
+    unfolding queuedFits
+    table-unfit r q e = unfit-by (queuedFits m base S t) (λ i f. or-right (leb (getD t i 0) 64) (slotFits m base S t i) f) (sym e ∙ q)
+
+    table-unchained : false ≡ all (chainedFits m base S t) (from 0 S) → false ≡ tableLegal m
+    unfolding chainedFits
+    table-unchained q = unfit-by (chainedFits m base S t) (λ i f. or-right (not (leb (getD t i 0) 64)) (slotFits m base S t i) f) q
 
     -- ---- tables that fit, and whose codes differ, are legal
 
@@ -267,12 +277,32 @@ module _ (m : List ℕ) (base lane n : ℕ) (eb : base ≡ slotsBody (sizes m)) 
         blank = blanks;
       }
 
-      pub table-decided : (slots : ℕ) → slots ≡ S → (r : Bool) → Tells (λ (i : ℕ). wide m (base + 6 * i)) isChained slots r → r ≡ tableLegal m
-      table-decided slots es r w = answer r (tells-distinct (codeAt m) isChained S (concat (readChains m)) r listed told)
+      decided : (r : Bool) → CodesTell m base S t r → r ≡ tableLegal m
+      decided r w = answer r (tells-distinct (codeAt m) isChained S (concat (readChains m)) r listed told)
         where
           told : Tells (codeAt m) isChained S r
-          told = subst (λ (x : ℕ). Tells (λ (i : ℕ). wide m (x + 6 * i)) isChained S r) eb (subst (λ (k : ℕ). Tells (λ (i : ℕ). wide m (base + 6 * i)) isChained k r) es w)
+          told = subst (λ (x : ℕ). Tells (λ (i : ℕ). wide m (x + 6 * i)) isChained S r) eb w
 
           answer : (r : Bool) → r ≡ distinct (map (codeAt m) (concat (readChains m))) → r ≡ tableLegal m
           answer true q = sym (said-table m (fit-said (sym q)))
           answer false q = refuted (tableLegal m) (λ l. clash (table-said m l .codes) (sym q))
+
+    -- ---- both together
+
+    module _ (queued : all (queuedFits m base S t) (from 0 S) ≡ true) where
+      all-fit : true ≡ all (chainedFits m base S t) (from 0 S) → all (slotFits m base S t) (from 0 S) ≡ true
+      unfolding chainedFits queuedFits
+      all-fit q = all-below-intro (slotFits m base S t) S (λ i b. pick i (leb (getD t i 0) 64) (all-below (queuedFits m base S t) S i queued b) (all-below (chainedFits m base S t) S i (sym q) b))
+        where
+          pick : (i : ℕ) (c : Bool) → (c || slotFits m base S t i) ≡ true → (not c || slotFits m base S t i) ≡ true → slotFits m base S t i ≡ true
+          pick i true g h = h
+          pick i false g h = g
+
+      pub table-decided : (r : Bool) → Decides m base S t r → r ≡ tableLegal m
+      table-decided false (unfit q) = table-unchained q
+      table-decided false (twice w) =
+          elim (known (all (chainedFits m base S t) (from 0 S))) [
+            | is f ↦ decided (all-fit (sym f)) false w
+            | isnt f ↦ table-unchained (sym f)
+          ]
+      table-decided true (right q w) = decided (all-fit q) true w

@@ -1,14 +1,17 @@
 -- One slot's part of legality's sentences, for a slot whose words begin at b in a memory m of S slots, and its mark: the kind of its place.
 use Prim.Native.Nat.{ℕ, _+_, _*_, _%_}
-use mathlib.Core.Bool.{Bool, true, not, cond, _&&_, _||_}
+use mathlib.Core.Bool.{Bool, true, false, not, cond, _&&_, _||_}
+use mathlib.Core.Path.{_≡_}
 use mathlib.Core.List.{List}
 use lib.ListN.{getD}
 use lib.Dec.{leb, eqb}
 use Rattle.model.specs.Word.{none}
+use Rattle.model.specs.Lists.{all, from}
 use Rattle.model.specs.Layout.{chainCount, depositAt, materialAt, chainLinkAt, queueLinkAt, slotLength}
 use Rattle.model.specs.Rules.{wrongProduct}
 use Rattle.model.specs.Memory.{at, wide}
 use Rattle.slot_places.specs.Steps.{freeKind}
+use Rattle.distinct_codes.specs.Tree.{Tells}
 use Rattle.legality.specs.Lanes.{slotOrNone}
 
 -- the product and the links are in range
@@ -29,3 +32,21 @@ slotInPlace m b mark =
 -- slot i, slot 0's words beginning at base
 unfoldable pub slotFits : List ℕ → ℕ → ℕ → List ℕ → ℕ → Bool
 slotFits m base S marks i = slotInRange m S (base + slotLength * i) && slotInPlace m (base + slotLength * i) (getD marks i 0)
+
+-- slot i fits if it is chained
+unfoldable pub chainedFits : List ℕ → ℕ → ℕ → List ℕ → ℕ → Bool
+chainedFits m base S marks i = not (leb (getD marks i 0) chainCount) || slotFits m base S marks i
+
+-- slot i fits if it stands in a queue
+unfoldable pub queuedFits : List ℕ → ℕ → ℕ → List ℕ → ℕ → Bool
+queuedFits m base S marks i = leb (getD marks i 0) chainCount || slotFits m base S marks i
+
+-- the chained slots have different codes, or (r is false) two of them have one
+abbrev pub CodesTell : List ℕ → ℕ → ℕ → List ℕ → Bool → Type 0
+CodesTell m base S marks r = Tells (λ (i : ℕ). wide m (base + slotLength * i)) (λ (i : ℕ). leb (getD marks i 0) chainCount) S r
+
+-- r says whether the chained ones of S slots fit and have different codes
+pub data Decides (m : List ℕ) (base S : ℕ) (marks : List ℕ) : Bool → Type 0 where
+  unfit : false ≡ all (chainedFits m base S marks) (from 0 S) → Decides m base S marks false
+  twice : CodesTell m base S marks false → Decides m base S marks false
+  right : true ≡ all (chainedFits m base S marks) (from 0 S) → CodesTell m base S marks true → Decides m base S marks true

@@ -34,17 +34,6 @@ const LANE_LENGTH: u32 = 19;
 
 const SLOT_LENGTH: u32 = 6;
 
-// Cabinets 1 to 8, lanes per cabinet 1 to 8, slots 1 to 1,024.
-fn sizes_fit(cabinets: u32, places: u32, slots: u32) -> bool
-    ensures { λ r. ⌜ r ≡ sizesFit (sized cabinets places slots) ⌝ }
-{
-    (1 <= cabinets)
-        & ((cabinets <= words::MAX_CABINETS)
-            & ((1 <= places)
-                & ((places <= words::MAX_PLACES)
-                    & ((1 <= slots) & ((slots <= words::MAX_SLOTS) & true)))))
-}
-
 // The number of lanes.
 pub fn lane_count(cabinets: u32, places: u32) -> u32
     requires { ⌜ (cabinets ≤ 8) × (places ≤ 8) ⌝ }
@@ -78,7 +67,7 @@ pub fn contents_agree(m: &[u32]) -> bool
     if m.len() < words::CONTENTS_LENGTH {
         return false;
     }
-    if !sizes_fit(
+    if !words::sizes_fit(
         m[words::CABINETS_AT],
         m[words::PLACES_AT],
         m[words::SLOTS_AT],

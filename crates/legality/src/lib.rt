@@ -81,10 +81,10 @@ fn slots_agree(m: &[u32], base: usize, lane: usize, lanes: usize) -> bool
     if !mark_slots(m, base, lane, lanes, slots, &mut marks) {
         return false;
     }
-    if !slots::slots_fit(m, base, slots, &marks) {
+    if !slots::queued_fit(m, base, slots, &marks) {
         return false;
     }
-    distinct_codes::distinct_codes(m, base, words::index(slots), &marks)
+    slots::chained_fit(m, base, slots, &marks)
 }
 
 // The sentences about the slots.

@@ -13,27 +13,23 @@ mark-slots-requires : tie.Need-mark-slots-requires
 mark-slots-requires c κs = search needs
 
 returns : tie.Need-returns
-returns c = let p = c .before .before .before .before .before .pre in table-spoilt _ _ _ _ (p .slots) (p .lanes) (p .count) (p .few) (c .before .mark-slots .ensures .bad (not-true _ (c .if1 .taken)))
+returns c = let p = (c .before .before .before .before .before .pre) in table-spoilt _ _ _ _ (p .slots) (p .lanes) (p .count) (p .few) ((c .before .mark-slots .ensures) .bad (not-true _ ((c .if1 .taken))))
 
-slots-fit-requires : tie.Need-slots-fit-requires
-slots-fit-requires c κs = search needs
+queued-fit-requires : tie.Need-queued-fit-requires
+queued-fit-requires c κs = search needs
 
 returns-2 : tie.Need-returns-2
 returns-2 c =
-    let p = c .before .before .before .before .before .before .before .before .pre in
-    table-unfit _ _ _ _ (p .slots) (p .lanes) (p .count) (p .few) _ (c .before .before .before .before .mark-slots .ensures .good (not-false _ (c .before .before .before .if1 .left))) _ (c .before .slots-fit .ensures) (not-true _ (c .if2 .taken))
+    let p = (c .before .before .before .before .before .before .before .before .pre) in
+    table-unfit _ _ _ _ (p .slots) (p .lanes) (p .count) (p .few) _ ((c .before .before .before .before .mark-slots .ensures) .good (not-false _ ((c .before .before .before .if1 .left)))) _ (c .before .queued-fit .ensures) (not-true _ ((c .if2 .taken)))
 
-index-requires : tie.Need-index-requires
-index-requires c κs = search needs
-
-distinct-codes-requires : tie.Need-distinct-codes-requires
-distinct-codes-requires c κs = search needs
+chained-fit-requires : tie.Need-chained-fit-requires
+chained-fit-requires c κs = search needs
 
 returns-3 : tie.Need-returns-3
 returns-3 c =
-    let p = c .before .before .before .before .before .before .before .before .before .before .before .pre in
-    table-decided _ _ _ _ (p .slots) (p .lanes) (p .count) (p .few) _ (c .before .before .before .before .before .before .before .mark-slots .ensures .good (not-false _ (c .before .before .before .before .before .before .if1 .left)))
-    (sym (c .before .before .before .before .slots-fit .ensures) ∙ not-false _ (c .before .before .before .if2 .left)) _ (c .before .before .index .ensures) _ (c .distinct-codes .ensures)
+    let p = (c .before .before .before .before .before .before .before .before .before .before .pre) in
+    table-decided _ _ _ _ (p .slots) (p .lanes) (p .count) (p .few) _ ((c .before .before .before .before .before .before .mark-slots .ensures) .good (not-false _ ((c .before .before .before .before .before .if1 .left)))) (sym (c .before .before .before .queued-fit .ensures) ∙ not-false _ ((c .before .before .if2 .left))) _ (c .chained-fit .ensures)
 
 pub slots-agree-spec : {M : Type 1} → statement M
 slots-agree-spec =
@@ -42,8 +38,7 @@ slots-agree-spec =
     shared-slice-read-slots
     mark-slots-requires
     returns
-    slots-fit-requires
+    queued-fit-requires
     returns-2
-    index-requires
-    distinct-codes-requires
+    chained-fit-requires
     returns-3)
