@@ -8,16 +8,16 @@ lane-refusal-requires : tie.Need-lane-refusal-requires
 lane-refusal-requires c κs = search needs
 
 returns : tie.Need-returns
-returns c = begin-refused _ (c .before .before .before .pre) (c .before .before .before .args .lane) _ (c .before .lane-refusal .ensures) (c .if1 .taken)
+returns c = search (needs, begin-refused)
 
 is-reading-requires : tie.Need-is-reading-requires
-is-reading-requires c κs = lane-in _ (c .before .before .before .pre) (c .before .before .before .args .lane) _ (c .before .lane-refusal .ensures) (c .if1 .left)
+is-reading-requires c κs = search (needs, lane-in)
 
 returns-2 : tie.Need-returns-2
-returns-2 c = begin-open _ (c .before .before .before .before .before .pre) (c .before .before .before .before .before .args .lane) _ (c .before .before .before .lane-refusal .ensures) (c .before .before .if1 .left) _ (c .before .is-reading .ensures) (c .if2 .taken)
+returns-2 c = search (needs, begin-open)
 
 returns-3 : tie.Need-returns-3
-returns-3 c = begin-passes _ (c .before .before .before .before .before .pre) (c .before .before .before .before .before .args .lane) _ (c .before .before .before .lane-refusal .ensures) (c .before .before .if1 .left) _ (c .before .is-reading .ensures) (c .if2 .left)
+returns-3 c = search (needs, begin-passes)
 
 pub begin-refusal-spec : {M : Type 1} → statement M
 begin-refusal-spec =

@@ -6,10 +6,14 @@ use Rattle.access.proofs.cabinet_of.Statement.{statement}
 use Rattle.access.proofs.cabinet_of.Tie as tie
 
 shared-slice-read-result : tie.Need-shared-slice-read-result
-shared-slice-read-result c = omega (arith, long _ (c .before .pre .sound))
+shared-slice-read-result c =
+    let entry : tie.Start = search in
+    omega (arith, long _ (entry .pre .sound))
 
 div-result : tie.Need-div-result
-div-result c = omega (arith, inRange _ (c .before .pre .sound) .somePlaces)
+div-result c =
+    let entry : tie.Start = search in
+    omega (arith, inRange _ (entry .pre .sound) .somePlaces)
 
 returns : tie.Need-returns
 returns c = search needs

@@ -13,10 +13,12 @@ mul-result : tie.Need-mul-result
 mul-result c = search needs
 
 shared-slice-read-result : tie.Need-shared-slice-read-result
-shared-slice-read-result c = omega (arith, long _ (c .before .pre))
+shared-slice-read-result c =
+    let entry : tie.Start = search in
+    omega (arith, long _ (entry .pre))
 
 returns : tie.Need-returns
-returns c = chain-head _ (c .before .pre) (c .before .args .code)
+returns c = search (needs, chain-head)
 
 pub chain-head-spec : {M : Type 1} → statement M
 chain-head-spec = tie.close (tie.spec add-result mul-result shared-slice-read-result returns)

@@ -6,13 +6,17 @@ use Rattle.access.proofs.lane_address.Statement.{statement}
 use Rattle.access.proofs.lane_address.Tie as tie
 
 shared-slice-read-index : tie.Need-shared-slice-read-index
-shared-slice-read-index c = omega (arith, long _ (c .before .before .pre))
+shared-slice-read-index c =
+    let entry : tie.Start = search in
+    omega (arith, long _ (entry .pre))
 
 index-requires : tie.Need-index-requires
 index-requires c κs = search needs
 
 add-result : tie.Need-add-result
-add-result c = omega (arith, c .index .ensures, inRange _ (c .before .before .before .pre) .fewCabinets)
+add-result c =
+    let entry : tie.Start = search in
+    omega (arith, c .index .ensures, inRange _ (entry .pre) .fewCabinets)
 
 index-requires-2 : tie.Need-index-requires-2
 index-requires-2 c κs = search needs
@@ -21,7 +25,10 @@ mul-result : tie.Need-mul-result
 mul-result c = search needs
 
 add-result-2 : tie.Need-add-result-2
-add-result-2 c = omega (arith, c .before .index .ensures, c .index2 .ensures, inRange _ (c .before .before .before .before .pre) .fewCabinets)
+add-result-2 c =
+    let at-index : tie.After-index = search in
+    let entry : tie.Start = search in
+    omega (arith, at-index .index .ensures, c .index2 .ensures, inRange _ (entry .pre) .fewCabinets)
 
 returns : tie.Need-returns
 returns c = search needs

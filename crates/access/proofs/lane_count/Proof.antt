@@ -6,13 +6,19 @@ use Rattle.access.proofs.lane_count.Statement.{statement}
 use Rattle.access.proofs.lane_count.Tie as tie
 
 shared-slice-read-result : tie.Need-shared-slice-read-result
-shared-slice-read-result c = omega (arith, long _ (c .before .pre))
+shared-slice-read-result c =
+    let entry : tie.Start = search in
+    omega (arith, long _ (entry .pre))
 
 shared-slice-read-result-2 : tie.Need-shared-slice-read-result-2
-shared-slice-read-result-2 c = omega (arith, long _ (c .before .before .pre))
+shared-slice-read-result-2 c =
+    let entry : tie.Start = search in
+    omega (arith, long _ (entry .pre))
 
 mul-result : tie.Need-mul-result
-mul-result c = omega (arith, inRange _ (c .before .before .pre) .fewLanes)
+mul-result c =
+    let entry : tie.Start = search in
+    omega (arith, inRange _ (entry .pre) .fewLanes)
 
 returns : tie.Need-returns
 returns c = search needs

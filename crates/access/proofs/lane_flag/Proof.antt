@@ -13,16 +13,24 @@ lane-address-requires : tie.Need-lane-address-requires
 lane-address-requires c κs = search needs
 
 mul-test : tie.Need-mul-test
-mul-test c = omega (arith, c .lane-address .ensures, inRange _ (c .before .before .pre .0 .sound) .fewCabinets)
+mul-test c =
+    let entry : tie.Start = search in
+    omega (arith, c .lane-address .ensures, inRange _ (entry .pre .0 .sound) .fewCabinets)
 
 shared-slice-read-test : tie.Need-shared-slice-read-test
-shared-slice-read-test c = omega (arith, c .before .lane-address .ensures, long _ (c .before .before .before .pre .0 .sound), c .before .before .before .pre .0 .known)
+shared-slice-read-test c =
+    let at-lane-address : tie.After-lane-address = search in
+    let entry : tie.Start = search in
+    omega (arith, at-lane-address .lane-address .ensures, long _ (entry .pre .0 .sound), entry .pre .0 .known)
 
 test-requires : tie.Need-test-requires
 test-requires c κs = search needs
 
 returns : tie.Need-returns
-returns c = c .test .ensures ∙ ap (λ (a : ℕ). flag (c .before .before .before .before .args .p) (at (now (c .before .before .before .before .args .m)) a)) (c .before .before .lane-address .ensures)
+returns c =
+    let at-lane-address : tie.After-lane-address = search in
+    let entry : tie.Start = search in
+    c .test .ensures ∙ ap (λ (a : ℕ). flag (entry .args .p) (at (now (entry .args .m)) a)) (at-lane-address .lane-address .ensures)
 
 pub lane-flag-spec : {M : Type 1} → statement M
 lane-flag-spec =

@@ -9,16 +9,16 @@ lane-count-requires : tie.Need-lane-count-requires
 lane-count-requires c κs = search needs
 
 returns : tie.Need-returns
-returns c = lane-unknown _ (c .before .before .before .pre) (c .before .before .before .args .lane) _ (c .before .lane-count .ensures) (c .if1 .taken)
+returns c = search (needs, lane-unknown)
 
 is-online-requires : tie.Need-is-online-requires
 is-online-requires c κs = search needs
 
 returns-2 : tie.Need-returns-2
-returns-2 c = lane-offline _ (c .before .before .before .before .before .pre) (c .before .before .before .before .before .args .lane) _ (c .before .before .before .lane-count .ensures) (c .before .before .if1 .left) _ (c .before .is-online .ensures) (not-true _ (c .if2 .taken))
+returns-2 c = search (needs, lane-offline, not-true)
 
 returns-3 : tie.Need-returns-3
-returns-3 c = lane-online _ (c .before .before .before .before .before .pre) (c .before .before .before .before .before .args .lane) _ (c .before .before .before .lane-count .ensures) (c .before .before .if1 .left) _ (c .before .is-online .ensures) (not-false _ (c .if2 .left))
+returns-3 c = search (needs, lane-online, not-false)
 
 pub lane-refusal-spec : {M : Type 1} → statement M
 lane-refusal-spec =

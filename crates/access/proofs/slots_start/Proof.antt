@@ -6,13 +6,17 @@ use Rattle.access.proofs.slots_start.Statement.{statement}
 use Rattle.access.proofs.slots_start.Tie as tie
 
 shared-slice-read-index : tie.Need-shared-slice-read-index
-shared-slice-read-index c = omega (arith, long _ (c .before .before .pre))
+shared-slice-read-index c =
+    let entry : tie.Start = search in
+    omega (arith, long _ (entry .pre))
 
 index-requires : tie.Need-index-requires
 index-requires c κs = search needs
 
 add-result : tie.Need-add-result
-add-result c = omega (arith, c .index .ensures, inRange _ (c .before .before .before .pre) .fewCabinets)
+add-result c =
+    let entry : tie.Start = search in
+    omega (arith, c .index .ensures, inRange _ (entry .pre) .fewCabinets)
 
 lane-count-requires : tie.Need-lane-count-requires
 lane-count-requires c κs = search needs
@@ -24,7 +28,11 @@ mul-result : tie.Need-mul-result
 mul-result c = search needs
 
 add-result-2 : tie.Need-add-result-2
-add-result-2 c = omega (arith, c .index2 .ensures, c .before .lane-count .ensures, c .before .before .index .ensures, inRange _ (c .before .before .before .before .before .pre) .fewCabinets, inRange _ (c .before .before .before .before .before .pre) .fewLanes)
+add-result-2 c =
+    let at-lane-count : tie.After-lane-count = search in
+    let at-index : tie.After-index = search in
+    let entry : tie.Start = search in
+    omega (arith, c .index2 .ensures, at-lane-count .lane-count .ensures, at-index .index .ensures, inRange _ (entry .pre) .fewCabinets, inRange _ (entry .pre) .fewLanes)
 
 returns : tie.Need-returns
 returns c = search needs

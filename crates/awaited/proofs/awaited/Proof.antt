@@ -11,16 +11,23 @@ slots-start-requires : tie.Need-slots-start-requires
 slots-start-requires c κs = search needs
 
 add-links : tie.Need-add-links
-add-links c = omega (arith, c .slots-start .ensures, inRange _ (c .before .before .before .pre) .fewCabinets, inRange _ (c .before .before .before .pre) .fewLanes)
+add-links c =
+    let entry : tie.Start = search in
+    omega (arith, c .slots-start .ensures, inRange _ (entry .pre) .fewCabinets, inRange _ (entry .pre) .fewLanes)
 
 slice-reshared-read-queue-length : tie.Need-slice-reshared-read-queue-length
-slice-reshared-read-queue-length c = omega (arith, long _ (c .before .before .before .before .pre))
+slice-reshared-read-queue-length c =
+    let entry : tie.Start = search in
+    omega (arith, long _ (entry .pre))
 
 queue-length-requires : tie.Need-queue-length-requires
-queue-length-requires c κs = free-at _ (c .before .before .before .before .pre) _ (omega (arith, c .before .slots-start .ensures))
+queue-length-requires c κs =
+    let at-slots-start : tie.After-slots-start = search in
+    let entry : tie.Start = search in
+    free-at _ (entry .pre) _ (omega (arith, at-slots-start .slots-start .ensures))
 
 retired-length-requires : tie.Need-retired-length-requires
-retired-length-requires c κs = record { sound = c .before .before .before .before .before .before .pre; links = omega (arith, c .before .before .before .slots-start .ensures) }
+retired-length-requires c κs = search needs
 
 pending-count-requires : tie.Need-pending-count-requires
 pending-count-requires c κs = search needs
@@ -35,7 +42,7 @@ same-length : tie.Need-same-length
 same-length c = search needs
 
 returns : tie.Need-returns
-returns c = answered _ (c .before .before .before .before .before .before .before .before .before .before .before .before .pre) _ _ _ _ _ (c .before .before .before .pending-count .ensures) (c .before .lowest-pending .ensures) (c .before .before .before .before .before .before .before .queue-length .ensures) (c .before .before .before .before .before .retired-length .ensures) (c .accepted .ensures)
+returns c = search (needs, answered)
 
 pub awaited-spec : {M : Type 1} → statement M
 awaited-spec =

@@ -22,25 +22,40 @@ abbrev μ-loop : tie.MeasureT-loop
 μ-loop m links lanes ends₀ n₀ i₀ ends n i = lanes - i
 
 lane-count-requires : tie.Need-lane-count-requires Inv-loop μ-loop
-lane-count-requires c κs = c .before .pre .sound
+lane-count-requires c κs = search needs
 
 lane-address-requires : tie.Need-lane-address-requires Inv-loop μ-loop
-lane-address-requires c κs = c .before .before .pre .sound
+lane-address-requires c κs = search needs
 
 add-ends : tie.Need-add-ends Inv-loop μ-loop
-add-ends c = omega (arith, c .lane-address .ensures, inRange _ (c .before .before .before .pre .sound) .fewCabinets)
+add-ends c =
+    let entry : tie.Start Inv-loop μ-loop = search in
+    omega (arith, c .lane-address .ensures, inRange _ (entry .pre .sound) .fewCabinets)
 
 loop-holds : tie.Need-loop-holds Inv-loop μ-loop
 loop-holds c = (omega (arith, c .lane-address .ensures), summed-start _ _, omega arith)
 
 owner-length-requires : tie.Need-owner-length-requires Inv-loop μ-loop
-owner-length-requires c κs = lane-at _ (c .before .before .before .before .before .pre .sound) _ (c .before .before .before .before .before .pre .links) _ (omega (arith, c .before .before .before .lane-count .ensures, c .loop-test .taken)) _ (c .before .loop .inv .0)
+owner-length-requires c κs =
+    let at-loop : tie.At-loop Inv-loop μ-loop = search in
+    let at-lane-count : tie.After-lane-count Inv-loop μ-loop = search in
+    let entry : tie.Start Inv-loop μ-loop = search in
+    lane-at _ (entry .pre .sound) _ (entry .pre .links) _ (omega (arith, at-lane-count .lane-count .ensures, c .loop-test .taken)) _ (at-loop .loop .inv .0)
 
 add-n : tie.Need-add-n Inv-loop μ-loop
-add-n c = omega (arith, c .owner-length .ensures, owner-few _ _ _ (lane-at _ (c .before .before .before .before .before .before .pre .sound) _ (c .before .before .before .before .before .before .pre .links) _ (omega (arith, c .before .before .before .before .lane-count .ensures, c .before .loop-test .taken)) _ (c .before .before .loop .inv .0)), c .before .before .loop .inv .2, c .before .before .before .before .lane-count .ensures, inRange _ (c .before .before .before .before .before .before .pre .sound) .fewLanes)
+add-n c =
+    let at-loop-test : tie.In-loop Inv-loop μ-loop = search in
+    let at-loop : tie.At-loop Inv-loop μ-loop = search in
+    let at-lane-count : tie.After-lane-count Inv-loop μ-loop = search in
+    let entry : tie.Start Inv-loop μ-loop = search in
+    omega (arith, c .owner-length .ensures, owner-few _ _ _ (lane-at _ (entry .pre .sound) _ (entry .pre .links) _ (omega (arith, at-lane-count .lane-count .ensures, at-loop-test .loop-test .taken)) _ (at-loop .loop .inv .0)), at-loop .loop .inv .2, at-lane-count .lane-count .ensures, inRange _ (entry .pre .sound) .fewLanes)
 
 add-ends-2 : tie.Need-add-ends-2 Inv-loop μ-loop
-add-ends-2 c = omega (arith, c .before .before .loop .inv .0, c .before .before .before .before .lane-count .ensures, inRange _ (c .before .before .before .before .before .before .pre .sound) .fewLanes, inRange _ (c .before .before .before .before .before .before .pre .sound) .fewCabinets)
+add-ends-2 c =
+    let at-loop : tie.At-loop Inv-loop μ-loop = search in
+    let at-lane-count : tie.After-lane-count Inv-loop μ-loop = search in
+    let entry : tie.Start Inv-loop μ-loop = search in
+    omega (arith, at-loop .loop .inv .0, at-lane-count .lane-count .ensures, inRange _ (entry .pre .sound) .fewLanes, inRange _ (entry .pre .sound) .fewCabinets)
 
 add-i : tie.Need-add-i Inv-loop μ-loop
 add-i c = search needs
@@ -49,10 +64,18 @@ loop-less : tie.Need-loop-less Inv-loop μ-loop
 loop-less c = search needs
 
 loop-again : tie.Need-loop-again Inv-loop μ-loop
-loop-again c = (omega (arith, c .before .before .loop .inv .0), summed-on _ _ _ _ (c .before .before .loop .inv .1) (omega (arith, c .before .before .before .before .lane-count .ensures, c .before .loop-test .taken)) _ (c .owner-length .ensures ∙ ap (ownerLength (now (c .before .before .before .before .before .before .args .m))) (c .before .before .loop .inv .0)), omega (arith, c .owner-length .ensures, owner-few _ _ _ (lane-at _ (c .before .before .before .before .before .before .pre .sound) _ (c .before .before .before .before .before .before .pre .links) _ (omega (arith, c .before .before .before .before .lane-count .ensures, c .before .loop-test .taken)) _ (c .before .before .loop .inv .0)), c .before .before .loop .inv .2))
+loop-again c =
+    let at-loop-test : tie.In-loop Inv-loop μ-loop = search in
+    let at-loop : tie.At-loop Inv-loop μ-loop = search in
+    let at-lane-count : tie.After-lane-count Inv-loop μ-loop = search in
+    let entry : tie.Start Inv-loop μ-loop = search in
+    (omega (arith, at-loop .loop .inv .0), summed-on _ _ _ _ (at-loop .loop .inv .1) (omega (arith, at-lane-count .lane-count .ensures, at-loop-test .loop-test .taken)) _ (c .owner-length .ensures ∙ ap (ownerLength (now (entry .args .m))) (at-loop .loop .inv .0)), omega (arith, c .owner-length .ensures, owner-few _ _ _ (lane-at _ (entry .pre .sound) _ (entry .pre .links) _ (omega (arith, at-lane-count .lane-count .ensures, at-loop-test .loop-test .taken)) _ (at-loop .loop .inv .0)), at-loop .loop .inv .2))
 
 returns : tie.Need-returns Inv-loop μ-loop
-returns c = summed-done _ _ _ _ (c .before .loop .inv .1) (omega (arith, c .before .before .before .lane-count .ensures, c .loop-test .left)) ∙ lanes-shown _
+returns c =
+    let at-loop : tie.At-loop Inv-loop μ-loop = search in
+    let at-lane-count : tie.After-lane-count Inv-loop μ-loop = search in
+    summed-done _ _ _ _ (at-loop .loop .inv .1) (omega (arith, at-lane-count .lane-count .ensures, c .loop-test .left)) ∙ lanes-shown _
 
 pub lanes-length-spec : {M : Type 1} → statement M
 lanes-length-spec =

@@ -8,10 +8,12 @@ use Rattle.awaited.proofs.lowest_pending.Statement.{statement}
 use Rattle.awaited.proofs.lowest_pending.Tie as tie
 
 shared-slice-read-cabinets : tie.Need-shared-slice-read-cabinets
-shared-slice-read-cabinets c = omega (arith, long _ (c .before .before .pre))
+shared-slice-read-cabinets c =
+    let entry : tie.Start = search in
+    omega (arith, long _ (entry .pre))
 
 returns : tie.Need-returns
-returns c = none-shown _ (c .before .before .before .pre) (c .if1 .taken)
+returns c = search (needs, none-shown)
 
 lowest-requires : tie.Need-lowest-requires
 lowest-requires c κs = search needs
@@ -26,19 +28,38 @@ mul-lowest : tie.Need-mul-lowest
 mul-lowest c = search needs
 
 shared-slice-read-lowest : tie.Need-shared-slice-read-lowest
-shared-slice-read-lowest c = omega (arith, c .before .index .ensures, cabinet-below _ (c .before .before .before .before .before .before .pre) (c .before .before .before .if1 .left) _ (c .before .before .lowest .ensures), long _ (c .before .before .before .before .before .before .pre))
+shared-slice-read-lowest c =
+    let at-index : tie.After-index = search in
+    let at-lowest : tie.After-lowest = search in
+    let at-if1 : tie.Else1 = search in
+    let entry : tie.Start = search in
+    omega (arith, at-index .index .ensures, cabinet-below _ (entry .pre) (at-if1 .if1 .left) _ (at-lowest .lowest .ensures), long _ (entry .pre))
 
 lowest-requires-2 : tie.Need-lowest-requires-2
 lowest-requires-2 c κs = search needs
 
 shared-slice-read-lane-number : tie.Need-shared-slice-read-lane-number
-shared-slice-read-lane-number c = omega (arith, long _ (c .before .before .before .before .before .before .before .before .pre))
+shared-slice-read-lane-number c =
+    let entry : tie.Start = search in
+    omega (arith, long _ (entry .pre))
 
 lane-number-requires : tie.Need-lane-number-requires
-lane-number-requires c κs = omega (arith, lowest-few _ (c .before .before .before .before .before .before .before .before .pre) (c .before .before .before .before .before .if1 .left) _ (c .before .before .before .before .lowest .ensures) _ _ (c .before .before .before .index .ensures) (c .before .lowest2 .ensures))
+lane-number-requires c κs =
+    let at-lowest2 : tie.After-lowest2 = search in
+    let at-index : tie.After-index = search in
+    let at-lowest : tie.After-lowest = search in
+    let at-if1 : tie.Else1 = search in
+    let entry : tie.Start = search in
+    omega (arith, lowest-few _ (entry .pre) (at-if1 .if1 .left) _ (at-lowest .lowest .ensures) _ _ (at-index .index .ensures) (at-lowest2 .lowest2 .ensures))
 
 returns-2 : tie.Need-returns-2
-returns-2 c = c .lane-number .ensures ∙ lowest-shown _ (c .before .before .before .before .before .before .before .before .before .pre) (c .before .before .before .before .before .before .if1 .left) _ (c .before .before .before .before .before .lowest .ensures) _ _ (c .before .before .before .before .index .ensures) (c .before .before .lowest2 .ensures)
+returns-2 c =
+    let at-lowest2 : tie.After-lowest2 = search in
+    let at-index : tie.After-index = search in
+    let at-lowest : tie.After-lowest = search in
+    let at-if1 : tie.Else1 = search in
+    let entry : tie.Start = search in
+    c .lane-number .ensures ∙ lowest-shown _ (entry .pre) (at-if1 .if1 .left) _ (at-lowest .lowest .ensures) _ _ (at-index .index .ensures) (at-lowest2 .lowest2 .ensures)
 
 pub lowest-pending-spec : {M : Type 1} → statement M
 lowest-pending-spec =

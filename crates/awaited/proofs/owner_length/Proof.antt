@@ -13,7 +13,9 @@ shared-slice-read-queue-length : tie.Need-shared-slice-read-queue-length
 shared-slice-read-queue-length c = search needs
 
 queue-length-requires : tie.Need-queue-length-requires
-queue-length-requires c κs = part-at _ _ _ (c .before .before .pre) next
+queue-length-requires c κs =
+    let entry : tie.Start = search in
+    part-at _ _ _ (entry .pre) next
 
 add-queue-length : tie.Need-add-queue-length
 add-queue-length c = search needs
@@ -25,10 +27,15 @@ shared-slice-read-queue-length-2 : tie.Need-shared-slice-read-queue-length-2
 shared-slice-read-queue-length-2 c = search needs
 
 queue-length-requires-2 : tie.Need-queue-length-requires-2
-queue-length-requires-2 c κs = part-at _ _ _ (c .before .before .before .before .pre) current
+queue-length-requires-2 c κs =
+    let entry : tie.Start = search in
+    part-at _ _ _ (entry .pre) current
 
 add-result : tie.Need-add-result
-add-result c = omega (arith, owner-few _ _ _ (c .before .before .before .before .before .pre), c .before .before .queue-length .ensures, c .queue-length2 .ensures)
+add-result c =
+    let at-queue-length : tie.After-queue-length = search in
+    let entry : tie.Start = search in
+    omega (arith, owner-few _ _ _ (entry .pre), at-queue-length .queue-length .ensures, c .queue-length2 .ensures)
 
 add-queue-length-2 : tie.Need-add-queue-length-2
 add-queue-length-2 c = search needs
@@ -40,13 +47,19 @@ shared-slice-read-queue-length-3 : tie.Need-shared-slice-read-queue-length-3
 shared-slice-read-queue-length-3 c = search needs
 
 queue-length-requires-3 : tie.Need-queue-length-requires-3
-queue-length-requires-3 c κs = part-at _ _ _ (c .before .before .before .before .before .before .pre) done
+queue-length-requires-3 c κs =
+    let entry : tie.Start = search in
+    part-at _ _ _ (entry .pre) done
 
 add-result-2 : tie.Need-add-result-2
-add-result-2 c = omega (arith, owner-few _ _ _ (c .before .before .before .before .before .before .before .pre), c .before .before .before .before .queue-length .ensures, c .before .before .queue-length2 .ensures, c .queue-length3 .ensures)
+add-result-2 c =
+    let at-queue-length2 : tie.After-queue-length2 = search in
+    let at-queue-length : tie.After-queue-length = search in
+    let entry : tie.Start = search in
+    omega (arith, owner-few _ _ _ (entry .pre), at-queue-length .queue-length .ensures, at-queue-length2 .queue-length2 .ensures, c .queue-length3 .ensures)
 
 returns : tie.Need-returns
-returns c = omega (arith, c .before .before .before .before .queue-length .ensures, c .before .before .queue-length2 .ensures, c .queue-length3 .ensures)
+returns c = search needs
 
 pub owner-length-spec : {M : Type 1} → statement M
 owner-length-spec =

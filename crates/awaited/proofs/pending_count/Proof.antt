@@ -20,7 +20,9 @@ abbrev μ-loop : tie.MeasureT-loop
 μ-loop m cabinets n₀ c₀ n c = cabinets - c
 
 shared-slice-read-index : tie.Need-shared-slice-read-index Inv-loop μ-loop
-shared-slice-read-index c = omega (arith, long _ (c .before .before .pre))
+shared-slice-read-index c =
+    let entry : tie.Start Inv-loop μ-loop = search in
+    omega (arith, long _ (entry .pre))
 
 index-requires : tie.Need-index-requires Inv-loop μ-loop
 index-requires c κs = search needs
@@ -29,31 +31,52 @@ loop-holds : tie.Need-loop-holds Inv-loop μ-loop
 loop-holds c = (summed-start _ _, omega arith)
 
 add-ones : tie.Need-add-ones Inv-loop μ-loop
-add-ones c = omega (arith, c .before .before .index .ensures, inRange _ (c .before .before .before .before .before .pre) .fewCabinets)
+add-ones c =
+    let at-index : tie.After-index Inv-loop μ-loop = search in
+    let entry : tie.Start Inv-loop μ-loop = search in
+    omega (arith, at-index .index .ensures, inRange _ (entry .pre) .fewCabinets)
 
 mul-ones : tie.Need-mul-ones Inv-loop μ-loop
-mul-ones c = omega (arith, c .before .before .index .ensures, inRange _ (c .before .before .before .before .before .pre) .fewCabinets)
+mul-ones c =
+    let at-index : tie.After-index Inv-loop μ-loop = search in
+    let entry : tie.Start Inv-loop μ-loop = search in
+    omega (arith, at-index .index .ensures, inRange _ (entry .pre) .fewCabinets)
 
 shared-slice-read-ones : tie.Need-shared-slice-read-ones Inv-loop μ-loop
-shared-slice-read-ones c = omega (arith, c .before .before .before .index .ensures, inRange _ (c .before .before .before .before .before .before .pre) .fewCabinets, long _ (c .before .before .before .before .before .before .pre))
+shared-slice-read-ones c =
+    let at-index : tie.After-index Inv-loop μ-loop = search in
+    let entry : tie.Start Inv-loop μ-loop = search in
+    omega (arith, at-index .index .ensures, inRange _ (entry .pre) .fewCabinets, long _ (entry .pre))
 
 ones-requires : tie.Need-ones-requires Inv-loop μ-loop
 ones-requires c κs = search needs
 
 add-n : tie.Need-add-n Inv-loop μ-loop
-add-n c = omega (arith, c .ones .ensures, pending-few (now (c .before .before .before .before .before .before .before .args .m)) (c .before .before .before .loop .c), c .before .before .before .loop .inv .1, c .before .before .before .before .index .ensures, inRange _ (c .before .before .before .before .before .before .before .pre) .fewCabinets)
+add-n c =
+    let at-loop : tie.At-loop Inv-loop μ-loop = search in
+    let at-index : tie.After-index Inv-loop μ-loop = search in
+    let entry : tie.Start Inv-loop μ-loop = search in
+    omega (arith, c .ones .ensures, pending-few (now (entry .args .m)) (at-loop .loop .c), at-loop .loop .inv .1, at-index .index .ensures, inRange _ (entry .pre) .fewCabinets)
 
 add-c : tie.Need-add-c Inv-loop μ-loop
-add-c c = omega (arith, c .before .before .before .before .index .ensures, inRange _ (c .before .before .before .before .before .before .before .pre) .fewCabinets)
+add-c c = search (needs, inRange)
 
 loop-less : tie.Need-loop-less Inv-loop μ-loop
-loop-less c = omega (arith, c .before .before .before .before .index .ensures, inRange _ (c .before .before .before .before .before .before .before .pre) .fewCabinets)
+loop-less c = search (needs, inRange)
 
 loop-again : tie.Need-loop-again Inv-loop μ-loop
-loop-again c = (summed-on _ _ _ _ (c .before .before .before .loop .inv .0) (omega (arith, c .before .before .before .before .index .ensures)) _ (c .ones .ensures), omega (arith, c .ones .ensures, pending-few (now (c .before .before .before .before .before .before .before .args .m)) (c .before .before .before .loop .c), c .before .before .before .loop .inv .1))
+loop-again c =
+    let at-loop : tie.At-loop Inv-loop μ-loop = search in
+    let at-index : tie.After-index Inv-loop μ-loop = search in
+    let entry : tie.Start Inv-loop μ-loop = search in
+    (summed-on _ _ _ _ (at-loop .loop .inv .0) (omega (arith, at-index .index .ensures)) _ (c .ones .ensures), omega (arith, c .ones .ensures, pending-few (now (entry .args .m)) (at-loop .loop .c), at-loop .loop .inv .1))
 
 returns : tie.Need-returns Inv-loop μ-loop
-returns c = summed-done _ _ _ _ (c .before .loop .inv .0) (omega (arith, c .before .before .index .ensures)) ∙ count-shown _ (c .before .before .before .before .before .pre)
+returns c =
+    let at-loop : tie.At-loop Inv-loop μ-loop = search in
+    let at-index : tie.After-index Inv-loop μ-loop = search in
+    let entry : tie.Start Inv-loop μ-loop = search in
+    summed-done _ _ _ _ (at-loop .loop .inv .0) (omega (arith, at-index .index .ensures)) ∙ count-shown _ (entry .pre)
 
 pub pending-count-spec : {M : Type 1} → statement M
 pending-count-spec =

@@ -16,7 +16,9 @@ abbrev μ-loop : tie.MeasureT-loop
 μ-loop m links first slots slot₀ n₀ slot n = sizes m .slots - n
 
 shared-slice-read-slots : tie.Need-shared-slice-read-slots Inv-loop μ-loop
-shared-slice-read-slots c = omega (arith, long _ (c .before .before .pre .links .sound))
+shared-slice-read-slots c =
+    let entry : tie.Start Inv-loop μ-loop = search in
+    omega (arith, long _ (entry .pre .links .sound))
 
 loop-holds : tie.Need-loop-holds Inv-loop μ-loop
 loop-holds c = counted-start _ _
@@ -25,28 +27,51 @@ index-requires : tie.Need-index-requires Inv-loop μ-loop
 index-requires c κs = search needs
 
 mul-slot : tie.Need-mul-slot Inv-loop μ-loop
-mul-slot c = omega (arith, c .index .ensures, inRange _ (c .before .before .before .before .before .pre .links .sound) .fewSlots)
+mul-slot c =
+    let entry : tie.Start Inv-loop μ-loop = search in
+    omega (arith, c .index .ensures, inRange _ (entry .pre .links .sound) .fewSlots)
 
 add-slot : tie.Need-add-slot Inv-loop μ-loop
-add-slot c = omega (arith, c .index .ensures, link-inside _ _ _ _ _ (c .before .before .before .before .before .pre) (c .before .before .loop .inv) (c .before .loop-test .taken))
+add-slot c =
+    let at-loop-test : tie.In-loop Inv-loop μ-loop = search in
+    let at-loop : tie.At-loop Inv-loop μ-loop = search in
+    let entry : tie.Start Inv-loop μ-loop = search in
+    omega (arith, c .index .ensures, link-inside _ _ _ _ _ (entry .pre) (at-loop .loop .inv) (at-loop-test .loop-test .taken))
 
 mul-slot-2 : tie.Need-mul-slot-2 Inv-loop μ-loop
-mul-slot-2 c = omega (arith, c .index .ensures, link-inside _ _ _ _ _ (c .before .before .before .before .before .pre) (c .before .before .loop .inv) (c .before .loop-test .taken), inRange _ (c .before .before .before .before .before .pre .links .sound) .fewSlots)
+mul-slot-2 c =
+    let at-loop-test : tie.In-loop Inv-loop μ-loop = search in
+    let at-loop : tie.At-loop Inv-loop μ-loop = search in
+    let entry : tie.Start Inv-loop μ-loop = search in
+    omega (arith, c .index .ensures, link-inside _ _ _ _ _ (entry .pre) (at-loop .loop .inv) (at-loop-test .loop-test .taken), inRange _ (entry .pre .links .sound) .fewSlots)
 
 shared-slice-read-slot : tie.Need-shared-slice-read-slot Inv-loop μ-loop
-shared-slice-read-slot c = omega (arith, c .before .index .ensures, link-inside _ _ _ _ _ (c .before .before .before .before .before .before .pre) (c .before .before .before .loop .inv) (c .before .before .loop-test .taken))
+shared-slice-read-slot c =
+    let at-index : tie.After-index Inv-loop μ-loop = search in
+    let at-loop-test : tie.In-loop Inv-loop μ-loop = search in
+    let at-loop : tie.At-loop Inv-loop μ-loop = search in
+    let entry : tie.Start Inv-loop μ-loop = search in
+    omega (arith, at-index .index .ensures, link-inside _ _ _ _ _ (entry .pre) (at-loop .loop .inv) (at-loop-test .loop-test .taken))
 
 add-n : tie.Need-add-n Inv-loop μ-loop
-add-n c = omega (arith, c .before .before .before .loop .inv .few, inRange _ (c .before .before .before .before .before .before .pre .links .sound) .fewSlots)
+add-n c =
+    let at-loop : tie.At-loop Inv-loop μ-loop = search in
+    let entry : tie.Start Inv-loop μ-loop = search in
+    omega (arith, at-loop .loop .inv .few, inRange _ (entry .pre .links .sound) .fewSlots)
 
 loop-less : tie.Need-loop-less Inv-loop μ-loop
-loop-less c = omega (arith, (counted-on _ _ _ _ _ (c .before .before .before .before .before .before .pre) (c .before .before .before .loop .inv) (c .before .before .loop-test .taken) _ (c .before .index .ensures)) .few)
+loop-less c =
+    let at-index : tie.After-index Inv-loop μ-loop = search in
+    let at-loop-test : tie.In-loop Inv-loop μ-loop = search in
+    let at-loop : tie.At-loop Inv-loop μ-loop = search in
+    let entry : tie.Start Inv-loop μ-loop = search in
+    omega (arith, (counted-on _ _ _ _ _ (entry .pre) (at-loop .loop .inv) (at-loop-test .loop-test .taken) _ (at-index .index .ensures)) .few)
 
 loop-again : tie.Need-loop-again Inv-loop μ-loop
-loop-again c = counted-on _ _ _ _ _ (c .before .before .before .before .before .before .pre) (c .before .before .before .loop .inv) (c .before .before .loop-test .taken) _ (c .before .index .ensures)
+loop-again c = search (needs, counted-on)
 
 returns : tie.Need-returns Inv-loop μ-loop
-returns c = counted-done _ _ _ _ _ (c .before .before .before .before .pre) (c .before .loop .inv) (c .loop-test .left)
+returns c = search (needs, counted-done)
 
 pub queue-length-spec : {M : Type 1} → statement M
 queue-length-spec =

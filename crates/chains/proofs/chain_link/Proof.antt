@@ -14,7 +14,9 @@ shared-slice-read-result : tie.Need-shared-slice-read-result
 shared-slice-read-result c = search needs
 
 returns : tie.Need-returns
-returns c = rw (c .before .link-address .ensures)
+returns c =
+    let at-link-address : tie.After-link-address = search in
+    rw (at-link-address .link-address .ensures)
 
 pub chain-link-spec : {M : Type 1} → statement M
 chain-link-spec =

@@ -20,7 +20,9 @@ same-length : tie.Need-same-length
 same-length c = search needs
 
 returns : tie.Need-returns
-returns c = rw (c .before .before .before .write-product .ensures, c .link-address .ensures)
+returns c =
+    let at-write-product : tie.After-write-product = search in
+    rw (at-write-product .write-product .ensures, c .link-address .ensures)
 
 pub clear-slot-spec : {M : Type 1} → statement M
 clear-slot-spec =

@@ -19,7 +19,10 @@ code-at-requires : tie.Need-code-at-requires
 code-at-requires c κs = search needs
 
 returns : tie.Need-returns
-returns c = c .code-at .ensures ∙ ap (λ (i : ℕ). wide (now (c .before .before .before .args .m)) (i + codeAt)) (c .before .record-address .ensures)
+returns c =
+    let at-record-address : tie.After-record-address = search in
+    let entry : tie.Start = search in
+    c .code-at .ensures ∙ ap (λ (i : ℕ). wide (now (entry .args .m)) (i + codeAt)) (at-record-address .record-address .ensures)
 
 pub code-of-spec : {M : Type 1} → statement M
 code-of-spec = tie.close (tie.spec record-address-requires add-i code-at-requires returns)

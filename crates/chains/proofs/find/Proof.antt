@@ -1,6 +1,7 @@
 -- `chains::find` meets its contract. The loop's invariant: the steps that are left are slots + 1 at most, and the search from here finds what the
 -- whole search finds. The measure is the steps that are left.
 -- Assumes nothing.
+use borrow.Author.Needs.{needs}
 use Prim.Native.Nat.{_≤_, _+_}
 use mathlib.Core.Path.{_≡_, refl, sym, _∙_}
 use native.Mathlib.Omega.{arith}
@@ -24,15 +25,19 @@ loop-holds : tie.Need-loop-holds Inv-loop μ-loop
 loop-holds c = (omega arith, refl)
 
 returns : tie.Need-returns Inv-loop μ-loop
-returns c = seek-none _ _ _ _ _ _ _ _ (c .before .before .loop .inv .1) (c .before .loop-test .taken) (c .if1 .taken)
+returns c = search (needs, seek-none)
 
 code-of-requires : tie.Need-code-of-requires Inv-loop μ-loop
 code-of-requires c κs = omega arith
 
 returns-2 : tie.Need-returns-2 Inv-loop μ-loop
 returns-2 c =
-    seek-found _ _ _ _ _ _ _ _ (c .before .before .before .before .loop .inv .1) (c .before .before .before .loop-test .taken) (c .before .before .if1 .left)
-    (sym (c .before .code-of .ensures) ∙ c .if2 .taken)
+    let at-code-of : tie.After-code-of Inv-loop μ-loop = search in
+    let at-if1 : tie.Else1 Inv-loop μ-loop = search in
+    let at-loop-test : tie.In-loop Inv-loop μ-loop = search in
+    let at-loop : tie.At-loop Inv-loop μ-loop = search in
+    seek-found _ _ _ _ _ _ _ _ (at-loop .loop .inv .1) (at-loop-test .loop-test .taken) (at-if1 .if1 .left)
+    (sym (at-code-of .code-of .ensures) ∙ c .if2 .taken)
 
 chain-link-requires : tie.Need-chain-link-requires Inv-loop μ-loop
 chain-link-requires c κs = omega arith
@@ -45,13 +50,18 @@ loop-less c = omega arith
 
 loop-again : tie.Need-loop-again Inv-loop μ-loop
 loop-again c =
+    let at-if2 : tie.Else2 Inv-loop μ-loop = search in
+    let at-code-of : tie.After-code-of Inv-loop μ-loop = search in
+    let at-if1 : tie.Else1 Inv-loop μ-loop = search in
+    let at-loop-test : tie.In-loop Inv-loop μ-loop = search in
+    let at-loop : tie.At-loop Inv-loop μ-loop = search in
     let on =
-    seek-on _ _ _ _ _ _ _ _ (c .before .before .before .before .before .loop .inv .1) (c .before .before .before .before .loop-test .taken) (c .before .before .before .if1 .left)
-    (λ q. c .before .if2 .left (c .before .before .code-of .ensures ∙ q)) in
+    seek-on _ _ _ _ _ _ _ _ (at-loop .loop .inv .1) (at-loop-test .loop-test .taken) (at-if1 .if1 .left)
+    (λ q. at-if2 .if2 .left (at-code-of .code-of .ensures ∙ q)) in
     (omega arith, rw (c .chain-link .ensures) on)
 
 returns-3 : tie.Need-returns-3 Inv-loop μ-loop
-returns-3 c = seek-end _ _ _ _ _ _ _ _ (c .before .loop .inv .1) (c .loop-test .left)
+returns-3 c = search (needs, seek-end)
 
 pub find-spec : {M : Type 1} → statement M
 find-spec =

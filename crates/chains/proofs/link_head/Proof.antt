@@ -29,7 +29,9 @@ same-length : tie.Need-same-length
 same-length c = search needs
 
 returns : tie.Need-returns
-returns c = rw (c .before .link-address .ensures)
+returns c =
+    let at-link-address : tie.After-link-address = search in
+    rw (at-link-address .link-address .ensures)
 
 pub link-head-spec : {M : Type 1} → statement M
 link-head-spec =

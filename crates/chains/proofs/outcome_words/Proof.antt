@@ -23,7 +23,9 @@ returns c = sym (ap (λ (s : Step). answerWords (outcomeAnswer (outcomeOf s))) (
 
 returns-2 : tie.Need-returns-2
 unfolding outcomeOf outcomeAnswer
-returns-2 c = sym (ap (λ (s : Step). answerWords (outcomeAnswer (outcomeOf s))) (c .before .s .given .1))
+returns-2 c =
+    let at-s : tie.After-s = search in
+    sym (ap (λ (s : Step). answerWords (outcomeAnswer (outcomeOf s))) (at-s .s .given .1))
 
 returns-3 : tie.Need-returns-3
 unfolding outcomeOf outcomeAnswer

@@ -26,7 +26,9 @@ same-length c = search needs
 
 returns : tie.Need-returns
 unfolding pointed
-returns c = simp (lt-ltb _ _ (c .before .if1 .taken), c .link-address .ensures)
+returns c =
+    let at-if1 : tie.Then1 = search in
+    simp (lt-ltb _ _ (at-if1 .if1 .taken), c .link-address .ensures)
 
 same-length-2 : tie.Need-same-length-2
 same-length-2 c = search needs

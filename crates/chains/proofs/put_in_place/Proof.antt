@@ -22,12 +22,17 @@ point-requires : tie.Need-point-requires
 point-requires c κs = search needs
 
 same-length : tie.Need-same-length
-same-length c = c .before .before .point .kept .0 ∙ simp length-set
+same-length c =
+    let at-point : tie.After-point = search in
+    at-point .point .kept .0 ∙ simp length-set
 
 returns : tie.Need-returns
 returns c =
-    c .before .before .point .ensures
-    ∙ rw (c .before .before .before .before .chain-link .ensures, c .before .before .before .before .before .before .link-address .ensures)
+    let at-point : tie.After-point = search in
+    let at-chain-link : tie.After-chain-link = search in
+    let at-link-address : tie.After-link-address = search in
+    at-point .point .ensures
+    ∙ rw (at-chain-link .chain-link .ensures, at-link-address .link-address .ensures)
 
 pub put-in-place-spec : {M : Type 1} → statement M
 put-in-place-spec =

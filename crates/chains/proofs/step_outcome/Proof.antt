@@ -16,7 +16,10 @@ code-of-requires c κs = search needs
 
 returns-2 : tie.Need-returns-2
 unfolding outcomeOf outcomeAt
-returns-2 c = sym (simp (lt-leb _ _ (c .before .before .if1 .left), ne-eqb _ _ (λ q. c .if2 .taken (c .before .code-of .ensures ∙ q))))
+returns-2 c =
+    let at-code-of : tie.After-code-of = search in
+    let at-if1 : tie.Else1 = search in
+    sym (simp (lt-leb _ _ (at-if1 .if1 .left), ne-eqb _ _ (λ q. c .if2 .taken (at-code-of .code-of .ensures ∙ q))))
 
 record-address-requires : tie.Need-record-address-requires
 record-address-requires c κs = search needs
@@ -42,8 +45,12 @@ shared-slice-read-t16 c = search needs
 returns-3 : tie.Need-returns-3
 unfolding outcomeOf outcomeAt
 returns-3 c =
-    let hit = sym (c .before .before .before .before .code-of .ensures) ∙ c .before .before .before .if2 .left in
-    sym (simp (lt-leb _ _ (c .before .before .before .before .before .if1 .left), eq-eqb _ _ hit, c .before .before .record-address .ensures))
+    let at-record-address : tie.After-record-address = search in
+    let at-if2 : tie.Else2 = search in
+    let at-code-of : tie.After-code-of = search in
+    let at-if1 : tie.Else1 = search in
+    let hit = sym (at-code-of .code-of .ensures) ∙ at-if2 .if2 .left in
+    sym (simp (lt-leb _ _ (at-if1 .if1 .left), eq-eqb _ _ hit, at-record-address .record-address .ensures))
 
 pub step-outcome-spec : {M : Type 1} → statement M
 step-outcome-spec =

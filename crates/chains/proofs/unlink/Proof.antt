@@ -15,7 +15,10 @@ same-length : tie.Need-same-length
 same-length c = search needs
 
 returns : tie.Need-returns
-returns c = c .before .before .point .ensures ∙ rw (c .before .before .before .before .chain-link .ensures)
+returns c =
+    let at-point : tie.After-point = search in
+    let at-chain-link : tie.After-chain-link = search in
+    at-point .point .ensures ∙ rw (at-chain-link .chain-link .ensures)
 
 pub unlink-spec : {M : Type 1} → statement M
 unlink-spec = tie.close (tie.spec chain-link-requires point-requires same-length returns)

@@ -58,7 +58,10 @@ same-length : tie.Need-same-length
 same-length c = search needs
 
 returns : tie.Need-returns
-returns c = rw (c .high .ensures, c .before .low .ensures, c .before .before .record-address .ensures)
+returns c =
+    let at-low : tie.After-low = search in
+    let at-record-address : tie.After-record-address = search in
+    rw (c .high .ensures, at-low .low .ensures, at-record-address .record-address .ensures)
 
 pub write-product-spec : {M : Type 1} → statement M
 write-product-spec =

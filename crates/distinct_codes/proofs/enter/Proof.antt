@@ -47,10 +47,15 @@ node-requires c κs = search needs
 
 loop-holds : tie.Need-loop-holds Inv-loop μ-loop
 loop-holds c =
-    let s = c .before .before .before .before .before .before .before .before .pre .3 in
-    let code = c .before .before .before .before .before .code-at .ensures in
-    let cell = c .before .before .spread .ensures .cell in
-    (code, c .before .before .before .before .roots .ensures .count, omega arith, c .node .ensures, omega arith, omega (arith, c .node .ensures, s .within (c .before .before .spread .result)), way-begin _ _ _ _ _ _ _ code cell (c .before .before .before .digits-of .ensures))
+    let at-spread : tie.After-spread Inv-loop μ-loop = search in
+    let at-digits-of : tie.After-digits-of Inv-loop μ-loop = search in
+    let at-roots : tie.After-roots Inv-loop μ-loop = search in
+    let at-code-at : tie.After-code-at Inv-loop μ-loop = search in
+    let entry : tie.Start Inv-loop μ-loop = search in
+    let s = entry .pre .3 in
+    let code = at-code-at .code-at .ensures in
+    let cell = at-spread .spread .ensures .cell in
+    (code, at-roots .roots .ensures .count, omega arith, c .node .ensures, omega arith, omega (arith, c .node .ensures, s .within (at-spread .spread .result)), way-begin _ _ _ _ _ _ _ code cell (at-digits-of .digits-of .ensures))
 
 sub-s : tie.Need-sub-s Inv-loop μ-loop
 sub-s c = search needs
@@ -66,8 +71,11 @@ code-at-requires-2 c κs = search needs
 
 returns : tie.Need-returns Inv-loop μ-loop
 returns c =
-    let i = c .before .before .before .loop .inv in
-    step-old _ _ _ _ _ _ (i .3) (c .before .before .loop-test .taken) _ (sym (c .before .code-at2 .ensures) ∙ c .if1 .taken ∙ i .0)
+    let at-code-at2 : tie.After-code-at2 Inv-loop μ-loop = search in
+    let at-loop-test : tie.In-loop Inv-loop μ-loop = search in
+    let at-loop : tie.At-loop Inv-loop μ-loop = search in
+    let i = at-loop .loop .inv in
+    step-old _ _ _ _ _ _ (i .3) (at-loop-test .loop-test .taken) _ (sym (at-code-at2 .code-at2 .ensures) ∙ c .if1 .taken ∙ i .0)
 
 mul-p : tie.Need-mul-p Inv-loop μ-loop
 mul-p c = search needs
@@ -89,19 +97,28 @@ node-requires-2 c κs = search needs
 
 loop-less : tie.Need-loop-less Inv-loop μ-loop
 loop-less c =
-    let i = c .before .before .before .before .before .loop .inv in
-    omega (arith, step-below (rootsOf (c .before .before .before .before .before .before .before .before .before .before .before .before .before .before .args .few)) (λ (t : ℕ). t) _ _ _ _ (i .3) (c .before .before .before .before .loop-test .taken) (c .before .before .before .before .before .before .before .before .before .before .before .before .before .before .pre .3))
+    let at-loop-test : tie.In-loop Inv-loop μ-loop = search in
+    let at-loop : tie.At-loop Inv-loop μ-loop = search in
+    let entry : tie.Start Inv-loop μ-loop = search in
+    let i = at-loop .loop .inv in
+    omega (arith, step-below (rootsOf (entry .args .few)) (λ (t : ℕ). t) _ _ _ _ (i .3) (at-loop-test .loop-test .taken) (entry .pre .3))
 
 loop-again : tie.Need-loop-again Inv-loop μ-loop
 loop-again c =
-    let i = c .before .before .before .before .before .loop .inv in (
+    let at-if1 : tie.Else1 Inv-loop μ-loop = search in
+    let at-code-at2 : tie.After-code-at2 Inv-loop μ-loop = search in
+    let at-loop-test : tie.In-loop Inv-loop μ-loop = search in
+    let at-loop : tie.At-loop Inv-loop μ-loop = search in
+    let at-roots : tie.After-roots Inv-loop μ-loop = search in
+    let entry : tie.Start Inv-loop μ-loop = search in
+    let i = at-loop .loop .inv in (
       i .0,
       i .1,
       i .2,
       c .node2 .ensures,
       omega arith,
-      omega (arith, c .node2 .ensures, c .before .before .before .before .before .before .before .before .before .before .before .before .before .before .pre .3 .within (c .before .before .before .before .before .before .before .before .before .before .roots .result + 8 * (c .before .before .before .before .before .loop .v - 1) + c .before .before .before .before .before .loop .digits % 8)),
-      step-on _ _ _ _ _ _ (i .3) (c .before .before .before .before .loop-test .taken) _ (i .1) (i .6) (λ q. c .before .before .if1 .left (c .before .before .before .code-at2 .ensures ∙ q ∙ sym (i .0))),
+      omega (arith, c .node2 .ensures, entry .pre .3 .within (at-roots .roots .result + 8 * (at-loop .loop .v - 1) + at-loop .loop .digits % 8)),
+      step-on _ _ _ _ _ _ (i .3) (at-loop-test .loop-test .taken) _ (i .1) (i .6) (λ q. at-if1 .if1 .left (at-code-at2 .code-at2 .ensures ∙ q ∙ sym (i .0))),
     )
 
 add-cells : tie.Need-add-cells Inv-loop μ-loop
@@ -121,8 +138,10 @@ same-length c = search needs
 
 returns-2 : tie.Need-returns-2 Inv-loop μ-loop
 returns-2 c =
-    let i = c .before .loop .inv in
-    step-new _ _ _ _ _ (omega arith) (omega arith) (c .before .before .before .before .before .before .before .before .before .before .pre .3) (omega arith) _ (i .6)
+    let at-loop : tie.At-loop Inv-loop μ-loop = search in
+    let entry : tie.Start Inv-loop μ-loop = search in
+    let i = at-loop .loop .inv in
+    step-new _ _ _ _ _ (omega arith) (omega arith) (entry .pre .3) (omega arith) _ (i .6)
 
 pub enter-spec : {M : Type 1} → statement M
 enter-spec =

@@ -23,7 +23,9 @@ array-write-counts : tie.Need-array-write-counts
 array-write-counts c = search needs
 
 returns : tie.Need-returns
-returns c = ap (λ (v : ℕ). set (c .before .args .quiescent) (c .before .args .kind) v) (c .up .ensures) ∙ sym (update-set 0 _ _ _)
+returns c =
+    let entry : tie.Start = search in
+    ap (λ (v : ℕ). set (entry .args .quiescent) (entry .args .kind) v) (c .up .ensures) ∙ sym (update-set 0 _ _ _)
 
 pub count-spec : {M : Type 1} → statement M
 count-spec =

@@ -12,7 +12,9 @@ count-requires c κs = search needs
 
 returns : tie.Need-returns
 unfolding countedRecord
-returns c = ap (λ (q : List ℕ). withQuiescent q (c .before .before .args .r)) (c .count .ensures)
+returns c =
+    let entry : tie.Start = search in
+    ap (λ (q : List ℕ). withQuiescent q (entry .args .r)) (c .count .ensures)
 
 pub counted-spec : {M : Type 1} → statement M
 counted-spec = tie.close (tie.spec count-requires returns)

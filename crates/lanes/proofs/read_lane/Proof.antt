@@ -141,8 +141,10 @@ shared-slice-read-t55 c = search needs
 returns : tie.Need-returns
 unfolding recordAt
 returns c =
-    let d = c .before .before .before .before .before .before .before .before .before .before .before .before in
-    ap₂ (recordWith (now (d .before .before .args .m)) (d .before .before .args .at)) (d .read-counts .ensures) (c .before .before .before .before .before .before .before .before .before .before .before .read-counts2 .ensures)
+    let at-read-counts2 : tie.After-read-counts2 = search in
+    let entry : tie.Start = search in
+    let d : tie.After-read-counts = search in
+    ap₂ (recordWith (now (entry .args .m)) (entry .args .at)) (d .read-counts .ensures) (at-read-counts2 .read-counts2 .ensures)
 
 pub read-lane-spec : {M : Type 1} → statement M
 read-lane-spec =

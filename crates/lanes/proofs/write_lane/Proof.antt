@@ -34,7 +34,9 @@ add-write-counts-2 c = search needs
 
 write-counts-requires-2 : tie.Need-write-counts-requires-2
 write-counts-requires-2 c κs =
-    let k : length (c .before .before .before .write-counts .last .0) ≡ length (now (c .before .before .before .before .before .before .before .before .args .m)) = c .before .before .before .write-counts .kept .0 ∙ simp length-set in
+    let at-write-counts : tie.After-write-counts = search in
+    let entry : tie.Start = search in
+    let k : length (at-write-counts .write-counts .last .0) ≡ length (now (entry .args .m)) = at-write-counts .write-counts .kept .0 ∙ simp length-set in
     omega arith
 
 add-m : tie.Need-add-m
@@ -155,7 +157,11 @@ same-length : tie.Need-same-length
 same-length c = simp length-set (same c)
 
 returns : tie.Need-returns
-returns c = recordStored-parts _ _ _ (c .before .before .before .before .before .before .before .before .before .before .before .args .at) (c .before .before .before .before .before .before .before .before .before .before .before .args .r) (c .before .before .before .before .before .before .write-counts .ensures) (c .before .before .write-counts2 .ensures)
+returns c =
+    let at-write-counts2 : tie.After-write-counts2 = search in
+    let at-write-counts : tie.After-write-counts = search in
+    let entry : tie.Start = search in
+    recordStored-parts _ _ _ (entry .args .at) (entry .args .r) (at-write-counts .write-counts .ensures) (at-write-counts2 .write-counts2 .ensures)
 
 pub write-lane-spec : {M : Type 1} → statement M
 write-lane-spec =

@@ -30,7 +30,7 @@ global-words-fit-requires : tie.Need-global-words-fit-requires
 global-words-fit-requires c κs = search needs
 
 returns : tie.Need-returns
-returns c = engine-global _ _ (c .before .global-words-fit .ensures) (not-true _ (c .if1 .taken))
+returns c = search (needs, engine-global, not-true)
 
 shared-slice-read-cabinets-fit : tie.Need-shared-slice-read-cabinets-fit
 shared-slice-read-cabinets-fit c = search needs
@@ -39,16 +39,20 @@ cabinets-fit-requires : tie.Need-cabinets-fit-requires
 cabinets-fit-requires c κs = search needs
 
 returns-2 : tie.Need-returns-2
-returns-2 c = engine-cabinets _ _ (c .before .before .before .before .global-words-fit .ensures) (not-false _ (c .before .before .before .if1 .left)) _ (c .before .before .before .before .before .before .before .before .index .ensures) _ (c .before .cabinets-fit .ensures) (not-true _ (c .if2 .taken))
+returns-2 c = search (needs, engine-cabinets, not-false, not-true)
 
 add-lanes-fit : tie.Need-add-lanes-fit
 add-lanes-fit c = search needs
 
 lanes-fit-requires : tie.Need-lanes-fit-requires
-lanes-fit-requires c κs = omega (arith, ap₂ _*_ (c .before .before .before .before .before .before .before .before .index .ensures) (c .before .before .before .before .before .before .index2 .ensures), c .before .before .before .before .before .before .before .before .before .before .before .before .pre)
+lanes-fit-requires c κs =
+    let at-index2 : tie.After-index2 = search in
+    let at-index : tie.After-index = search in
+    let entry : tie.Start = search in
+    omega (arith, ap₂ _*_ (at-index .index .ensures) (at-index2 .index2 .ensures), entry .pre)
 
 returns-3 : tie.Need-returns-3
-returns-3 c = engine-lanes _ _ (c .before .before .before .before .before .global-words-fit .ensures) (not-false _ (c .before .before .before .before .if1 .left)) _ (c .before .before .before .before .before .before .before .before .before .index .ensures) _ (c .before .before .cabinets-fit .ensures) (not-false _ (c .before .if2 .left)) _ (c .before .before .before .before .before .before .before .index2 .ensures) _ (c .lanes-fit .ensures)
+returns-3 c = search (needs, engine-lanes, not-false)
 
 pub engine-fits-spec : {M : Type 1} → statement M
 engine-fits-spec =

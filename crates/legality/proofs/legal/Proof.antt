@@ -11,19 +11,24 @@ contents-agree-requires : tie.Need-contents-agree-requires
 contents-agree-requires c κs = search needs
 
 returns : tie.Need-returns
-returns c = legal-contents _ _ (c .before .contents-agree .ensures) (not-true _ (c .if1 .taken))
+returns c = search (needs, legal-contents, not-true)
 
 engine-fits-requires : tie.Need-engine-fits-requires
-engine-fits-requires c κs = contents-fits _ (sym (c .before .contents-agree .ensures) ∙ not-false _ (c .if1 .left))
+engine-fits-requires c κs =
+    let at-contents-agree : tie.After-contents-agree = search in
+    contents-fits _ (sym (at-contents-agree .contents-agree .ensures) ∙ not-false _ (c .if1 .left))
 
 returns-2 : tie.Need-returns-2
-returns-2 c = legal-engine _ _ (c .before .before .before .contents-agree .ensures) (not-false _ (c .before .before .if1 .left)) _ (c .before .engine-fits .ensures) (not-true _ (c .if2 .taken))
+returns-2 c = search (needs, legal-engine, not-false, not-true)
 
 table-fits-requires : tie.Need-table-fits-requires
-table-fits-requires c κs = contents-fits _ (sym (c .before .before .before .contents-agree .ensures) ∙ not-false _ (c .before .before .if1 .left))
+table-fits-requires c κs =
+    let at-if1 : tie.Else1 = search in
+    let at-contents-agree : tie.After-contents-agree = search in
+    contents-fits _ (sym (at-contents-agree .contents-agree .ensures) ∙ not-false _ (at-if1 .if1 .left))
 
 returns-3 : tie.Need-returns-3
-returns-3 c = legal-table _ _ (c .before .before .before .before .contents-agree .ensures) (not-false _ (c .before .before .before .if1 .left)) _ (c .before .before .engine-fits .ensures) (not-false _ (c .before .if2 .left)) _ (c .table-fits .ensures)
+returns-3 c = search (needs, legal-table, not-false)
 
 pub legal-spec : {M : Type 1} → statement M
 legal-spec =

@@ -14,7 +14,7 @@ chains-requires c κs = search needs
 
 returns : tie.Need-returns
 unfolding placeSteps
-returns c = runs-fail _ _ (c .before .chains .ensures) (not-true _ (c .if1 .taken)) _
+returns c = search (needs, runs-fail, not-true)
 
 add-field : tie.Need-add-field
 add-field c = search needs
@@ -24,21 +24,21 @@ queues-requires c κs = search needs
 
 returns-2 : tie.Need-returns-2
 unfolding placeSteps
-returns-2 c = runs-then _ _ (c .before .before .before .before .chains .ensures) (not-false _ (c .before .before .before .if1 .left)) (runs-fail _ _ (c .before .queues .ensures) (not-true _ (c .if2 .taken)) _)
+returns-2 c = search (needs, runs-then, not-false, runs-fail, not-true)
 
 queues-requires-2 : tie.Need-queues-requires-2
 queues-requires-2 c κs = search needs
 
 returns-3 : tie.Need-returns-3
 unfolding placeSteps
-returns-3 c = runs-then _ _ (c .before .before .before .before .before .before .before .chains .ensures) (not-false _ (c .before .before .before .before .before .before .if1 .left)) (runs-then _ _ (c .before .before .before .before .queues .ensures) (not-false _ (c .before .before .before .if2 .left)) (runs-fail _ _ (c .before .queues2 .ensures) (not-true _ (c .if3 .taken)) _))
+returns-3 c = search (needs, runs-then, not-false, runs-fail, not-true)
 
 lane-queues-requires : tie.Need-lane-queues-requires
 lane-queues-requires c κs = search needs
 
 returns-4 : tie.Need-returns-4
 unfolding placeSteps
-returns-4 c = runs-then _ _ (c .before .before .before .before .before .before .before .before .before .chains .ensures) (not-false _ (c .before .before .before .before .before .before .before .before .if1 .left)) (runs-then _ _ (c .before .before .before .before .before .before .queues .ensures) (not-false _ (c .before .before .before .before .before .if2 .left)) (runs-then _ _ (c .before .before .before .queues2 .ensures) (not-false _ (c .before .before .if3 .left)) (c .lane-queues .ensures)))
+returns-4 c = search (needs, runs-then, not-false)
 
 pub mark-slots-spec : {M : Type 1} → statement M
 mark-slots-spec =

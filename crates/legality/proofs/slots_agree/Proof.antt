@@ -13,23 +13,35 @@ mark-slots-requires : tie.Need-mark-slots-requires
 mark-slots-requires c κs = search needs
 
 returns : tie.Need-returns
-returns c = let p = (c .before .before .before .before .before .pre) in table-spoilt _ _ _ _ (p .slots) (p .lanes) (p .count) (p .few) ((c .before .mark-slots .ensures) .bad (not-true _ ((c .if1 .taken))))
+returns c =
+    let at-mark-slots : tie.After-mark-slots = search in
+    let entry : tie.Start = search in
+    let p = (entry .pre) in table-spoilt _ _ _ _ (p .slots) (p .lanes) (p .count) (p .few) ((at-mark-slots .mark-slots .ensures) .bad (not-true _ ((c .if1 .taken))))
 
 queued-fit-requires : tie.Need-queued-fit-requires
 queued-fit-requires c κs = search needs
 
 returns-2 : tie.Need-returns-2
 returns-2 c =
-    let p = (c .before .before .before .before .before .before .before .before .pre) in
-    table-unfit _ _ _ _ (p .slots) (p .lanes) (p .count) (p .few) _ ((c .before .before .before .before .mark-slots .ensures) .good (not-false _ ((c .before .before .before .if1 .left)))) _ (c .before .queued-fit .ensures) (not-true _ ((c .if2 .taken)))
+    let at-queued-fit : tie.After-queued-fit = search in
+    let at-if1 : tie.Else1 = search in
+    let at-mark-slots : tie.After-mark-slots = search in
+    let entry : tie.Start = search in
+    let p = (entry .pre) in
+    table-unfit _ _ _ _ (p .slots) (p .lanes) (p .count) (p .few) _ ((at-mark-slots .mark-slots .ensures) .good (not-false _ ((at-if1 .if1 .left)))) _ (at-queued-fit .queued-fit .ensures) (not-true _ ((c .if2 .taken)))
 
 chained-fit-requires : tie.Need-chained-fit-requires
 chained-fit-requires c κs = search needs
 
 returns-3 : tie.Need-returns-3
 returns-3 c =
-    let p = (c .before .before .before .before .before .before .before .before .before .before .pre) in
-    table-decided _ _ _ _ (p .slots) (p .lanes) (p .count) (p .few) _ ((c .before .before .before .before .before .before .mark-slots .ensures) .good (not-false _ ((c .before .before .before .before .before .if1 .left)))) (sym (c .before .before .before .queued-fit .ensures) ∙ not-false _ ((c .before .before .if2 .left))) _ (c .chained-fit .ensures)
+    let at-if2 : tie.Else2 = search in
+    let at-queued-fit : tie.After-queued-fit = search in
+    let at-if1 : tie.Else1 = search in
+    let at-mark-slots : tie.After-mark-slots = search in
+    let entry : tie.Start = search in
+    let p = (entry .pre) in
+    table-decided _ _ _ _ (p .slots) (p .lanes) (p .count) (p .few) _ ((at-mark-slots .mark-slots .ensures) .good (not-false _ ((at-if1 .if1 .left)))) (sym (at-queued-fit .queued-fit .ensures) ∙ not-false _ ((at-if2 .if2 .left))) _ (c .chained-fit .ensures)
 
 pub slots-agree-spec : {M : Type 1} → statement M
 slots-agree-spec =

@@ -20,10 +20,16 @@ answer-line-requires : tie.Need-answer-line-requires
 answer-line-requires c κs = search needs
 
 array-share-prefix-out : tie.Need-array-share-prefix-out
-array-share-prefix-out c = omega (arith, (c .before .before .before .answer-line .ensures .short), (c .before .before .before .answer-line .kept) .1 .1 .0, (c .before .before .before .before .before .before .buffer .ensures))
+array-share-prefix-out c =
+    let at-answer-line : tie.After-answer-line = search in
+    let at-buffer : tie.After-buffer = search in
+    omega (arith, (at-answer-line .answer-line .ensures .short), (at-answer-line .answer-line .kept) .1 .1 .0, (at-buffer .buffer .ensures))
 
 slice-aggregate-write : tie.Need-slice-aggregate-write
-slice-aggregate-write c = sym (length-take-le _ _ (omega (arith, (c .before .before .before .before .answer-line .ensures .short), (c .before .before .before .before .answer-line .kept) .1 .1 .0, (c .before .before .before .before .before .before .before .buffer .ensures))))
+slice-aggregate-write c =
+    let at-answer-line : tie.After-answer-line = search in
+    let at-buffer : tie.After-buffer = search in
+    sym (length-take-le _ _ (omega (arith, (at-answer-line .answer-line .ensures .short), (at-answer-line .answer-line .kept) .1 .1 .0, (at-buffer .buffer .ensures))))
 
 write-requires : tie.Need-write-requires
 write-requires c κs = search needs
@@ -32,7 +38,7 @@ same-length : tie.Need-same-length
 same-length c = search needs
 
 returns : tie.Need-returns
-returns c = end-line (c .before .before .before .before .before .before .before .before .before .if1 .taken) (c .before .before .before .before .before .answer-line .ensures)
+returns c = search (needs, end-line)
 
 returns-2 : tie.Need-returns-2
 returns-2 c = end-none (c .if1 .left)

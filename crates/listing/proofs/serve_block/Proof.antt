@@ -1,6 +1,6 @@
 -- `serve_block` meets its contract. The loop's invariant: the block is answered up to the place. The measure is what is left of the block. Assumes nothing.
 use Prim.Native.Nat.{_-_}
-use mathlib.Core.Path.{_≡_, sym, _∙_}
+use mathlib.Core.Path.{_≡_}
 use mathlib.Core.Logic.{⊎-elim}
 use native.Mathlib.Omega.{arith}
 use lib.ListN.{length}
@@ -26,31 +26,46 @@ loop-holds : tie.Need-loop-holds Inv-loop μ-loop
 loop-holds c = (serving-none _ _ _ _, (c .large-buffer .ensures))
 
 slice-aggregate-answer-block : tie.Need-slice-aggregate-answer-block Inv-loop μ-loop
-slice-aggregate-answer-block c = (c .before .before .before .before .before .loop .inv) .1
+slice-aggregate-answer-block c =
+    let at-loop : tie.At-loop Inv-loop μ-loop = search in
+    (at-loop .loop .inv) .1
 
 answer-block-requires : tie.Need-answer-block-requires Inv-loop μ-loop
-answer-block-requires c κs = (omega (arith, (c .before .before .before .if1 .taken)), omega arith)
+answer-block-requires c κs =
+    let at-if1 : tie.Then1 Inv-loop μ-loop = search in
+    (omega (arith, (at-if1 .if1 .taken)), omega arith)
 
 array-share-prefix-out : tie.Need-array-share-prefix-out Inv-loop μ-loop
-array-share-prefix-out c = (c .before .before .before .answer-block .ensures .goes .room)
+array-share-prefix-out c =
+    let at-answer-block : tie.After-answer-block Inv-loop μ-loop = search in
+    (at-answer-block .answer-block .ensures .goes .room)
 
 slice-aggregate-write : tie.Need-slice-aggregate-write Inv-loop μ-loop
-slice-aggregate-write c = sym (length-take-le _ _ (c .before .before .before .before .answer-block .ensures .goes .room))
+slice-aggregate-write c = search (needs, length-take-le)
 
 write-requires : tie.Need-write-requires Inv-loop μ-loop
 write-requires c κs = search needs
 
 loop-less : tie.Need-loop-less Inv-loop μ-loop
-loop-less c = omega (arith, through-further (c .before .before .before .before .before .answer-block .ensures) (omega (arith, (c .before .before .before .before .before .before .before .before .before .before .before .loop .inv) .1)) (c .before .before .before .before .before .before .before .before .before .if1 .taken), (c .before .before .before .before .before .before .before .before .before .if1 .taken))
+loop-less c =
+    let at-answer-block : tie.After-answer-block Inv-loop μ-loop = search in
+    let at-if1 : tie.Then1 Inv-loop μ-loop = search in
+    let at-loop : tie.At-loop Inv-loop μ-loop = search in
+    omega (arith, through-further (at-answer-block .answer-block .ensures) (omega (arith, (at-loop .loop .inv) .1)) (at-if1 .if1 .taken), (at-if1 .if1 .taken))
 
 loop-again : tie.Need-loop-again Inv-loop μ-loop
-loop-again c = (serving-more ((c .before .before .before .before .before .before .before .before .before .before .before .loop .inv) .0) (c .before .before .before .before .before .answer-block .ensures .goes) ((c .before .before .before .before .before .answer-block .kept) .0), (c .before .before .before .before .before .before .before .before .before .before .before .loop .inv) .1 ∙ sym (c .before .before .before .before .before .answer-block .ensures .goes .size))
+loop-again c = search (needs, serving-more)
 
 same-length : tie.Need-same-length Inv-loop μ-loop
-same-length c = c .before .before .before .loop .inv .0 .words
+same-length c =
+    let at-loop : tie.At-loop Inv-loop μ-loop = search in
+    at-loop .loop .inv .0 .words
 
 returns : tie.Need-returns Inv-loop μ-loop
-returns c = ⊎-elim (λ w. serves-failed (w .1 .left)) (λ w. serves-all (c .before .before .before .loop .inv .0) (w .left)) (c .before .if1 .came)
+returns c =
+    let at-if1 : tie.Joined1 Inv-loop μ-loop = search in
+    let at-loop : tie.At-loop Inv-loop μ-loop = search in
+    ⊎-elim (λ w. serves-failed (w .1 .left)) (λ w. serves-all (at-loop .loop .inv .0) (w .left)) (at-if1 .if1 .came)
 
 pub serve-block-spec : {M : Type 1} → statement M
 serve-block-spec =

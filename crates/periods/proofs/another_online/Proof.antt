@@ -27,31 +27,44 @@ loop-holds : tie.Need-loop-holds Inv-loop μ-loop
 loop-holds c = (omega arith, refl)
 
 is-other-online-requires : tie.Need-is-other-online-requires Inv-loop μ-loop
-is-other-online-requires c κs = (c .before .before .before .before .pre, omega (arith, c .before .before .lane-count .ensures))
+is-other-online-requires c κs = search needs
 
 returns : tie.Need-returns Inv-loop μ-loop
 returns c =
-    any-found isOnline freshLane _ _ (c .before .before .before .loop .inv .1)
-    (omega (arith, c .before .before .loop-test .taken, c .before .before .before .before .lane-count .ensures, others-length _ _ (c .before .before .before .before .before .before .pre)))
-    _ (c .before .is-other-online .ensures) (c .if1 .taken)
+    let at-is-other-online : tie.After-is-other-online Inv-loop μ-loop = search in
+    let at-loop-test : tie.In-loop Inv-loop μ-loop = search in
+    let at-loop : tie.At-loop Inv-loop μ-loop = search in
+    let at-lane-count : tie.After-lane-count Inv-loop μ-loop = search in
+    let entry : tie.Start Inv-loop μ-loop = search in
+    any-found isOnline freshLane _ _ (at-loop .loop .inv .1)
+    (omega (arith, at-loop-test .loop-test .taken, at-lane-count .lane-count .ensures, others-length _ _ (entry .pre)))
+    _ (at-is-other-online .is-other-online .ensures) (c .if1 .taken)
 
 add-i : tie.Need-add-i Inv-loop μ-loop
 add-i c = search needs
 
 loop-less : tie.Need-loop-less Inv-loop μ-loop
-loop-less c = omega (arith, c .before .before .loop-test .taken)
+loop-less c = search needs
 
 loop-again : tie.Need-loop-again Inv-loop μ-loop
-loop-again c = (
-  omega (arith, c .before .before .loop-test .taken),
-  any-next isOnline freshLane _ _ (c .before .before .before .loop .inv .1)
-      (omega (arith, c .before .before .loop-test .taken, c .before .before .before .before .lane-count .ensures, others-length _ _ (c .before .before .before .before .before .before .pre)))
-      _ (c .before .is-other-online .ensures) (c .if1 .left),
-)
+loop-again c =
+    let at-is-other-online : tie.After-is-other-online Inv-loop μ-loop = search in
+    let at-loop-test : tie.In-loop Inv-loop μ-loop = search in
+    let at-loop : tie.At-loop Inv-loop μ-loop = search in
+    let at-lane-count : tie.After-lane-count Inv-loop μ-loop = search in
+    let entry : tie.Start Inv-loop μ-loop = search in (
+      omega (arith, at-loop-test .loop-test .taken),
+      any-next isOnline freshLane _ _ (at-loop .loop .inv .1)
+          (omega (arith, at-loop-test .loop-test .taken, at-lane-count .lane-count .ensures, others-length _ _ (entry .pre)))
+          _ (at-is-other-online .is-other-online .ensures) (c .if1 .left),
+    )
 
 returns-2 : tie.Need-returns-2 Inv-loop μ-loop
 returns-2 c =
-    any-none isOnline freshLane _ _ (c .before .loop .inv .1) _ (others-length _ _ (c .before .before .before .before .pre) ∙ sym (c .before .before .lane-count .ensures)) (c .loop-test .left)
+    let at-loop : tie.At-loop Inv-loop μ-loop = search in
+    let at-lane-count : tie.After-lane-count Inv-loop μ-loop = search in
+    let entry : tie.Start Inv-loop μ-loop = search in
+    any-none isOnline freshLane _ _ (at-loop .loop .inv .1) _ (others-length _ _ (entry .pre) ∙ sym (at-lane-count .lane-count .ensures)) (c .loop-test .left)
 
 pub another-online-spec : {M : Type 1} → statement M
 another-online-spec =

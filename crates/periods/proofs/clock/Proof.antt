@@ -1,6 +1,5 @@
 -- `clock` meets its contract: a law for each way out. Assumes nothing.
 use native.Mathlib.Omega.{arith}
-use Rattle.model.specs.Rules.{clock}
 use Rattle.access.specs.Ways.{refuses, long}
 use Rattle.access.specs.Lanes.{lane-in}
 use Rattle.periods.specs.Ticks.{clock-refusal, clock-done}
@@ -18,19 +17,28 @@ same-length : tie.Need-same-length
 same-length c = search needs
 
 returns : tie.Need-returns
-returns c = refuses _ (clock (c .before .before .before .before .before .args .lane)) (c .before .before .before .before .before .pre) _ _ (clock-refusal _ _ _ (c .before .before .lane-refusal .ensures)) (c .before .if1 .taken) (c .refused .ensures)
+returns c = search (needs, refuses, clock-refusal)
 
 tick-requires : tie.Need-tick-requires
-tick-requires c κs = lane-in _ (c .before .before .before .before .before .pre) (c .before .before .before .before .before .args .lane) _ (c .before .before .lane-refusal .ensures) (c .before .if1 .left)
+tick-requires c κs = search (needs, lane-in)
 
 is-period-requires : tie.Need-is-period-requires
-is-period-requires c κs = omega (arith, long _ (c .before .before .before .before .before .before .before .before .before .pre), (c .before .before .before .tick .kept .0))
+is-period-requires c κs =
+    let at-tick : tie.After-tick = search in
+    let entry : tie.Start = search in
+    omega (arith, long _ (entry .pre), (at-tick .tick .kept .0))
 
 slice-read-current : tie.Need-slice-read-current
-slice-read-current c = omega (arith, long _ (c .before .before .before .before .before .before .before .before .before .before .before .pre), (c .before .before .before .before .before .tick .kept .0))
+slice-read-current c =
+    let at-tick : tie.After-tick = search in
+    let entry : tie.Start = search in
+    omega (arith, long _ (entry .pre), (at-tick .tick .kept .0))
 
 slice-read-largest : tie.Need-slice-read-largest
-slice-read-largest c = omega (arith, long _ (c .before .before .before .before .before .before .before .before .before .before .before .before .pre), (c .before .before .before .before .before .before .tick .kept .0))
+slice-read-largest c =
+    let at-tick : tie.After-tick = search in
+    let entry : tie.Start = search in
+    omega (arith, long _ (entry .pre), (at-tick .tick .kept .0))
 
 accepted-requires : tie.Need-accepted-requires
 accepted-requires c κs = search needs
@@ -39,7 +47,13 @@ same-length-2 : tie.Need-same-length-2
 same-length-2 c = search needs
 
 returns-2 : tie.Need-returns-2
-returns-2 c = clock-done _ (c .before .before .before .before .before .before .before .before .before .before .before .before .before .pre) (c .before .before .before .before .before .before .before .before .before .before .before .before .before .args .lane) _ (c .before .before .before .before .before .before .before .before .before .if1 .left) _ _ _ (clock-refusal _ _ _ (c .before .before .before .before .before .before .before .before .before .before .lane-refusal .ensures)) (c .before .before .before .before .before .before .before .tick .ensures) (c .before .before .before .is-period .ensures) (c .accepted .ensures)
+returns-2 c =
+    let at-is-period : tie.After-is-period = search in
+    let at-tick : tie.After-tick = search in
+    let at-if1 : tie.Else1 = search in
+    let at-lane-refusal : tie.After-lane-refusal = search in
+    let entry : tie.Start = search in
+    clock-done _ (entry .pre) (entry .args .lane) _ (at-if1 .if1 .left) _ _ _ (clock-refusal _ _ _ (at-lane-refusal .lane-refusal .ensures)) (at-tick .tick .ensures) (at-is-period .is-period .ensures) (c .accepted .ensures)
 
 pub clock-spec : {M : Type 1} → statement M
 clock-spec =

@@ -1,5 +1,4 @@
 -- `off` meets its contract: a law for each way out. Assumes nothing.
-use Rattle.model.specs.Rules.{off}
 use Rattle.access.specs.Ways.{refuses}
 use Rattle.periods.specs.Ticks.{off-lane, off-done}
 use borrow.Author.Needs.{needs}
@@ -16,10 +15,10 @@ same-length : tie.Need-same-length
 same-length c = search needs
 
 returns : tie.Need-returns
-returns c = refuses _ (off (c .before .before .before .before .before .args .lane)) (c .before .before .before .before .before .pre) _ _ (c .before .before .off-refusal .ensures) (c .before .if1 .taken) (c .refused .ensures)
+returns c = search (needs, refuses)
 
 take-off-requires : tie.Need-take-off-requires
-take-off-requires c κs = off-lane _ (c .before .before .before .before .before .pre) (c .before .before .before .before .before .args .lane) _ (c .before .if1 .left) (c .before .before .off-refusal .ensures)
+take-off-requires c κs = search (needs, off-lane)
 
 accepted-requires : tie.Need-accepted-requires
 accepted-requires c κs = search needs
@@ -28,7 +27,7 @@ same-length-2 : tie.Need-same-length-2
 same-length-2 c = search needs
 
 returns-2 : tie.Need-returns-2
-returns-2 c = off-done _ (c .before .before .before .before .before .before .before .before .before .pre) (c .before .before .before .before .before .before .before .before .before .args .lane) _ (c .before .before .before .before .before .if1 .left) _ _ (c .before .before .before .before .before .before .off-refusal .ensures) (c .accepted .ensures) (c .before .before .before .take-off .ensures)
+returns-2 c = search (needs, off-done)
 
 pub off-spec : {M : Type 1} → statement M
 off-spec =

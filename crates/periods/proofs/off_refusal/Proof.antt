@@ -10,16 +10,16 @@ begin-refusal-requires : tie.Need-begin-refusal-requires
 begin-refusal-requires c κs = search needs
 
 returns : tie.Need-returns
-returns c = off-refused _ (c .before .before .before .pre) (c .before .before .before .args .lane) _ (c .before .begin-refusal .ensures) (c .if1 .taken)
+returns c = search (needs, off-refused)
 
 another-online-requires : tie.Need-another-online-requires
-another-online-requires c κs = begin-lane _ (c .before .before .before .pre) (c .before .before .before .args .lane) _ (c .before .begin-refusal .ensures) (c .if1 .left)
+another-online-requires c κs = search (needs, begin-lane)
 
 returns-2 : tie.Need-returns-2
-returns-2 c = off-only _ (c .before .before .before .before .before .pre) (c .before .before .before .before .before .args .lane) _ (c .before .before .before .begin-refusal .ensures) (c .before .before .if1 .left) _ (c .before .another-online .ensures) (not-true _ (c .if2 .taken))
+returns-2 c = search (needs, off-only, not-true)
 
 returns-3 : tie.Need-returns-3
-returns-3 c = off-passes _ (c .before .before .before .before .before .pre) (c .before .before .before .before .before .args .lane) _ (c .before .before .before .begin-refusal .ensures) (c .before .before .if1 .left) _ (c .before .another-online .ensures) (not-false _ (c .if2 .left))
+returns-3 c = search (needs, off-passes, not-false)
 
 pub off-refusal-spec : {M : Type 1} → statement M
 off-refusal-spec =

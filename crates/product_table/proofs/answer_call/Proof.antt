@@ -20,7 +20,7 @@ same-length-2 : tie.Need-same-length-2
 same-length-2 c = search needs
 
 returns-2 : tie.Need-returns-2
-returns-2 c = answered _ _ _ (c .before .before .before .before .before .before .before .before .if1 .left) _ _ _ (c .before .before .before .before .before .before .make-call .ensures) (c .before .before .write-answer .ensures)
+returns-2 c = search (needs, answered)
 
 pub answer-call-spec : {M : Type 1} → statement M
 answer-call-spec =

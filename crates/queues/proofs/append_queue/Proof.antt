@@ -34,8 +34,11 @@ same-length c = search needs
 returns : tie.Need-returns
 unfolding joined
 returns c =
-    c .before .before .set-ends .ensures
-    ∙ sym (simp (lt-ltb _ _ (c .before .before .before .before .before .before .before .before .before .if1 .taken), c .before .before .before .before .before .before .append-run .ensures))
+    let at-set-ends : tie.After-set-ends = search in
+    let at-append-run : tie.After-append-run = search in
+    let at-if1 : tie.Then1 = search in
+    at-set-ends .set-ends .ensures
+    ∙ sym (simp (lt-ltb _ _ (at-if1 .if1 .taken), at-append-run .append-run .ensures))
 
 returns-2 : tie.Need-returns-2
 unfolding joined

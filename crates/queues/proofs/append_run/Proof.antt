@@ -22,7 +22,9 @@ same-length c = search needs
 
 returns : tie.Need-returns
 unfolding appendedRun
-returns c = rw (c .before .before .follow .ensures)
+returns c =
+    let at-follow : tie.After-follow = search in
+    rw (at-follow .follow .ensures)
 
 pub append-run-spec : {M : Type 1} → statement M
 append-run-spec =

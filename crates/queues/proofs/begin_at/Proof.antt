@@ -1,6 +1,5 @@
 -- `queues::begin_at` meets its contract: its test is that of `begunAt`, and each arm stores what that says.
 -- Assumes nothing.
-use mathlib.Core.Path.{sym, _∙_}
 use borrow.Author.Needs.{needs}
 use borrow.Author.Tests.{lt-ltb, le-ltb}
 use Rattle.queues.specs.Queue.{begunAt}
@@ -28,7 +27,7 @@ same-length-2 c = search needs
 
 returns-2 : tie.Need-returns-2
 unfolding begunAt
-returns-2 c = c .before .before .set-ends .ensures ∙ sym (simp (le-ltb _ _ (c .before .before .before .before .if1 .left)))
+returns-2 c = search (needs, le-ltb)
 
 pub begin-at-spec : {M : Type 1} → statement M
 begin-at-spec =

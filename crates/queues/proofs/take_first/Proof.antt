@@ -33,14 +33,20 @@ begin-at-requires : tie.Need-begin-at-requires
 begin-at-requires c κs = search needs
 
 same-length : tie.Need-same-length
-same-length c = c .before .before .begin-at .kept .0 ∙ simp length-set
+same-length c =
+    let at-begin-at : tie.After-begin-at = search in
+    at-begin-at .begin-at .kept .0 ∙ simp length-set
 
 returns : tie.Need-returns
 unfolding lessFirst
-returns c = record {
-  slot = refl;
-  memory = c .before .before .begin-at .ensures ∙ sym (simp (lt-ltb _ _ (c .before .before .before .before .before .before .if1 .taken), c .before .before .before .before .before .link-address .ensures));
-}
+returns c =
+    let at-begin-at : tie.After-begin-at = search in
+    let at-link-address : tie.After-link-address = search in
+    let at-if1 : tie.Then1 = search in
+    record {
+      slot = refl;
+      memory = at-begin-at .begin-at .ensures ∙ sym (simp (lt-ltb _ _ (at-if1 .if1 .taken), at-link-address .link-address .ensures));
+    }
 
 returns-2 : tie.Need-returns-2
 unfolding lessFirst

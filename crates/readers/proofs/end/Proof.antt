@@ -1,6 +1,4 @@
 -- `end` meets its contract: a law for each way out. Assumes nothing.
-use native.Mathlib.Omega.{arith}
-use Rattle.model.specs.Rules.{end}
 use Rattle.access.specs.Ways.{refuses}
 use Rattle.readers.specs.Lanes.{end-lane, end-done}
 use borrow.Author.Needs.{needs}
@@ -17,10 +15,10 @@ same-length : tie.Need-same-length
 same-length c = search needs
 
 returns : tie.Need-returns
-returns c = refuses _ (end (c .before .before .before .before .before .args .lane)) (c .before .before .before .before .before .pre) _ _ (c .before .before .end-refusal .ensures) (c .before .if1 .taken) (c .refused .ensures)
+returns c = search (needs, refuses)
 
 clear-flag-requires : tie.Need-clear-flag-requires
-clear-flag-requires c κs = (end-lane _ (c .before .before .before .before .before .pre) (c .before .before .before .before .before .args .lane) _ (c .before .before .end-refusal .ensures) (c .before .if1 .left), omega arith)
+clear-flag-requires c κs = search (needs, end-lane)
 
 accepted-requires : tie.Need-accepted-requires
 accepted-requires c κs = search needs
@@ -29,7 +27,7 @@ same-length-2 : tie.Need-same-length-2
 same-length-2 c = search needs
 
 returns-2 : tie.Need-returns-2
-returns-2 c = end-done _ (c .before .before .before .before .before .before .before .before .before .pre) (c .before .before .before .before .before .before .before .before .before .args .lane) _ _ _ (c .before .before .before .before .before .if1 .left) (c .accepted .ensures) (c .before .before .before .before .before .before .end-refusal .ensures) (c .before .before .before .clear-flag .ensures)
+returns-2 c = search (needs, end-done)
 
 pub end-spec : {M : Type 1} → statement M
 end-spec =

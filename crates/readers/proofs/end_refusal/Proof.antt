@@ -10,22 +10,22 @@ lane-refusal-requires : tie.Need-lane-refusal-requires
 lane-refusal-requires c κs = search needs
 
 returns : tie.Need-returns
-returns c = end-refused _ (c .before .before .before .pre) (c .before .before .before .args .lane) _ (c .before .lane-refusal .ensures) (c .if1 .taken)
+returns c = search (needs, end-refused)
 
 is-reading-requires : tie.Need-is-reading-requires
-is-reading-requires c κs = lane-in _ (c .before .before .before .pre) (c .before .before .before .args .lane) _ (c .before .lane-refusal .ensures) (c .if1 .left)
+is-reading-requires c κs = search (needs, lane-in)
 
 returns-2 : tie.Need-returns-2
-returns-2 c = end-closed _ (c .before .before .before .before .before .pre) (c .before .before .before .before .before .args .lane) _ (c .before .before .before .lane-refusal .ensures) (c .before .before .if1 .left) _ (c .before .is-reading .ensures) (not-true _ (c .if2 .taken))
+returns-2 c = search (needs, end-closed, not-true)
 
 is-running-requires : tie.Need-is-running-requires
-is-running-requires c κs = lane-in _ (c .before .before .before .before .before .pre) (c .before .before .before .before .before .args .lane) _ (c .before .before .before .lane-refusal .ensures) (c .before .before .if1 .left)
+is-running-requires c κs = search (needs, lane-in)
 
 returns-3 : tie.Need-returns-3
-returns-3 c = end-running _ (c .before .before .before .before .before .before .before .pre) (c .before .before .before .before .before .before .before .args .lane) _ (c .before .before .before .before .before .lane-refusal .ensures) (c .before .before .before .before .if1 .left) _ (c .before .before .before .is-reading .ensures) (not-false _ (c .before .before .if2 .left)) _ (c .before .is-running .ensures) (c .if3 .taken)
+returns-3 c = search (needs, end-running, not-false)
 
 returns-4 : tie.Need-returns-4
-returns-4 c = end-passes _ (c .before .before .before .before .before .before .before .pre) (c .before .before .before .before .before .before .before .args .lane) _ (c .before .before .before .before .before .lane-refusal .ensures) (c .before .before .before .before .if1 .left) _ (c .before .before .before .is-reading .ensures) (not-false _ (c .before .before .if2 .left)) _ (c .before .is-running .ensures) (c .if3 .left)
+returns-4 c = search (needs, end-passes, not-false)
 
 pub end-refusal-spec : {M : Type 1} → statement M
 end-refusal-spec =

@@ -10,34 +10,54 @@ lane-address-requires : tie.Need-lane-address-requires
 lane-address-requires c κs = search needs
 
 add-at : tie.Need-add-at
-add-at c = omega (arith, (c .lane-address .ensures), inRange _ (c .before .before .before .pre .looking .lane .sound) .fewCabinets, inRange _ (c .before .before .before .pre .looking .lane .sound) .fewLanes, (c .before .before .before .pre .looking .lane .known))
+add-at c =
+    let entry : tie.Start = search in
+    omega (arith, (c .lane-address .ensures), inRange _ (entry .pre .looking .lane .sound) .fewCabinets, inRange _ (entry .pre .looking .lane .sound) .fewLanes, (entry .pre .looking .lane .known))
 
 slots-start-requires : tie.Need-slots-start-requires
 slots-start-requires c κs = search needs
 
 slice-reshared-read-chain-link : tie.Need-slice-reshared-read-chain-link
-slice-reshared-read-chain-link c = omega (arith, long _ (c .before .before .before .before .before .before .pre .looking .lane .sound))
+slice-reshared-read-chain-link c =
+    let entry : tie.Start = search in
+    omega (arith, long _ (entry .pre .looking .lane .sound))
 
 mul-chain-link : tie.Need-mul-chain-link
-mul-chain-link c = omega (arith, (c .before .before .before .lane-address .ensures), inRange _ (c .before .before .before .before .before .before .pre .looking .lane .sound) .fewCabinets, inRange _ (c .before .before .before .before .before .before .pre .looking .lane .sound) .fewLanes, (c .before .before .before .before .before .before .pre .looking .lane .known))
+mul-chain-link c =
+    let at-lane-address : tie.After-lane-address = search in
+    let entry : tie.Start = search in
+    omega (arith, (at-lane-address .lane-address .ensures), inRange _ (entry .pre .looking .lane .sound) .fewCabinets, inRange _ (entry .pre .looking .lane .sound) .fewLanes, (entry .pre .looking .lane .known))
 
 slice-reshared-read-chain-link-2 : tie.Need-slice-reshared-read-chain-link-2
-slice-reshared-read-chain-link-2 c = omega (arith, (c .before .before .before .lane-address .ensures), long _ (c .before .before .before .before .before .before .pre .looking .lane .sound), (c .before .before .before .before .before .before .pre .looking .lane .known))
+slice-reshared-read-chain-link-2 c =
+    let at-lane-address : tie.After-lane-address = search in
+    let entry : tie.Start = search in
+    omega (arith, (at-lane-address .lane-address .ensures), long _ (entry .pre .looking .lane .sound), (entry .pre .looking .lane .known))
 
 chain-link-requires : tie.Need-chain-link-requires
-chain-link-requires c κs = omega (arith, (c .before .slots-start .ensures), long _ (c .before .before .before .before .before .before .pre .looking .lane .sound), position-by _ _ (c .before .before .before .before .before .before .pre) _ (c .before .before .before .lane-address .ensures))
+chain-link-requires c κs =
+    let at-slots-start : tie.After-slots-start = search in
+    let at-lane-address : tie.After-lane-address = search in
+    let entry : tie.Start = search in
+    omega (arith, (at-slots-start .slots-start .ensures), long _ (entry .pre .looking .lane .sound), position-by _ _ (entry .pre) _ (at-lane-address .lane-address .ensures))
 
 mul-m : tie.Need-mul-m
-mul-m c = omega (arith, (c .before .before .before .before .lane-address .ensures), inRange _ (c .before .before .before .before .before .before .before .pre .looking .lane .sound) .fewCabinets, inRange _ (c .before .before .before .before .before .before .before .pre .looking .lane .sound) .fewLanes, (c .before .before .before .before .before .before .before .pre .looking .lane .known))
+mul-m c =
+    let at-lane-address : tie.After-lane-address = search in
+    let entry : tie.Start = search in
+    omega (arith, (at-lane-address .lane-address .ensures), inRange _ (entry .pre .looking .lane .sound) .fewCabinets, inRange _ (entry .pre .looking .lane .sound) .fewLanes, (entry .pre .looking .lane .known))
 
 slice-write-m : tie.Need-slice-write-m
-slice-write-m c = omega (arith, (c .before .before .before .before .lane-address .ensures), long _ (c .before .before .before .before .before .before .before .pre .looking .lane .sound), (c .before .before .before .before .before .before .before .pre .looking .lane .known))
+slice-write-m c =
+    let at-lane-address : tie.After-lane-address = search in
+    let entry : tie.Start = search in
+    omega (arith, (at-lane-address .lane-address .ensures), long _ (entry .pre .looking .lane .sound), (entry .pre .looking .lane .known))
 
 same-length : tie.Need-same-length
 same-length c = search needs
 
 returns : tie.Need-returns
-returns c = moved-by _ _ (c .before .before .before .before .before .before .before .pre) _ _ _ (c .before .before .before .before .lane-address .ensures) (c .before .before .slots-start .ensures) (c .chain-link .ensures)
+returns c = search (needs, moved-by)
 
 pub go-on-spec : {M : Type 1} → statement M
 go-on-spec =

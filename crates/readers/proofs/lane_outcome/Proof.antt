@@ -17,25 +17,44 @@ add-code-at : tie.Need-add-code-at
 add-code-at c = search needs
 
 code-at-requires : tie.Need-code-at-requires
-code-at-requires c κs = omega (arith, c .before .lane-address .ensures, long _ (c .before .before .before .pre .lane .sound), c .before .before .before .pre .lane .known)
+code-at-requires c κs =
+    let at-lane-address : tie.After-lane-address = search in
+    let entry : tie.Start = search in
+    omega (arith, at-lane-address .lane-address .ensures, long _ (entry .pre .lane .sound), entry .pre .lane .known)
 
 shared-slice-read-step-outcome : tie.Need-shared-slice-read-step-outcome
-shared-slice-read-step-outcome c = omega (arith, long _ (c .before .before .before .before .before .pre .lane .sound))
+shared-slice-read-step-outcome c =
+    let entry : tie.Start = search in
+    omega (arith, long _ (entry .pre .lane .sound))
 
 add-step-outcome : tie.Need-add-step-outcome
 add-step-outcome c = search needs
 
 mul-step-outcome : tie.Need-mul-step-outcome
-mul-step-outcome c = omega (arith, c .before .before .before .lane-address .ensures, inRange _ (c .before .before .before .before .before .pre .lane .sound) .fewCabinets)
+mul-step-outcome c =
+    let at-lane-address : tie.After-lane-address = search in
+    let entry : tie.Start = search in
+    omega (arith, at-lane-address .lane-address .ensures, inRange _ (entry .pre .lane .sound) .fewCabinets)
 
 shared-slice-read-step-outcome-2 : tie.Need-shared-slice-read-step-outcome-2
-shared-slice-read-step-outcome-2 c = omega (arith, c .before .before .before .before .lane-address .ensures, long _ (c .before .before .before .before .before .before .pre .lane .sound), c .before .before .before .before .before .before .pre .lane .known)
+shared-slice-read-step-outcome-2 c =
+    let at-lane-address : tie.After-lane-address = search in
+    let entry : tie.Start = search in
+    omega (arith, at-lane-address .lane-address .ensures, long _ (entry .pre .lane .sound), entry .pre .lane .known)
 
 step-outcome-requires : tie.Need-step-outcome-requires
-step-outcome-requires c κs = omega (arith, c .before .before .before .slots-start .ensures, long _ (c .before .before .before .before .before .before .pre .lane .sound))
+step-outcome-requires c κs =
+    let at-slots-start : tie.After-slots-start = search in
+    let entry : tie.Start = search in
+    omega (arith, at-slots-start .slots-start .ensures, long _ (entry .pre .lane .sound))
 
 returns : tie.Need-returns
-returns c = c .step-outcome .ensures ∙ outcome-by _ _ (c .before .before .before .before .before .before .before .pre) _ _ _ (c .before .before .before .before .slots-start .ensures) (c .before .before .before .before .before .lane-address .ensures) (c .before .before .before .code-at .ensures)
+returns c =
+    let at-code-at : tie.After-code-at = search in
+    let at-slots-start : tie.After-slots-start = search in
+    let at-lane-address : tie.After-lane-address = search in
+    let entry : tie.Start = search in
+    c .step-outcome .ensures ∙ outcome-by _ _ (entry .pre) _ _ _ (at-slots-start .slots-start .ensures) (at-lane-address .lane-address .ensures) (at-code-at .code-at .ensures)
 
 pub lane-outcome-spec : {M : Type 1} → statement M
 lane-outcome-spec =

@@ -1,6 +1,4 @@
 -- `on` meets its contract: a law for each way out. Assumes nothing.
-use native.Mathlib.Omega.{arith}
-use Rattle.model.specs.Rules.{on}
 use Rattle.access.specs.Ways.{refuses}
 use Rattle.readers.specs.Lanes.{on-lane, on-done}
 use borrow.Author.Needs.{needs}
@@ -17,10 +15,10 @@ same-length : tie.Need-same-length
 same-length c = search needs
 
 returns : tie.Need-returns
-returns c = refuses _ (on (c .before .before .before .before .before .args .lane)) (c .before .before .before .before .before .pre) _ _ (c .before .before .on-refusal .ensures) (c .before .if1 .taken) (c .refused .ensures)
+returns c = search (needs, refuses)
 
 set-flag-requires : tie.Need-set-flag-requires
-set-flag-requires c κs = (on-lane _ (c .before .before .before .before .before .pre) (c .before .before .before .before .before .args .lane) _ (c .before .before .on-refusal .ensures) (c .before .if1 .left), omega arith)
+set-flag-requires c κs = search (needs, on-lane)
 
 accepted-requires : tie.Need-accepted-requires
 accepted-requires c κs = search needs
@@ -29,7 +27,7 @@ same-length-2 : tie.Need-same-length-2
 same-length-2 c = search needs
 
 returns-2 : tie.Need-returns-2
-returns-2 c = on-done _ (c .before .before .before .before .before .before .before .before .before .pre) (c .before .before .before .before .before .before .before .before .before .args .lane) _ _ _ (c .before .before .before .before .before .if1 .left) (c .accepted .ensures) (c .before .before .before .before .before .before .on-refusal .ensures) (c .before .before .before .set-flag .ensures)
+returns-2 c = search (needs, on-done)
 
 pub on-spec : {M : Type 1} → statement M
 on-spec =

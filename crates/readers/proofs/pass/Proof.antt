@@ -1,7 +1,6 @@
 -- `pass` meets its contract: a law for each way out. Assumes nothing.
 use mathlib.Core.Path.{_∙_}
 use native.Mathlib.Omega.{arith}
-use Rattle.model.specs.Rules.{pass}
 use Rattle.access.specs.Ways.{refuses, inRange, long}
 use Rattle.access.specs.Lanes.{stands-at}
 use Rattle.readers.specs.Passes.{pass-lane, pass-kind, cabinet-lent, pass-done}
@@ -19,31 +18,37 @@ same-length : tie.Need-same-length
 same-length c = search needs
 
 returns : tie.Need-returns
-returns c = refuses _ (pass (c .before .before .before .before .before .args .lane) (c .before .before .before .before .before .args .kind)) (c .before .before .before .before .before .pre) _ _ (c .before .before .pass-refusal .ensures) (c .before .if1 .taken) (c .refused .ensures)
+returns c = search (needs, refuses)
 
 slice-read-index : tie.Need-slice-read-index
-slice-read-index c = omega (arith, long _ (c .before .before .before .before .before .pre))
+slice-read-index c =
+    let entry : tie.Start = search in
+    omega (arith, long _ (entry .pre))
 
 index-requires : tie.Need-index-requires
 index-requires c κs = search needs
 
 add-lanes-at : tie.Need-add-lanes-at
-add-lanes-at c = omega (arith, (c .index .ensures), inRange _ (c .before .before .before .before .before .before .pre) .fewCabinets)
+add-lanes-at c =
+    let entry : tie.Start = search in
+    omega (arith, (c .index .ensures), inRange _ (entry .pre) .fewCabinets)
 
 slice-read-index-2 : tie.Need-slice-read-index-2
-slice-read-index-2 c = omega (arith, long _ (c .before .before .before .before .before .before .before .pre))
+slice-read-index-2 c =
+    let entry : tie.Start = search in
+    omega (arith, long _ (entry .pre))
 
 index-requires-2 : tie.Need-index-requires-2
 index-requires-2 c κs = search needs
 
 cabinet-of-requires : tie.Need-cabinet-of-requires
-cabinet-of-requires c κs = pass-lane _ (c .before .before .before .before .before .before .before .before .before .pre) (c .before .before .before .before .before .before .before .before .before .args .lane) (c .before .before .before .before .before .before .before .before .before .args .kind) _ (c .before .before .before .before .before .before .pass-refusal .ensures) (c .before .before .before .before .before .if1 .left)
+cabinet-of-requires c κs = search (needs, pass-lane)
 
 index-requires-3 : tie.Need-index-requires-3
 index-requires-3 c κs = search needs
 
 place-of-requires : tie.Need-place-of-requires
-place-of-requires c κs = pass-lane _ (c .before .before .before .before .before .before .before .before .before .before .before .before .pre) (c .before .before .before .before .before .before .before .before .before .before .before .before .args .lane) (c .before .before .before .before .before .before .before .before .before .before .before .before .args .kind) _ (c .before .before .before .before .before .before .before .before .before .pass-refusal .ensures) (c .before .before .before .before .before .before .before .before .if1 .left)
+place-of-requires c κs = search (needs, pass-lane)
 
 index-requires-4 : tie.Need-index-requires-4
 index-requires-4 c κs = search needs
@@ -53,9 +58,18 @@ index-requires-5 c κs = search needs
 
 pass-lane-requires : tie.Need-pass-lane-requires
 pass-lane-requires c κs =
-    let k = pass-lane _ (c .before .before .before .before .before .before .before .before .before .before .before .before .before .before .before .before .pre) (c .before .before .before .before .before .before .before .before .before .before .before .before .before .before .before .before .args .lane) (c .before .before .before .before .before .before .before .before .before .before .before .before .before .before .before .before .args .kind) _ (c .before .before .before .before .before .before .before .before .before .before .before .before .before .pass-refusal .ensures) (c .before .before .before .before .before .before .before .before .before .before .before .before .if1 .left) in
-    let s = stands-at _ _ _ _ k ((c .before .before .before .before .before .index3 .ensures) ∙ (c .before .before .before .before .before .before .cabinet-of .ensures)) ((c .before .before .index4 .ensures) ∙ (c .before .before .before .place-of .ensures)) in
-    (cabinet-lent _ (c .before .before .before .before .before .before .before .before .before .before .before .before .before .before .before .before .pre) (c .before .before .before .before .before .before .before .before .before .before .before .before .before .before .before .before .args .lane) (c .before .before .before .before .before .before .before .before .before .before .before .before .before .before .before .before .args .kind) _ (c .before .before .before .before .before .before .before .before .before .before .before .before .before .pass-refusal .ensures) (c .before .before .before .before .before .before .before .before .before .before .before .before .if1 .left) _ _ s _ _ (omega (arith, (c .before .before .before .before .before .before .before .before .before .before .index .ensures))) (c .before .before .before .before .before .before .before .before .index2 .ensures), omega (arith, s .place, (c .before .before .before .before .before .before .before .before .index2 .ensures)), omega (arith, (c .index5 .ensures), pass-kind _ (c .before .before .before .before .before .before .before .before .before .before .before .before .before .before .before .before .pre) (c .before .before .before .before .before .before .before .before .before .before .before .before .before .before .before .before .args .lane) (c .before .before .before .before .before .before .before .before .before .before .before .before .before .before .before .before .args .kind) _ (c .before .before .before .before .before .before .before .before .before .before .before .before .before .pass-refusal .ensures) (c .before .before .before .before .before .before .before .before .before .before .before .before .if1 .left)))
+    let at-index4 : tie.After-index4 = search in
+    let at-place-of : tie.After-place-of = search in
+    let at-index3 : tie.After-index3 = search in
+    let at-cabinet-of : tie.After-cabinet-of = search in
+    let at-index2 : tie.After-index2 = search in
+    let at-index : tie.After-index = search in
+    let at-if1 : tie.Else1 = search in
+    let at-pass-refusal : tie.After-pass-refusal = search in
+    let entry : tie.Start = search in
+    let k = pass-lane _ (entry .pre) (entry .args .lane) (entry .args .kind) _ (at-pass-refusal .pass-refusal .ensures) (at-if1 .if1 .left) in
+    let s = stands-at _ _ _ _ k ((at-index3 .index3 .ensures) ∙ (at-cabinet-of .cabinet-of .ensures)) ((at-index4 .index4 .ensures) ∙ (at-place-of .place-of .ensures)) in
+    (cabinet-lent _ (entry .pre) (entry .args .lane) (entry .args .kind) _ (at-pass-refusal .pass-refusal .ensures) (at-if1 .if1 .left) _ _ s _ _ (omega (arith, (at-index .index .ensures))) (at-index2 .index2 .ensures), omega (arith, s .place, (at-index2 .index2 .ensures)), omega (arith, (c .index5 .ensures), pass-kind _ (entry .pre) (entry .args .lane) (entry .args .kind) _ (at-pass-refusal .pass-refusal .ensures) (at-if1 .if1 .left)))
 
 accepted-requires : tie.Need-accepted-requires
 accepted-requires c κs = search needs
@@ -65,9 +79,20 @@ same-length-2 c = search needs
 
 returns-2 : tie.Need-returns-2
 returns-2 c =
-    let k = pass-lane _ (c .before .before .before .before .before .before .before .before .before .before .before .before .before .before .before .before .before .before .before .before .pre) (c .before .before .before .before .before .before .before .before .before .before .before .before .before .before .before .before .before .before .before .before .args .lane) (c .before .before .before .before .before .before .before .before .before .before .before .before .before .before .before .before .before .before .before .before .args .kind) _ (c .before .before .before .before .before .before .before .before .before .before .before .before .before .before .before .before .before .pass-refusal .ensures) (c .before .before .before .before .before .before .before .before .before .before .before .before .before .before .before .before .if1 .left) in
-    let s = stands-at _ _ _ _ k ((c .before .before .before .before .before .before .before .before .before .index3 .ensures) ∙ (c .before .before .before .before .before .before .before .before .before .before .cabinet-of .ensures)) ((c .before .before .before .before .before .before .index4 .ensures) ∙ (c .before .before .before .before .before .before .before .place-of .ensures)) in
-    pass-done _ (c .before .before .before .before .before .before .before .before .before .before .before .before .before .before .before .before .before .before .before .before .pre) (c .before .before .before .before .before .before .before .before .before .before .before .before .before .before .before .before .before .before .before .before .args .lane) (c .before .before .before .before .before .before .before .before .before .before .before .before .before .before .before .before .before .before .before .before .args .kind) _ (c .before .before .before .before .before .before .before .before .before .before .before .before .before .before .before .before .before .pass-refusal .ensures) (c .before .before .before .before .before .before .before .before .before .before .before .before .before .before .before .before .if1 .left) _ _ s _ _ _ _ _ (omega (arith, (c .before .before .before .before .before .before .before .before .before .before .before .before .before .before .index .ensures))) (c .before .before .before .before .before .before .before .before .before .before .before .before .index2 .ensures) (c .before .before .before .before .index5 .ensures) (c .accepted .ensures) (c .before .before .before .pass-lane .ensures)
+    let at-pass-lane : tie.After-pass-lane = search in
+    let at-index5 : tie.After-index5 = search in
+    let at-index4 : tie.After-index4 = search in
+    let at-place-of : tie.After-place-of = search in
+    let at-index3 : tie.After-index3 = search in
+    let at-cabinet-of : tie.After-cabinet-of = search in
+    let at-index2 : tie.After-index2 = search in
+    let at-index : tie.After-index = search in
+    let at-if1 : tie.Else1 = search in
+    let at-pass-refusal : tie.After-pass-refusal = search in
+    let entry : tie.Start = search in
+    let k = pass-lane _ (entry .pre) (entry .args .lane) (entry .args .kind) _ (at-pass-refusal .pass-refusal .ensures) (at-if1 .if1 .left) in
+    let s = stands-at _ _ _ _ k ((at-index3 .index3 .ensures) ∙ (at-cabinet-of .cabinet-of .ensures)) ((at-index4 .index4 .ensures) ∙ (at-place-of .place-of .ensures)) in
+    pass-done _ (entry .pre) (entry .args .lane) (entry .args .kind) _ (at-pass-refusal .pass-refusal .ensures) (at-if1 .if1 .left) _ _ s _ _ _ _ _ (omega (arith, (at-index .index .ensures))) (at-index2 .index2 .ensures) (at-index5 .index5 .ensures) (c .accepted .ensures) (at-pass-lane .pass-lane .ensures)
 
 pub pass-spec : {M : Type 1} → statement M
 pass-spec =

@@ -9,16 +9,26 @@ begin-refusal-requires : tie.Need-begin-refusal-requires
 begin-refusal-requires c κs = search needs
 
 returns : tie.Need-returns
-returns c = pass-refused _ (c .before .before .before .pre) (c .before .before .before .args .lane) (c .before .before .before .args .kind) _ (c .before .begin-refusal .ensures) (c .if1 .taken)
+returns c = search (needs, pass-refused)
 
 index-requires : tie.Need-index-requires
 index-requires c κs = search needs
 
 returns-2 : tie.Need-returns-2
-returns-2 c = pass-wrong _ (c .before .before .before .before .before .pre) (c .before .before .before .before .before .args .lane) (c .before .before .before .before .before .args .kind) _ (c .before .before .before .begin-refusal .ensures) (c .before .before .if1 .left) (omega (arith, (c .if2 .taken), (c .before .index .ensures)))
+returns-2 c =
+    let at-index : tie.After-index = search in
+    let at-if1 : tie.Else1 = search in
+    let at-begin-refusal : tie.After-begin-refusal = search in
+    let entry : tie.Start = search in
+    pass-wrong _ (entry .pre) (entry .args .lane) (entry .args .kind) _ (at-begin-refusal .begin-refusal .ensures) (at-if1 .if1 .left) (omega (arith, (c .if2 .taken), (at-index .index .ensures)))
 
 returns-3 : tie.Need-returns-3
-returns-3 c = pass-passes _ (c .before .before .before .before .before .pre) (c .before .before .before .before .before .args .lane) (c .before .before .before .before .before .args .kind) _ (c .before .before .before .begin-refusal .ensures) (c .before .before .if1 .left) (omega (arith, (c .if2 .left), (c .before .index .ensures)))
+returns-3 c =
+    let at-index : tie.After-index = search in
+    let at-if1 : tie.Else1 = search in
+    let at-begin-refusal : tie.After-begin-refusal = search in
+    let entry : tie.Start = search in
+    pass-passes _ (entry .pre) (entry .args .lane) (entry .args .kind) _ (at-begin-refusal .begin-refusal .ensures) (at-if1 .if1 .left) (omega (arith, (c .if2 .left), (at-index .index .ensures)))
 
 pub pass-refusal-spec : {M : Type 1} → statement M
 pass-refusal-spec =

@@ -56,9 +56,11 @@ same-length c = search needs
 
 returns : tie.Need-returns
 returns c =
-    let s = c .before .before .before .args in
+    let at-low : tie.After-low = search in
+    let entry : tie.Start = search in
+    let s = entry .args in
     ap₂ (λ (x y : ℕ). set (set (set (set (now (s .m)) (s .a) (s .flags)) (s .a + lookupAt) x) (s .a + lookupAt + 1) y) (s .a + positionAt) (s .position))
-    (c .before .low .ensures) (c .high .ensures)
+    (at-low .low .ensures) (c .high .ensures)
 
 pub put-lookup-spec : {M : Type 1} → statement M
 put-lookup-spec =

@@ -1,6 +1,5 @@
 -- `start` meets its contract: a law for each way out. Assumes nothing.
 use native.Mathlib.Omega.{arith}
-use Rattle.model.specs.Rules.{start}
 use Rattle.access.specs.Ways.{refuses, inRange, long}
 use Rattle.readers.specs.Lookups.{start-lane, start-done}
 use borrow.Author.Needs.{needs}
@@ -17,7 +16,7 @@ same-length : tie.Need-same-length
 same-length c = search needs
 
 returns : tie.Need-returns
-returns c = refuses _ (start (c .before .before .before .before .before .args .lane) (c .before .before .before .before .before .args .code)) (c .before .before .before .before .before .pre) _ _ (c .before .before .start-refusal .ensures) (c .before .if1 .taken) (c .refused .ensures)
+returns c = search (needs, refuses)
 
 lane-address-requires : tie.Need-lane-address-requires
 lane-address-requires c κs = search needs
@@ -26,16 +25,29 @@ chain-head-requires : tie.Need-chain-head-requires
 chain-head-requires c κs = search needs
 
 mul-set-bit : tie.Need-mul-set-bit
-mul-set-bit c = omega (arith, c .before .before .lane-address .ensures, inRange _ (c .before .before .before .before .before .before .before .before .pre) .fewCabinets)
+mul-set-bit c =
+    let at-lane-address : tie.After-lane-address = search in
+    let entry : tie.Start = search in
+    omega (arith, at-lane-address .lane-address .ensures, inRange _ (entry .pre) .fewCabinets)
 
 slice-read-set-bit : tie.Need-slice-read-set-bit
-slice-read-set-bit c = omega (arith, c .before .before .before .lane-address .ensures, long _ (c .before .before .before .before .before .before .before .before .before .pre), start-lane _ (c .before .before .before .before .before .before .before .before .before .pre) (c .before .before .before .before .before .before .before .before .before .args .lane) (c .before .before .before .before .before .before .before .before .before .args .code) _ (c .before .before .before .before .before .before .start-refusal .ensures) (c .before .before .before .before .before .if1 .left) .known)
+slice-read-set-bit c =
+    let at-lane-address : tie.After-lane-address = search in
+    let at-if1 : tie.Else1 = search in
+    let at-start-refusal : tie.After-start-refusal = search in
+    let entry : tie.Start = search in
+    omega (arith, at-lane-address .lane-address .ensures, long _ (entry .pre), start-lane _ (entry .pre) (entry .args .lane) (entry .args .code) _ (at-start-refusal .start-refusal .ensures) (at-if1 .if1 .left) .known)
 
 set-bit-requires : tie.Need-set-bit-requires
 set-bit-requires c κs = search needs
 
 put-lookup-requires : tie.Need-put-lookup-requires
-put-lookup-requires c κs = omega (arith, c .before .before .before .before .before .lane-address .ensures, long _ (c .before .before .before .before .before .before .before .before .before .before .before .pre), start-lane _ (c .before .before .before .before .before .before .before .before .before .before .before .pre) (c .before .before .before .before .before .before .before .before .before .before .before .args .lane) (c .before .before .before .before .before .before .before .before .before .before .before .args .code) _ (c .before .before .before .before .before .before .before .before .start-refusal .ensures) (c .before .before .before .before .before .before .before .if1 .left) .known)
+put-lookup-requires c κs =
+    let at-lane-address : tie.After-lane-address = search in
+    let at-if1 : tie.Else1 = search in
+    let at-start-refusal : tie.After-start-refusal = search in
+    let entry : tie.Start = search in
+    omega (arith, at-lane-address .lane-address .ensures, long _ (entry .pre), start-lane _ (entry .pre) (entry .args .lane) (entry .args .code) _ (at-start-refusal .start-refusal .ensures) (at-if1 .if1 .left) .known)
 
 accepted-requires : tie.Need-accepted-requires
 accepted-requires c κs = search needs
@@ -44,7 +56,7 @@ same-length-2 : tie.Need-same-length-2
 same-length-2 c = search needs
 
 returns-2 : tie.Need-returns-2
-returns-2 c = start-done _ (c .before .before .before .before .before .before .before .before .before .before .before .before .before .before .before .pre) (c .before .before .before .before .before .before .before .before .before .before .before .before .before .before .before .args .lane) (c .before .before .before .before .before .before .before .before .before .before .before .before .before .before .before .args .code) _ (c .before .before .before .before .before .before .before .before .before .before .before .before .start-refusal .ensures) (c .before .before .before .before .before .before .before .before .before .before .before .if1 .left) _ _ _ _ _ (c .before .before .before .before .before .before .before .before .before .lane-address .ensures) (c .before .before .before .before .before .set-bit .ensures) (c .before .before .before .before .before .before .before .chain-head .ensures) (c .accepted .ensures) (c .before .before .before .put-lookup .ensures)
+returns-2 c = search (needs, start-done)
 
 pub start-spec : {M : Type 1} → statement M
 start-spec =

@@ -8,13 +8,13 @@ end-refusal-requires : tie.Need-end-refusal-requires
 end-refusal-requires c κs = search needs
 
 returns : tie.Need-returns
-returns c = start-refused _ (c .before .before .before .pre) (c .before .before .before .args .lane) (c .before .before .before .args .code) _ (c .before .end-refusal .ensures) (c .if1 .taken)
+returns c = search (needs, start-refused)
 
 returns-2 : tie.Need-returns-2
-returns-2 c = start-wrong _ (c .before .before .before .before .pre) (c .before .before .before .before .args .lane) (c .before .before .before .before .args .code) _ (c .before .before .end-refusal .ensures) (c .before .if1 .left) (c .if2 .taken)
+returns-2 c = search (needs, start-wrong)
 
 returns-3 : tie.Need-returns-3
-returns-3 c = start-passes _ (c .before .before .before .before .pre) (c .before .before .before .before .args .lane) (c .before .before .before .before .args .code) _ (c .before .before .end-refusal .ensures) (c .before .if1 .left) (c .if2 .left)
+returns-3 c = search (needs, start-passes)
 
 pub start-refusal-spec : {M : Type 1} → statement M
 start-refusal-spec = tie.close (tie.spec end-refusal-requires returns returns-2 returns-3)

@@ -1,5 +1,4 @@
 -- `step` meets its contract: a law for each way out. Assumes nothing.
-use Rattle.model.specs.Rules.{step}
 use mathlib.Core.Path.{sym, _∙_}
 use Rattle.access.specs.Ways.{refuses}
 use Rattle.readers.specs.Steps.{looking, is-going, step-going, step-ended}
@@ -17,10 +16,10 @@ same-length : tie.Need-same-length
 same-length c = search needs
 
 returns : tie.Need-returns
-returns c = refuses _ (step (c .before .before .before .before .before .args .lane)) (c .before .before .before .before .before .pre) _ _ (c .before .before .step-refusal .ensures) (c .before .if1 .taken) (c .refused .ensures)
+returns c = search (needs, refuses)
 
 lane-outcome-requires : tie.Need-lane-outcome-requires
-lane-outcome-requires c κs = looking _ (c .before .before .before .before .before .pre) _ _ (c .before .before .step-refusal .ensures) (c .before .if1 .left)
+lane-outcome-requires c κs = search (needs, looking)
 
 outcome-answer-requires : tie.Need-outcome-answer-requires
 outcome-answer-requires c κs = search needs
@@ -29,22 +28,51 @@ goes-on-requires : tie.Need-goes-on-requires
 goes-on-requires c κs = search needs
 
 go-on-requires : tie.Need-go-on-requires
-go-on-requires c κs = record { looking = looking _ (c .before .before .before .before .before .before .before .before .before .before .pre) _ _ (c .before .before .before .before .before .before .before .step-refusal .ensures) (c .before .before .before .before .before .before .if1 .left); going = sym (c .before .before .before .before .lane-outcome .ensures) ∙ is-going _ (sym (c .before .before .goes-on .ensures) ∙ (c .before .if2 .taken)) }
+go-on-requires c κs =
+    let at-if2 : tie.Then2 = search in
+    let at-goes-on : tie.After-goes-on = search in
+    let at-lane-outcome : tie.After-lane-outcome = search in
+    let at-if1 : tie.Else1 = search in
+    let at-step-refusal : tie.After-step-refusal = search in
+    let entry : tie.Start = search in
+    record { looking = looking _ (entry .pre) _ _ (at-step-refusal .step-refusal .ensures) (at-if1 .if1 .left); going = sym (at-lane-outcome .lane-outcome .ensures) ∙ is-going _ (sym (at-goes-on .goes-on .ensures) ∙ (at-if2 .if2 .taken)) }
 
 same-length-2 : tie.Need-same-length-2
 same-length-2 c = search needs
 
 returns-2 : tie.Need-returns-2
-returns-2 c = step-going _ (c .before .before .before .before .before .before .before .before .before .before .before .before .before .pre) (c .before .before .before .before .before .before .before .before .before .before .before .before .before .args .lane) _ (c .before .before .before .before .before .before .before .before .before .before .step-refusal .ensures) (c .before .before .before .before .before .before .before .before .before .if1 .left) _ (c .before .before .before .before .before .before .before .lane-outcome .ensures) _ (c .before .before .before .before .before .before .outcome-answer .ensures) _ (sym (c .before .before .before .before .before .goes-on .ensures) ∙ (c .before .before .before .before .if2 .taken)) (c .before .before .go-on .ensures)
+returns-2 c =
+    let at-go-on : tie.After-go-on = search in
+    let at-if2 : tie.Then2 = search in
+    let at-goes-on : tie.After-goes-on = search in
+    let at-outcome-answer : tie.After-outcome-answer = search in
+    let at-lane-outcome : tie.After-lane-outcome = search in
+    let at-if1 : tie.Else1 = search in
+    let at-step-refusal : tie.After-step-refusal = search in
+    let entry : tie.Start = search in
+    step-going _ (entry .pre) (entry .args .lane) _ (at-step-refusal .step-refusal .ensures) (at-if1 .if1 .left) _ (at-lane-outcome .lane-outcome .ensures) _ (at-outcome-answer .outcome-answer .ensures) _ (sym (at-goes-on .goes-on .ensures) ∙ (at-if2 .if2 .taken)) (at-go-on .go-on .ensures)
 
 end-lookup-requires : tie.Need-end-lookup-requires
-end-lookup-requires c κs = looking _ (c .before .before .before .before .before .before .before .before .before .before .pre) _ _ (c .before .before .before .before .before .before .before .step-refusal .ensures) (c .before .before .before .before .before .before .if1 .left) .lane
+end-lookup-requires c κs =
+    let at-if1 : tie.Else1 = search in
+    let at-step-refusal : tie.After-step-refusal = search in
+    let entry : tie.Start = search in
+    looking _ (entry .pre) _ _ (at-step-refusal .step-refusal .ensures) (at-if1 .if1 .left) .lane
 
 same-length-3 : tie.Need-same-length-3
 same-length-3 c = search needs
 
 returns-3 : tie.Need-returns-3
-returns-3 c = step-ended _ (c .before .before .before .before .before .before .before .before .before .before .before .before .before .pre) (c .before .before .before .before .before .before .before .before .before .before .before .before .before .args .lane) _ (c .before .before .before .before .before .before .before .before .before .before .step-refusal .ensures) (c .before .before .before .before .before .before .before .before .before .if1 .left) _ (c .before .before .before .before .before .before .before .lane-outcome .ensures) _ (c .before .before .before .before .before .before .outcome-answer .ensures) _ (sym (c .before .before .before .before .before .goes-on .ensures) ∙ (c .before .before .before .before .if2 .left)) (c .before .before .end-lookup .ensures)
+returns-3 c =
+    let at-end-lookup : tie.After-end-lookup = search in
+    let at-if2 : tie.Else2 = search in
+    let at-goes-on : tie.After-goes-on = search in
+    let at-outcome-answer : tie.After-outcome-answer = search in
+    let at-lane-outcome : tie.After-lane-outcome = search in
+    let at-if1 : tie.Else1 = search in
+    let at-step-refusal : tie.After-step-refusal = search in
+    let entry : tie.Start = search in
+    step-ended _ (entry .pre) (entry .args .lane) _ (at-step-refusal .step-refusal .ensures) (at-if1 .if1 .left) _ (at-lane-outcome .lane-outcome .ensures) _ (at-outcome-answer .outcome-answer .ensures) _ (sym (at-goes-on .goes-on .ensures) ∙ (at-if2 .if2 .left)) (at-end-lookup .end-lookup .ensures)
 
 pub step-spec : {M : Type 1} → statement M
 step-spec =

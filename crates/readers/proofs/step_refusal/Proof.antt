@@ -10,16 +10,16 @@ lane-refusal-requires : tie.Need-lane-refusal-requires
 lane-refusal-requires c κs = search needs
 
 returns : tie.Need-returns
-returns c = step-refused _ (c .before .before .before .pre) (c .before .before .before .args .lane) _ (c .before .lane-refusal .ensures) (c .if1 .taken)
+returns c = search (needs, step-refused)
 
 is-running-requires : tie.Need-is-running-requires
-is-running-requires c κs = lane-in _ (c .before .before .before .pre) (c .before .before .before .args .lane) _ (c .before .lane-refusal .ensures) (c .if1 .left)
+is-running-requires c κs = search (needs, lane-in)
 
 returns-2 : tie.Need-returns-2
-returns-2 c = step-idle _ (c .before .before .before .before .before .pre) (c .before .before .before .before .before .args .lane) _ (c .before .before .before .lane-refusal .ensures) (c .before .before .if1 .left) _ (c .before .is-running .ensures) (not-true _ (c .if2 .taken))
+returns-2 c = search (needs, step-idle, not-true)
 
 returns-3 : tie.Need-returns-3
-returns-3 c = step-passes _ (c .before .before .before .before .before .pre) (c .before .before .before .before .before .args .lane) _ (c .before .before .before .lane-refusal .ensures) (c .before .before .if1 .left) _ (c .before .is-running .ensures) (not-false _ (c .if2 .left))
+returns-3 c = search (needs, step-passes, not-false)
 
 pub step-refusal-spec : {M : Type 1} → statement M
 step-refusal-spec =

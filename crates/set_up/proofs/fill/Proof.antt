@@ -34,8 +34,10 @@ loop-less c = omega arith
 
 loop-again : tie.Need-loop-again Inv-loop μ-loop
 loop-again c =
-    let a = c .before .before .args in
-    let l = c .before .loop in
+    let at-loop : tie.At-loop Inv-loop μ-loop = search in
+    let entry : tie.Start Inv-loop μ-loop = search in
+    let a = entry .args in
+    let l = at-loop .loop in
     let e : a .at + l .i ≡ a .at + length (replicate (l .i) (a .v)) = omega (arith, length-replicate (l .i) (a .v)) in
     (omega arith, length-set (l .m) (a .at + l .i) (a .v) ∙ l .inv .1, renamed (after (l .inv .2) (store (l .m) (a .at + l .i) (a .v)) e) (replicate-suc (l .i) (a .v)))
 
@@ -44,8 +46,10 @@ same-length c = omega arith
 
 returns : tie.Need-returns Inv-loop μ-loop
 returns c =
-    let e : c .before .loop .i ≡ c .before .before .args .n = omega arith in
-    renamed (c .before .loop .inv .2) (ap (λ (k : ℕ). replicate k (c .before .before .args .v)) e)
+    let at-loop : tie.At-loop Inv-loop μ-loop = search in
+    let entry : tie.Start Inv-loop μ-loop = search in
+    let e : at-loop .loop .i ≡ entry .args .n = omega arith in
+    renamed (at-loop .loop .inv .2) (ap (λ (k : ℕ). replicate k (entry .args .v)) e)
 
 pub fill-spec : {M : Type 1} → statement M
 fill-spec =

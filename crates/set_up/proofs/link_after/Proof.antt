@@ -1,6 +1,4 @@
 -- `link_after` meets its contract. Assumes nothing.
-use Prim.Native.Nat.{_+_}
-use native.Mathlib.Omega.{arith}
 use borrow.Author.Tests.{lt-ltb, le-ltb}
 use borrow.Author.Needs.{needs}
 use Rattle.set_up.proofs.link_after.Statement.{statement}
@@ -13,10 +11,10 @@ add-result : tie.Need-add-result
 add-result c = search needs
 
 returns : tie.Need-returns
-returns c = rw (lt-ltb (c .before .args .i + 1) (c .before .args .slots) (omega arith))
+returns c = search (needs, lt-ltb)
 
 returns-2 : tie.Need-returns-2
-returns-2 c = rw (le-ltb (c .before .args .i + 1) (c .before .args .slots) (omega arith))
+returns-2 c = search (needs, le-ltb)
 
 pub link-after-spec : {M : Type 1} → statement M
 link-after-spec = tie.close (tie.spec add-if1 add-result returns returns-2)

@@ -15,10 +15,16 @@ refused-requires : tie.Need-refused-requires
 refused-requires c κs = search needs
 
 returns : tie.Need-returns
-returns c = out-of-range (now (c .before .before .before .before .args .m)) (c .before .before .before .before .args .cabinets) (c .before .before .before .before .args .places) (c .before .before .before .before .args .slots) _ (sym (c .before .before .sizes-fit .ensures) ∙ not-true _ (c .before .if1 .taken)) (c .refused .ensures)
+returns c =
+    let at-if1 : tie.Then1 = search in
+    let at-sizes-fit : tie.After-sizes-fit = search in
+    let entry : tie.Start = search in
+    out-of-range (now (entry .args .m)) (entry .args .cabinets) (entry .args .places) (entry .args .slots) _ (sym (at-sizes-fit .sizes-fit .ensures) ∙ not-true _ (at-if1 .if1 .taken)) (c .refused .ensures)
 
 total-words-requires : tie.Need-total-words-requires
-total-words-requires c κs = sym (c .before .sizes-fit .ensures) ∙ not-false _ (c .if1 .left)
+total-words-requires c κs =
+    let at-sizes-fit : tie.After-sizes-fit = search in
+    sym (at-sizes-fit .sizes-fit .ensures) ∙ not-false _ (c .if1 .left)
 
 index-requires : tie.Need-index-requires
 index-requires c κs = search needs
@@ -27,10 +33,21 @@ refused-requires-2 : tie.Need-refused-requires-2
 refused-requires-2 c κs = search needs
 
 returns-2 : tie.Need-returns-2
-returns-2 c = too-short (now (c .before .before .before .before .before .before .before .args .m)) (c .before .before .before .before .before .before .before .args .cabinets) (c .before .before .before .before .before .before .before .args .places) (c .before .before .before .before .before .before .before .args .slots) _ (sym (c .before .before .before .before .before .sizes-fit .ensures) ∙ not-false _ (c .before .before .before .before .if1 .left)) (omega (arith, (c .before .before .before .total-words .ensures), (c .before .before .index .ensures))) (c .refused2 .ensures)
+returns-2 c =
+    let at-index : tie.After-index = search in
+    let at-total-words : tie.After-total-words = search in
+    let at-if1 : tie.Else1 = search in
+    let at-sizes-fit : tie.After-sizes-fit = search in
+    let entry : tie.Start = search in
+    too-short (now (entry .args .m)) (entry .args .cabinets) (entry .args .places) (entry .args .slots) _ (sym (at-sizes-fit .sizes-fit .ensures) ∙ not-false _ (at-if1 .if1 .left)) (omega (arith, (at-total-words .total-words .ensures), (at-index .index .ensures))) (c .refused2 .ensures)
 
 write-fresh-requires : tie.Need-write-fresh-requires
-write-fresh-requires c κs = (sym (c .before .before .before .before .before .sizes-fit .ensures) ∙ not-false _ (c .before .before .before .before .if1 .left), omega (arith, (c .before .before .before .total-words .ensures), (c .before .before .index .ensures)))
+write-fresh-requires c κs =
+    let at-index : tie.After-index = search in
+    let at-total-words : tie.After-total-words = search in
+    let at-if1 : tie.Else1 = search in
+    let at-sizes-fit : tie.After-sizes-fit = search in
+    (sym (at-sizes-fit .sizes-fit .ensures) ∙ not-false _ (at-if1 .if1 .left), omega (arith, (at-total-words .total-words .ensures), (at-index .index .ensures)))
 
 accepted-requires : tie.Need-accepted-requires
 accepted-requires c κs = search needs
@@ -39,7 +56,14 @@ same-length : tie.Need-same-length
 same-length c = search needs
 
 returns-3 : tie.Need-returns-3
-returns-3 c = written (now (c .before .before .before .before .before .before .before .before .before .before .before .args .m)) (c .before .before .before .before .before .before .before .before .before .before .before .args .cabinets) (c .before .before .before .before .before .before .before .before .before .before .before .args .places) (c .before .before .before .before .before .before .before .before .before .before .before .args .slots) _ _ _ (sym (c .before .before .before .before .before .before .before .before .before .sizes-fit .ensures) ∙ not-false _ (c .before .before .before .before .before .before .before .before .if1 .left)) (omega (arith, (c .before .before .before .before .before .before .before .total-words .ensures), (c .before .before .before .before .before .before .index .ensures))) (c .before .before .before .before .before .before .before .total-words .ensures) (c .accepted .ensures) (c .before .before .before .write-fresh .ensures)
+returns-3 c =
+    let at-write-fresh : tie.After-write-fresh = search in
+    let at-index : tie.After-index = search in
+    let at-total-words : tie.After-total-words = search in
+    let at-if1 : tie.Else1 = search in
+    let at-sizes-fit : tie.After-sizes-fit = search in
+    let entry : tie.Start = search in
+    written (now (entry .args .m)) (entry .args .cabinets) (entry .args .places) (entry .args .slots) _ _ _ (sym (at-sizes-fit .sizes-fit .ensures) ∙ not-false _ (at-if1 .if1 .left)) (omega (arith, (at-total-words .total-words .ensures), (at-index .index .ensures))) (at-total-words .total-words .ensures) (c .accepted .ensures) (at-write-fresh .write-fresh .ensures)
 
 pub set-up-spec : {M : Type 1} → statement M
 set-up-spec =

@@ -37,8 +37,12 @@ same-length c = search needs
 
 returns : tie.Need-returns
 returns c =
-    let a = c .before .before .before .before .before .before .before .before .before .before .before .before .before .args in
-    renamed (after (after (c .before .before .before .before .before .before .before .before .before .before .write-four .ensures) (c .before .before .before .before .before .before .write-four2 .ensures) refl) (c .before .before .write-four3 .ensures) refl)
+    let at-write-four3 : tie.After-write-four3 = search in
+    let at-write-four2 : tie.After-write-four2 = search in
+    let at-write-four : tie.After-write-four = search in
+    let entry : tie.Start = search in
+    let a = entry .args in
+    renamed (after (after (at-write-four .write-four .ensures) (at-write-four2 .write-four2 .ensures) refl) (at-write-four3 .write-four3 .ensures) refl)
     (contents-are (sized (a .cabinets) (a .places) (a .slots)) (a .lanes) (omega arith))
 
 pub write-contents-spec : {M : Type 1} → statement M

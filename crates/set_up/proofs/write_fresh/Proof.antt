@@ -10,8 +10,9 @@ use Rattle.set_up.proofs.write_fresh.Tie as tie
 
 mul-lanes : tie.Need-mul-lanes
 mul-lanes c =
-    let a = c .before .args in
-    let f = sizes-fit (sized (a .cabinets) (a .places) (a .slots)) (c .before .pre .0) in
+    let entry : tie.Start = search in
+    let a = entry .args in
+    let f = sizes-fit (sized (a .cabinets) (a .places) (a .slots)) (entry .pre .0) in
     omega arith
 
 index-requires : tie.Need-index-requires
@@ -22,14 +23,16 @@ index-requires-2 c κs = search needs
 
 write-contents-requires : tie.Need-write-contents-requires
 write-contents-requires c κs =
-    let a = c .before .before .before .before .args in
-    let f = sizes-fit (sized (a .cabinets) (a .places) (a .slots)) (c .before .before .before .before .pre .0) in
+    let entry : tie.Start = search in
+    let a = entry .args in
+    let f = sizes-fit (sized (a .cabinets) (a .places) (a .slots)) (entry .pre .0) in
     (omega arith, omega arith, omega arith, omega arith, refl)
 
 write-global-requires : tie.Need-write-global-requires
 write-global-requires c κs =
-    let a = c .before .before .before .before .before .before .before .before .args in
-    let f = sizes-fit (sized (a .cabinets) (a .places) (a .slots)) (c .before .before .before .before .before .before .before .before .pre .0) in
+    let entry : tie.Start = search in
+    let a = entry .args in
+    let f = sizes-fit (sized (a .cabinets) (a .places) (a .slots)) (entry .pre .0) in
     (omega arith, omega arith)
 
 fill-requires : tie.Need-fill-requires
@@ -58,21 +61,29 @@ same-length c = search needs
 
 returns : tie.Need-returns
 returns c =
-    let a = c .before .before .before .before .before .before .before .before .before .before .before .before .before .before .before .before .before .before .before .before .before .before .before .args in
-    let f = sizes-fit (sized (a .cabinets) (a .places) (a .slots)) (c .before .before .before .before .before .before .before .before .before .before .before .before .before .before .before .before .before .before .before .before .before .before .before .pre .0) in
+    let at-write-slots : tie.After-write-slots = search in
+    let at-write-lanes : tie.After-write-lanes = search in
+    let at-fill : tie.After-fill = search in
+    let at-write-global : tie.After-write-global = search in
+    let at-write-contents : tie.After-write-contents = search in
+    let at-index2 : tie.After-index2 = search in
+    let at-index : tie.After-index = search in
+    let entry : tie.Start = search in
+    let a = entry .args in
+    let f = sizes-fit (sized (a .cabinets) (a .places) (a .slots)) (entry .pre .0) in
     all-written
     (sized (a .cabinets) (a .places) (a .slots))
-    (c .before .before .before .before .before .before .before .before .before .before .before .before .before .before .before .before .before .before .before .before .before .index .result)
-    (c .before .before .before .before .before .before .before .before .before .before .before .before .before .before .before .before .before .before .before .before .index2 .result)
-    (c .before .before .before .before .before .before .before .before .before .before .before .before .before .before .before .before .before .before .before .before .before .index .ensures)
-    (c .before .before .before .before .before .before .before .before .before .before .before .before .before .before .before .before .before .before .before .before .index2 .ensures)
+    (at-index .index .result)
+    (at-index2 .index2 .result)
+    (at-index .index .ensures)
+    (at-index2 .index2 .ensures)
     (omega arith)
-    (c .before .before .before .before .before .before .before .before .before .before .before .before .before .before .before .before .before .before .before .before .before .before .before .pre .1)
-    (c .before .before .before .before .before .before .before .before .before .before .before .before .before .before .before .before .before .before .write-contents .ensures)
-    (c .before .before .before .before .before .before .before .before .before .before .before .before .before .before .write-global .ensures)
-    (c .before .before .before .before .before .before .before .before .before .before .fill .ensures)
-    (c .before .before .before .before .before .before .write-lanes .ensures)
-    (c .before .before .write-slots .ensures)
+    (entry .pre .1)
+    (at-write-contents .write-contents .ensures)
+    (at-write-global .write-global .ensures)
+    (at-fill .fill .ensures)
+    (at-write-lanes .write-lanes .ensures)
+    (at-write-slots .write-slots .ensures)
 
 pub write-fresh-spec : {M : Type 1} → statement M
 write-fresh-spec =

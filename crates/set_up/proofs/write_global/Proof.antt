@@ -39,13 +39,20 @@ same-length c = search needs
 returns : tie.Need-returns
 unfolding freshGlobal
 returns c =
-    renamed (after (after (after (after (after (after (c .before .before .before .before .before .before .before .before .before .before .before .before .before .before .before .before .before .before .before .before .before .before .before .before .before .before .fill .ensures)
-    (c .before .before .before .before .before .before .before .before .before .before .before .before .before .before .before .before .before .before .before .before .before .before .fill2 .ensures) refl)
-    (c .before .before .before .before .before .before .before .before .before .before .before .before .before .before .before .before .before .before .fill3 .ensures) refl)
-    (c .before .before .before .before .before .before .before .before .before .before .before .before .before .before .fill4 .ensures) refl)
-    (c .before .before .before .before .before .before .before .before .before .before .fill5 .ensures) refl)
-    (c .before .before .before .before .before .before .fill6 .ensures) refl)
-    (c .before .before .fill7 .ensures) refl) refl
+    let at-fill7 : tie.After-fill7 = search in
+    let at-fill6 : tie.After-fill6 = search in
+    let at-fill5 : tie.After-fill5 = search in
+    let at-fill4 : tie.After-fill4 = search in
+    let at-fill3 : tie.After-fill3 = search in
+    let at-fill2 : tie.After-fill2 = search in
+    let at-fill : tie.After-fill = search in
+    renamed (after (after (after (after (after (after (at-fill .fill .ensures)
+    (at-fill2 .fill2 .ensures) refl)
+    (at-fill3 .fill3 .ensures) refl)
+    (at-fill4 .fill4 .ensures) refl)
+    (at-fill5 .fill5 .ensures) refl)
+    (at-fill6 .fill6 .ensures) refl)
+    (at-fill7 .fill7 .ensures) refl) refl
 
 pub write-global-spec : {M : Type 1} → statement M
 write-global-spec =

@@ -39,11 +39,16 @@ same-length c = search needs
 returns : tie.Need-returns
 unfolding freshLaneWords
 returns c =
-    renamed (after (after (after (after (c .before .before .before .before .before .before .before .before .before .before .before .before .before .before .before .before .before .before .fill .ensures)
-    (c .before .before .before .before .before .before .before .before .before .before .before .before .before .before .fill2 .ensures) refl)
-    (c .before .before .before .before .before .before .before .before .before .before .fill3 .ensures) refl)
-    (c .before .before .before .before .before .before .fill4 .ensures) refl)
-    (c .before .before .fill5 .ensures) refl) refl
+    let at-fill5 : tie.After-fill5 = search in
+    let at-fill4 : tie.After-fill4 = search in
+    let at-fill3 : tie.After-fill3 = search in
+    let at-fill2 : tie.After-fill2 = search in
+    let at-fill : tie.After-fill = search in
+    renamed (after (after (after (after (at-fill .fill .ensures)
+    (at-fill2 .fill2 .ensures) refl)
+    (at-fill3 .fill3 .ensures) refl)
+    (at-fill4 .fill4 .ensures) refl)
+    (at-fill5 .fill5 .ensures) refl) refl
 
 pub write-lane-spec : {M : Type 1} → statement M
 write-lane-spec =

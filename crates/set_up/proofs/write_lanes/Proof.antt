@@ -35,18 +35,23 @@ loop-less c = omega arith
 loop-again : tie.Need-loop-again Inv-loop μ-loop
 unfolding freshLaneWords
 loop-again c =
-    let a = c .before .before .before .before .before .before .before .args in
-    let l = c .before .before .before .before .before .loop in
+    let at-write-lane : tie.After-write-lane Inv-loop μ-loop = search in
+    let at-loop : tie.At-loop Inv-loop μ-loop = search in
+    let entry : tie.Start Inv-loop μ-loop = search in
+    let a = entry .args in
+    let l = at-loop .loop in
     let e : l .at ≡ a .first + length (rows freshLaneWords (l .i)) = omega (arith, length-rows freshLaneWords 19 (l .i) length-lane) in
-    (omega arith, c .before .before .write-lane .kept .0 ∙ l .inv .1, omega arith, renamed (after (l .inv .3) (c .before .before .write-lane .ensures) e) (rows-suc freshLaneWords (l .i)))
+    (omega arith, at-write-lane .write-lane .kept .0 ∙ l .inv .1, omega arith, renamed (after (l .inv .3) (at-write-lane .write-lane .ensures) e) (rows-suc freshLaneWords (l .i)))
 
 same-length : tie.Need-same-length Inv-loop μ-loop
 same-length c = omega arith
 
 returns : tie.Need-returns Inv-loop μ-loop
 returns c =
-    let e : c .before .loop .i ≡ c .before .before .before .args .n = omega arith in
-    renamed (c .before .loop .inv .3) (ap (λ (k : ℕ). rows freshLaneWords k) e)
+    let at-loop : tie.At-loop Inv-loop μ-loop = search in
+    let entry : tie.Start Inv-loop μ-loop = search in
+    let e : at-loop .loop .i ≡ entry .args .n = omega arith in
+    renamed (at-loop .loop .inv .3) (ap (λ (k : ℕ). rows freshLaneWords k) e)
 
 pub write-lanes-spec : {M : Type 1} → statement M
 write-lanes-spec =

@@ -33,9 +33,13 @@ same-length c = search needs
 returns : tie.Need-returns
 unfolding freshSlotWords
 returns c =
-    renamed (after (after (c .before .before .before .before .before .before .before .before .before .before .fill .ensures)
-    (c .before .before .before .before .before .before .fill2 .ensures) refl)
-    (c .before .before .fill3 .ensures) refl) (ap (λ (l : ℕ). 0 ∷ 0 ∷ 0 ∷ 0 ∷ none ∷ l ∷ []) (c .before .before .before .before .before .before .before .before .before .before .before .before .link-after .ensures))
+    let at-fill3 : tie.After-fill3 = search in
+    let at-fill2 : tie.After-fill2 = search in
+    let at-fill : tie.After-fill = search in
+    let at-link-after : tie.After-link-after = search in
+    renamed (after (after (at-fill .fill .ensures)
+    (at-fill2 .fill2 .ensures) refl)
+    (at-fill3 .fill3 .ensures) refl) (ap (λ (l : ℕ). 0 ∷ 0 ∷ 0 ∷ 0 ∷ none ∷ l ∷ []) (at-link-after .link-after .ensures))
 
 pub write-slot-spec : {M : Type 1} → statement M
 write-slot-spec =

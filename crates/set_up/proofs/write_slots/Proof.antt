@@ -34,18 +34,23 @@ loop-less c = omega arith
 
 loop-again : tie.Need-loop-again Inv-loop μ-loop
 loop-again c =
-    let a = c .before .before .before .before .before .before .before .args in
-    let l = c .before .before .before .before .before .loop in
+    let at-write-slot : tie.After-write-slot Inv-loop μ-loop = search in
+    let at-loop : tie.At-loop Inv-loop μ-loop = search in
+    let entry : tie.Start Inv-loop μ-loop = search in
+    let a = entry .args in
+    let l = at-loop .loop in
     let e : l .at ≡ a .first + length (rows (freshSlotWords (a .slots)) (l .i)) = omega (arith, length-rows (freshSlotWords (a .slots)) 6 (l .i) (length-slot (a .slots))) in
-    (omega arith, c .before .before .write-slot .kept .0 ∙ l .inv .1, omega arith, renamed (after (l .inv .3) (c .before .before .write-slot .ensures) e) (rows-suc (freshSlotWords (a .slots)) (l .i)))
+    (omega arith, at-write-slot .write-slot .kept .0 ∙ l .inv .1, omega arith, renamed (after (l .inv .3) (at-write-slot .write-slot .ensures) e) (rows-suc (freshSlotWords (a .slots)) (l .i)))
 
 same-length : tie.Need-same-length Inv-loop μ-loop
 same-length c = omega arith
 
 returns : tie.Need-returns Inv-loop μ-loop
 returns c =
-    let e : c .before .loop .i ≡ c .before .before .before .args .slots = omega arith in
-    renamed (c .before .loop .inv .3) (ap (λ (k : ℕ). rows (freshSlotWords (c .before .before .before .args .slots)) k) e)
+    let at-loop : tie.At-loop Inv-loop μ-loop = search in
+    let entry : tie.Start Inv-loop μ-loop = search in
+    let e : at-loop .loop .i ≡ entry .args .slots = omega arith in
+    renamed (at-loop .loop .inv .3) (ap (λ (k : ℕ). rows (freshSlotWords (entry .args .slots)) k) e)
 
 pub write-slots-spec : {M : Type 1} → statement M
 write-slots-spec =

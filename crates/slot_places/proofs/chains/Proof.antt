@@ -39,7 +39,10 @@ walk-requires : tie.Need-walk-requires Inv-loop μ-loop
 walk-requires c κs = search needs
 
 returns : tie.Need-returns Inv-loop μ-loop
-returns c = says-no _ (several-bad _ _ _ _ _ _ (c .before .before .before .before .before .before .loop .inv .1) (omega arith) (c .before .before .walk .ensures .runs .bad (not-true _ (c .if1 .taken))))
+returns c =
+    let at-walk : tie.After-walk Inv-loop μ-loop = search in
+    let at-loop : tie.At-loop Inv-loop μ-loop = search in
+    says-no _ (several-bad _ _ _ _ _ _ (at-loop .loop .inv .1) (omega arith) (at-walk .walk .ensures .runs .bad (not-true _ (c .if1 .taken))))
 
 add-k : tie.Need-add-k Inv-loop μ-loop
 add-k c = search needs
@@ -51,10 +54,13 @@ loop-less : tie.Need-loop-less Inv-loop μ-loop
 loop-less c = search needs
 
 loop-again : tie.Need-loop-again Inv-loop μ-loop
-loop-again c = (omega arith, several-on _ _ _ _ _ _ (c .before .before .before .before .before .before .loop .inv .1) (omega arith) _ (c .before .before .walk .ensures .runs .good (not-false _ (c .if1 .left))))
+loop-again c =
+    let at-walk : tie.After-walk Inv-loop μ-loop = search in
+    let at-loop : tie.At-loop Inv-loop μ-loop = search in
+    (omega arith, several-on _ _ _ _ _ _ (at-loop .loop .inv .1) (omega arith) _ (at-walk .walk .ensures .runs .good (not-false _ (c .if1 .left))))
 
 returns-2 : tie.Need-returns-2 Inv-loop μ-loop
-returns-2 c = says-yes (several-done _ _ _ _ _ _ (c .before .loop .inv .1) (c .loop-test .left))
+returns-2 c = search (needs, says-yes, several-done)
 
 pub chains-spec : {M : Type 1} → statement M
 chains-spec =

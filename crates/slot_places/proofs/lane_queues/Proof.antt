@@ -25,7 +25,10 @@ queues-requires : tie.Need-queues-requires Inv-loop μ-loop
 queues-requires c κs = search needs
 
 returns : tie.Need-returns Inv-loop μ-loop
-returns c = says-no _ (several-bad _ _ _ _ _ _ (c .before .before .before .before .loop .inv .2) (omega arith) (c .before .queues .ensures .bad (not-true _ (c .if1 .taken))))
+returns c =
+    let at-queues : tie.After-queues Inv-loop μ-loop = search in
+    let at-loop : tie.At-loop Inv-loop μ-loop = search in
+    says-no _ (several-bad _ _ _ _ _ _ (at-loop .loop .inv .2) (omega arith) (at-queues .queues .ensures .bad (not-true _ (c .if1 .taken))))
 
 add-at : tie.Need-add-at Inv-loop μ-loop
 add-at c = search needs
@@ -37,10 +40,13 @@ loop-less : tie.Need-loop-less Inv-loop μ-loop
 loop-less c = search needs
 
 loop-again : tie.Need-loop-again Inv-loop μ-loop
-loop-again c = (omega arith, omega arith, several-on _ _ _ _ _ _ (c .before .before .before .before .loop .inv .2) (omega arith) _ (c .before .queues .ensures .good (not-false _ (c .if1 .left))))
+loop-again c =
+    let at-queues : tie.After-queues Inv-loop μ-loop = search in
+    let at-loop : tie.At-loop Inv-loop μ-loop = search in
+    (omega arith, omega arith, several-on _ _ _ _ _ _ (at-loop .loop .inv .2) (omega arith) _ (at-queues .queues .ensures .good (not-false _ (c .if1 .left))))
 
 returns-2 : tie.Need-returns-2 Inv-loop μ-loop
-returns-2 c = says-yes (several-done _ _ _ _ _ _ (c .before .loop .inv .2) (c .loop-test .left))
+returns-2 c = search (needs, says-yes, several-done)
 
 pub lane-queues-spec : {M : Type 1} → statement M
 lane-queues-spec =

@@ -28,7 +28,7 @@ walk-requires : tie.Need-walk-requires Inv-loop μ-loop
 walk-requires c κs = search needs
 
 returns : tie.Need-returns Inv-loop μ-loop
-returns c = says-no _ (several-bad _ _ _ _ _ _ (c .before .before .before .before .before .before .loop .inv .2) (omega arith) (queue-bad _ _ _ _ _ _ _ _ _ (c .before .before .walk .ensures) (not-true _ (c .if1 .taken))))
+returns c = search (needs, says-no, several-bad, queue-bad, not-true)
 
 add-if2 : tie.Need-add-if2 Inv-loop μ-loop
 add-if2 c = search needs
@@ -40,7 +40,7 @@ shared-slice-read-if2 : tie.Need-shared-slice-read-if2 Inv-loop μ-loop
 shared-slice-read-if2 c = search needs
 
 returns-2 : tie.Need-returns-2 Inv-loop μ-loop
-returns-2 c = says-no _ (several-bad _ _ _ _ _ _ (c .before .before .before .before .before .before .before .before .before .loop .inv .2) (omega arith) (queue-wrong _ _ _ _ _ _ _ _ _ (c .before .before .before .before .before .walk .ensures) (not-false _ (c .before .before .before .if1 .left)) (c .if2 .taken)))
+returns-2 c = search (needs, says-no, several-bad, queue-wrong, not-false)
 
 add-at : tie.Need-add-at Inv-loop μ-loop
 add-at c = search needs
@@ -52,10 +52,14 @@ loop-less : tie.Need-loop-less Inv-loop μ-loop
 loop-less c = search needs
 
 loop-again : tie.Need-loop-again Inv-loop μ-loop
-loop-again c = (omega arith, omega arith, several-on _ _ _ _ _ _ (c .before .before .before .before .before .before .before .before .before .loop .inv .2) (omega arith) _ (queue-good _ _ _ _ _ _ _ _ _ (c .before .before .before .before .before .walk .ensures) (not-false _ (c .before .before .before .if1 .left)) (c .if2 .left)))
+loop-again c =
+    let at-if1 : tie.Else1 Inv-loop μ-loop = search in
+    let at-walk : tie.After-walk Inv-loop μ-loop = search in
+    let at-loop : tie.At-loop Inv-loop μ-loop = search in
+    (omega arith, omega arith, several-on _ _ _ _ _ _ (at-loop .loop .inv .2) (omega arith) _ (queue-good _ _ _ _ _ _ _ _ _ (at-walk .walk .ensures) (not-false _ (at-if1 .if1 .left)) (c .if2 .left)))
 
 returns-3 : tie.Need-returns-3 Inv-loop μ-loop
-returns-3 c = says-yes (several-done _ _ _ _ _ _ (c .before .loop .inv .2) (c .loop-test .left))
+returns-3 c = search (needs, says-yes, several-done)
 
 pub queues-spec : {M : Type 1} → statement M
 queues-spec =

@@ -23,7 +23,7 @@ loop-holds : tie.Need-loop-holds Inv-loop μ-loop
 loop-holds c = (omega arith, refl, refl)
 
 returns : tie.Need-returns Inv-loop μ-loop
-returns c = let i = c .before .before .loop .inv in walk-done _ _ _ _ _ _ _ _ _ (i .1) _ (i .2) (trail-out _ _ _ _ _ (c .if1 .taken))
+returns c = search (needs, walk-done, trail-out)
 
 cast-c : tie.Need-cast-c Inv-loop μ-loop
 cast-c c = search needs
@@ -32,7 +32,7 @@ element-copy-out-if2 : tie.Need-element-copy-out-if2 Inv-loop μ-loop
 element-copy-out-if2 c = search needs
 
 returns-2 : tie.Need-returns-2 Inv-loop μ-loop
-returns-2 c = let i = c .before .before .before .before .loop .inv in walk-twice _ _ _ _ _ _ _ _ _ (i .1) (omega arith) (omega arith) (c .if2 .taken) _ _
+returns-2 c = search (needs, walk-twice)
 
 element-write-marks : tie.Need-element-write-marks Inv-loop μ-loop
 element-write-marks c = search needs
@@ -56,10 +56,10 @@ loop-less : tie.Need-loop-less Inv-loop μ-loop
 loop-less c = search needs
 
 loop-again : tie.Need-loop-again Inv-loop μ-loop
-loop-again c = let i = c .before .before .before .before .before .loop .inv in (omega arith, walk-on _ _ _ _ _ _ _ _ (i .1) (omega arith) (omega arith) (c .before .if2 .left), last-on _ _ _ _ _ _ _ (omega arith) (omega arith) (i .2))
+loop-again c = search (needs, walk-on, last-on)
 
 returns-3 : tie.Need-returns-3 Inv-loop μ-loop
-returns-3 c = let i = c .before .loop .inv in walk-done _ _ _ _ _ _ _ _ _ (i .1) _ (i .2) (trail-end _ _ _ _ _ (c .loop-test .left))
+returns-3 c = search (needs, walk-done, trail-end)
 
 pub walk-spec : {M : Type 1} → statement M
 walk-spec =

@@ -8,33 +8,32 @@ use Rattle.snapshots.proofs.advance_lane.Tie as tie
 
 lane-start-requires : tie.Need-lane-start-requires
 lane-start-requires c κs =
-    let s = c .before .args in
-    omega (arith, lane-fits (now (s .m)) (s .cabinets) (s .places) (s .cabinet) (s .place) (c .before .pre .lane))
+    let entry : tie.Start = search in
+    let s = entry .args in
+    omega (arith, lane-fits (now (s .m)) (s .cabinets) (s .places) (s .cabinet) (s .place) (entry .pre .lane))
 
 add-advance : tie.Need-add-advance
 add-advance c =
-    let s = c .before .before .before .args in
-    let h = lane-fits (now (s .m)) (s .cabinets) (s .places) (s .cabinet) (s .place) (c .before .before .before .pre .lane) in
+    let entry : tie.Start = search in
+    let s = entry .args in
+    let h = lane-fits (now (s .m)) (s .cabinets) (s .places) (s .cabinet) (s .place) (entry .pre .lane) in
     search (needs, h)
 
 add-advance-2 : tie.Need-add-advance-2
 add-advance-2 c =
-    let s = c .before .before .before .args in
-    let h = lane-fits (now (s .m)) (s .cabinets) (s .places) (s .cabinet) (s .place) (c .before .before .before .pre .lane) in
+    let entry : tie.Start = search in
+    let s = entry .args in
+    let h = lane-fits (now (s .m)) (s .cabinets) (s .places) (s .cabinet) (s .place) (entry .pre .lane) in
     search (needs, h)
 
 advance-requires : tie.Need-advance-requires
-advance-requires c κs =
-    let s = c .before .before .before .args in
-    (c .before .before .before .pre .lane .lent, lane-owner (now (s .m)) (s .cabinets) (s .places) (s .cabinet) (s .place) (s .base) (s .slots) (c .before .lane-start .result) (c .before .lane-start .ensures) (c .before .before .before .pre))
+advance-requires c κs = search (needs, lane-owner)
 
 same-length : tie.Need-same-length
 same-length c = search needs
 
 returns : tie.Need-returns
-returns c =
-    let s = c .before .before .before .before .before .before .args in
-    lane-advanced (now (s .m)) (s .cabinets) (s .places) (s .cabinet) (s .place) (s .base) (s .slots) (c .before .before .before .before .lane-start .result) (c .before .before .before .before .lane-start .ensures) (c .before .before .advance .last .0) (c .before .before .advance .ensures)
+returns c = search (needs, lane-advanced)
 
 pub advance-lane-spec : {M : Type 1} → statement M
 advance-lane-spec =

@@ -1,5 +1,4 @@
 -- `snapshots::clock` meets its contract: its four steps in order. Assumes nothing.
-use denote.Ref.{now}
 use borrow.Author.Needs.{needs}
 use Rattle.snapshots.specs.ClockWords.{clock-by}
 use Rattle.snapshots.proofs.clock.Statement.{statement}
@@ -21,9 +20,7 @@ same-length : tie.Need-same-length
 same-length c = search needs
 
 returns : tie.Need-returns
-returns c =
-    let s = c .before .before .before .before .before .before .before .before .before .before .before .before .before .before .before .before .before .args in
-    clock-by (now (s .m)) (s .cabinets) (s .places) (s .cabinet) (s .place) (s .base) (s .slots) (c .before .before .before .before .before .before .before .before .before .before .before .before .before .before .compare .last .0) (c .before .before .before .before .before .before .before .before .before .before .advance-lane .last .0) (c .before .before .before .before .before .before .advance .last .0) (c .before .before .sample .last .0) (c .before .before .before .before .before .before .before .before .before .before .before .before .before .before .compare .ensures) (c .before .before .before .before .before .before .before .before .before .before .advance-lane .ensures) (c .before .before .before .before .before .before .advance .ensures) (c .before .before .sample .ensures)
+returns c = search (needs, clock-by)
 
 pub clock-spec : {M : Type 1} → statement M
 clock-spec =

@@ -8,13 +8,16 @@ use Rattle.snapshots.proofs.compare.Tie as tie
 
 lane-start-requires : tie.Need-lane-start-requires
 lane-start-requires c κs =
-    let s = c .before .args in
-    omega (arith, lane-fits (now (s .m)) (s .cabinets) (s .places) (s .cabinet) (s .place) (c .before .pre))
+    let entry : tie.Start = search in
+    let s = entry .args in
+    omega (arith, lane-fits (now (s .m)) (s .cabinets) (s .places) (s .cabinet) (s .place) (entry .pre))
 
 moved-on-requires : tie.Need-moved-on-requires
 moved-on-requires c κs =
-    let s = c .before .before .before .args in
-    omega (arith, lane-fits (now (s .m)) (s .cabinets) (s .places) (s .cabinet) (s .place) (c .before .before .before .pre), c .before .lane-start .ensures)
+    let at-lane-start : tie.After-lane-start = search in
+    let entry : tie.Start = search in
+    let s = entry .args in
+    omega (arith, lane-fits (now (s .m)) (s .cabinets) (s .places) (s .cabinet) (s .place) (entry .pre), at-lane-start .lane-start .ensures)
 
 release-requires : tie.Need-release-requires
 release-requires c κs = search needs
@@ -23,17 +26,13 @@ same-length : tie.Need-same-length
 same-length c = search needs
 
 returns : tie.Need-returns
-returns c =
-    let s = c .before .before .before .before .before .before .before .before .before .args in
-    compared-moved (now (s .m)) (s .cabinets) (s .places) (s .cabinet) (s .place) (c .before .before .before .before .before .before .before .lane-start .result) (c .before .before .before .before .before .before .before .lane-start .ensures) (c .before .before .before .before .before .moved-on .result) (c .before .before .before .before .before .moved-on .ensures) (c .before .before .before .before .if1 .taken) (c .before .before .release .last .0) (c .before .before .release .ensures)
+returns c = search (needs, compared-moved)
 
 same-length-2 : tie.Need-same-length-2
 same-length-2 c = search needs
 
 returns-2 : tie.Need-returns-2
-returns-2 c =
-    let s = c .before .before .before .before .before .args in
-    compared-rests (now (s .m)) (s .cabinets) (s .places) (s .cabinet) (s .place) (c .before .before .before .lane-start .result) (c .before .before .before .lane-start .ensures) (c .before .moved-on .result) (c .before .moved-on .ensures) (c .if1 .left)
+returns-2 c = search (needs, compared-rests)
 
 pub compare-spec : {M : Type 1} → statement M
 compare-spec =

@@ -13,8 +13,9 @@ use Rattle.snapshots.proofs.is_unsampled.Tie as tie
 
 lane-start-requires : tie.Need-lane-start-requires
 lane-start-requires c κs =
-    let s = c .before .args in
-    omega (arith, lane-fits (now (s .m)) (s .cabinets) (s .places) (s .cabinet) (s .place) (c .before .pre))
+    let entry : tie.Start = search in
+    let s = entry .args in
+    omega (arith, lane-fits (now (s .m)) (s .cabinets) (s .places) (s .cabinet) (s .place) (entry .pre))
 
 add-test : tie.Need-add-test
 add-test c = search needs
@@ -30,23 +31,29 @@ test-requires c κs = search needs
 
 mul-test-2 : tie.Need-mul-test-2
 mul-test-2 c =
-    let s = c .before .before .before .before .args in
-    let h = lane-fits (now (s .m)) (s .cabinets) (s .places) (s .cabinet) (s .place) (c .before .before .before .before .pre) in
+    let entry : tie.Start = search in
+    let s = entry .args in
+    let h = lane-fits (now (s .m)) (s .cabinets) (s .places) (s .cabinet) (s .place) (entry .pre) in
     search (needs, h)
 
 shared-slice-read-test-2 : tie.Need-shared-slice-read-test-2
 shared-slice-read-test-2 c =
-    let s = c .before .before .before .before .before .args in
-    omega (arith, lane-fits (now (s .m)) (s .cabinets) (s .places) (s .cabinet) (s .place) (c .before .before .before .before .before .pre), c .before .before .before .lane-start .ensures)
+    let at-lane-start : tie.After-lane-start = search in
+    let entry : tie.Start = search in
+    let s = entry .args in
+    omega (arith, lane-fits (now (s .m)) (s .cabinets) (s .places) (s .cabinet) (s .place) (entry .pre), at-lane-start .lane-start .ensures)
 
 test-requires-2 : tie.Need-test-requires-2
 test-requires-2 c κs = search needs
 
 returns : tie.Need-returns
 returns c =
-    let s = c .before .before .before .before .before .before .args in
-    ap₂ (λ (x y : Bool). x && not y) (c .before .before .test .ensures)
-    (c .test2 .ensures ∙ ap (λ (a : ℕ). flag heldBit (at (now (s .m)) a)) (c .before .before .before .before .lane-start .ensures))
+    let at-test : tie.After-test = search in
+    let at-lane-start : tie.After-lane-start = search in
+    let entry : tie.Start = search in
+    let s = entry .args in
+    ap₂ (λ (x y : Bool). x && not y) (at-test .test .ensures)
+    (c .test2 .ensures ∙ ap (λ (a : ℕ). flag heldBit (at (now (s .m)) a)) (at-lane-start .lane-start .ensures))
 
 pub is-unsampled-spec : {M : Type 1} → statement M
 is-unsampled-spec =

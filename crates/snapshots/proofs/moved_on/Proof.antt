@@ -24,7 +24,9 @@ same-counts-requires : tie.Need-same-counts-requires
 same-counts-requires c κs = search needs
 
 returns : tie.Need-returns
-returns c = ap₂ (λ (x y : Bool). x && not y) (c .before .test .ensures) (c .same-counts .ensures)
+returns c =
+    let at-test : tie.After-test = search in
+    ap₂ (λ (x y : Bool). x && not y) (at-test .test .ensures) (c .same-counts .ensures)
 
 pub moved-on-spec : {M : Type 1} → statement M
 moved-on-spec =

@@ -12,7 +12,10 @@ reads-state-requires : tie.Need-reads-state-requires
 reads-state-requires c κs = search needs
 
 perform-requires : tie.Need-perform-requires
-perform-requires c κs = reads-none _ _ (sym (c .before .before .reads-state .ensures) ∙ not-true _ (c .before .if1 .taken))
+perform-requires c κs =
+    let at-if1 : tie.Then1 = search in
+    let at-reads-state : tie.After-reads-state = search in
+    reads-none _ _ (sym (at-reads-state .reads-state .ensures) ∙ not-true _ (at-if1 .if1 .taken))
 
 same-length : tie.Need-same-length
 same-length c = search needs
@@ -30,10 +33,19 @@ same-length-2 : tie.Need-same-length-2
 same-length-2 c = search needs
 
 returns-2 : tie.Need-returns-2
-returns-2 c = not-legal _ _ _ (sym (c .before .before .before .before .before .reads-state .ensures) ∙ not-false _ (c .before .before .before .before .if1 .left)) (sym (c .before .before .legal .ensures) ∙ not-true _ (c .before .if2 .taken)) (c .refused .ensures)
+returns-2 c =
+    let at-if2 : tie.Then2 = search in
+    let at-legal : tie.After-legal = search in
+    let at-if1 : tie.Else1 = search in
+    let at-reads-state : tie.After-reads-state = search in
+    not-legal _ _ _ (sym (at-reads-state .reads-state .ensures) ∙ not-false _ (at-if1 .if1 .left)) (sym (at-legal .legal .ensures) ∙ not-true _ (at-if2 .if2 .taken)) (c .refused .ensures)
 
 perform-requires-2 : tie.Need-perform-requires-2
-perform-requires-2 c κs = reads-legal _ _ (sound _ _ (c .before .before .legal .ensures) (not-false _ (c .before .if2 .left)) (λ i. omega (arith, (c .before .before .before .before .before .before .slice-known .given) i)))
+perform-requires-2 c κs =
+    let at-if2 : tie.Else2 = search in
+    let at-legal : tie.After-legal = search in
+    let at-slice-known : tie.After-slice-known = search in
+    reads-legal _ _ (sound _ _ (at-legal .legal .ensures) (not-false _ (at-if2 .if2 .left)) (λ i. omega (arith, (at-slice-known .slice-known .given) i)))
 
 same-length-3 : tie.Need-same-length-3
 same-length-3 c = search needs

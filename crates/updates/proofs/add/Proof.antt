@@ -1,6 +1,5 @@
 -- `add` meets its contract: a law for each way out. Assumes nothing.
 use native.Mathlib.Omega.{arith}
-use Rattle.model.specs.Rules.{add}
 use Rattle.access.specs.Ways.{refuses, long}
 use Rattle.updates.specs.Adds.{add-first, add-reach, add-done}
 use borrow.Author.Needs.{needs}
@@ -17,36 +16,36 @@ same-length : tie.Need-same-length
 same-length c = search needs
 
 returns : tie.Need-returns
-returns c =
-    let s = c .before .before .before .before .before in
-    refuses _ (add (s .args .lane) (s .args .code) (s .args .deposit) (s .args .material)) (s .pre) _ _ (c .before .before .add-refusal .ensures)
-    (c .before .if1 .taken) (c .refused .ensures)
+returns c = search (needs, refuses)
 
 slots-start-requires : tie.Need-slots-start-requires
 slots-start-requires c κs = search needs
 
 slice-read-slots : tie.Need-slice-read-slots
-slice-read-slots c = omega (arith, long _ (c .before .before .before .before .before .before .before .pre))
+slice-read-slots c =
+    let entry : tie.Start = search in
+    omega (arith, long _ (entry .pre))
 
 head-address-requires : tie.Need-head-address-requires
 head-address-requires c κs = search needs
 
 fill-requires : tie.Need-fill-requires
-fill-requires c κs =
-    let s = c .before .before .before .before .before .before .before .before .before in
-    add-first _ (s .pre) (s .args .lane) (s .args .code) (s .args .deposit) (s .args .material) _
-    (c .before .before .before .before .before .before .add-refusal .ensures) (c .before .before .before .before .before .if1 .left) _
-    (c .before .before .before .slots-start .ensures)
+fill-requires c κs = search (needs, add-first)
 
 link-head-requires : tie.Need-link-head-requires
 link-head-requires c κs =
-    let s = c .before .before .before .before .before .before .before .before .before .before .before .before .before in
+    let at-fill : tie.After-fill = search in
+    let at-head-address : tie.After-head-address = search in
+    let at-slots-start : tie.After-slots-start = search in
+    let at-if1 : tie.Else1 = search in
+    let at-add-refusal : tie.After-add-refusal = search in
+    let s : tie.Start = search in
     add-reach _ (s .pre) (s .args .lane) (s .args .code) (s .args .deposit) (s .args .material) _
-    (c .before .before .before .before .before .before .before .before .before .before .add-refusal .ensures)
-    (c .before .before .before .before .before .before .before .before .before .if1 .left) _
-    (c .before .before .before .before .before .before .before .slots-start .ensures) _ _ _
-    (c .before .before .before .before .before .head-address .ensures) (c .before .before .before .fill .ensures)
-    (c .before .before .before .fill .kept .0)
+    (at-add-refusal .add-refusal .ensures)
+    (at-if1 .if1 .left) _
+    (at-slots-start .slots-start .ensures) _ _ _
+    (at-head-address .head-address .ensures) (at-fill .fill .ensures)
+    (at-fill .fill .kept .0)
 
 accepted-requires : tie.Need-accepted-requires
 accepted-requires c κs = search needs
@@ -55,15 +54,7 @@ same-length-2 : tie.Need-same-length-2
 same-length-2 c = search needs
 
 returns-2 : tie.Need-returns-2
-returns-2 c =
-    let s = c .before .before .before .before .before .before .before .before .before .before .before .before .before .before .before .before .before in
-    add-done _ (s .pre) (s .args .lane) (s .args .code) (s .args .deposit) (s .args .material) _
-    (c .before .before .before .before .before .before .before .before .before .before .before .before .before .before .add-refusal .ensures)
-    (c .before .before .before .before .before .before .before .before .before .before .before .before .before .if1 .left) _
-    (c .before .before .before .before .before .before .before .before .before .before .before .slots-start .ensures) _ _ _
-    (c .before .before .before .before .before .before .before .before .before .head-address .ensures)
-    (c .before .before .before .before .before .before .before .fill .ensures) _ _ (c .accepted .ensures)
-    (c .before .before .before .link-head .ensures)
+returns-2 c = search (needs, add-done)
 
 pub add-spec : {M : Type 1} → statement M
 add-spec =

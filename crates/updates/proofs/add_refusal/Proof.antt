@@ -11,38 +11,22 @@ range-refusal-requires : tie.Need-range-refusal-requires
 range-refusal-requires c κs = search needs
 
 returns : tie.Need-returns
-returns c =
-    let s = c .before .before .before .before in
-    add-refused _ (s .args .lane) (s .args .code) (s .args .deposit) (s .args .material) _ (c .before .before .wrong-product .ensures) _
-    (c .before .range-refusal .ensures) (c .if1 .taken)
+returns c = search (needs, add-refused)
 
 is-present-requires : tie.Need-is-present-requires
 is-present-requires c κs = search needs
 
 returns-2 : tie.Need-returns-2
-returns-2 c =
-    let s = c .before .before .before .before .before .before in
-    add-present _ (s .args .lane) (s .args .code) (s .args .deposit) (s .args .material) _ (c .before .before .before .before .wrong-product .ensures)
-    _ (c .before .before .before .range-refusal .ensures) (c .before .before .if1 .left) _ (c .before .is-present .ensures) (c .if2 .taken)
+returns-2 c = search (needs, add-present)
 
 none-free-requires : tie.Need-none-free-requires
 none-free-requires c κs = search needs
 
 returns-3 : tie.Need-returns-3
-returns-3 c =
-    let s = c .before .before .before .before .before .before .before .before in
-    add-full _ (s .args .lane) (s .args .code) (s .args .deposit) (s .args .material) _
-    (c .before .before .before .before .before .before .wrong-product .ensures) _ (c .before .before .before .before .before .range-refusal .ensures)
-    (c .before .before .before .before .if1 .left) _ (c .before .before .before .is-present .ensures) (c .before .before .if2 .left) _
-    (c .before .none-free .ensures) (c .if3 .taken)
+returns-3 c = search (needs, add-full)
 
 returns-4 : tie.Need-returns-4
-returns-4 c =
-    let s = c .before .before .before .before .before .before .before .before in
-    add-passes _ (s .args .lane) (s .args .code) (s .args .deposit) (s .args .material) _
-    (c .before .before .before .before .before .before .wrong-product .ensures) _ (c .before .before .before .before .before .range-refusal .ensures)
-    (c .before .before .before .before .if1 .left) _ (c .before .before .before .is-present .ensures) (c .before .before .if2 .left) _
-    (c .before .none-free .ensures) (c .if3 .left)
+returns-4 c = search (needs, add-passes)
 
 pub add-refusal-spec : {M : Type 1} → statement M
 add-refusal-spec =

@@ -1,6 +1,5 @@
 -- `delete` meets its contract: a law for each way out. Assumes nothing.
 use native.Mathlib.Omega.{arith}
-use Rattle.model.specs.Rules.{delete}
 use Rattle.access.specs.Ways.{refuses, long}
 use Rattle.updates.specs.Deletes.{delete-reach, delete-done}
 use borrow.Author.Needs.{needs}
@@ -17,16 +16,15 @@ same-length : tie.Need-same-length
 same-length c = search needs
 
 returns : tie.Need-returns
-returns c =
-    let s = c .before .before .before .before .before in
-    refuses _ (delete (s .args .lane) (s .args .code)) (s .pre) _ _ (c .before .before .delete-refusal .ensures) (c .before .if1 .taken)
-    (c .refused .ensures)
+returns c = search (needs, refuses)
 
 slots-start-requires : tie.Need-slots-start-requires
 slots-start-requires c κs = search needs
 
 slice-read-slots : tie.Need-slice-read-slots
-slice-read-slots c = omega (arith, long _ (c .before .before .before .before .before .before .before .pre))
+slice-read-slots c =
+    let entry : tie.Start = search in
+    omega (arith, long _ (entry .pre))
 
 head-address-requires : tie.Need-head-address-requires
 head-address-requires c κs = search needs
@@ -39,12 +37,18 @@ search-requires c κs = search needs
 
 remove-requires : tie.Need-remove-requires
 remove-requires c κs =
-    let s = c .before .before .before .before .before .before .before .before .before .before .before .before .before in
+    let at-search : tie.After-search = search in
+    let at-next-queue : tie.After-next-queue = search in
+    let at-head-address : tie.After-head-address = search in
+    let at-slots-start : tie.After-slots-start = search in
+    let at-if1 : tie.Else1 = search in
+    let at-delete-refusal : tie.After-delete-refusal = search in
+    let s : tie.Start = search in
     delete-reach _ (s .pre) (s .args .lane) (s .args .code) _
-    (c .before .before .before .before .before .before .before .before .before .before .delete-refusal .ensures)
-    (c .before .before .before .before .before .before .before .before .before .if1 .left) _ _ _ _
-    (c .before .before .before .before .before .before .before .slots-start .ensures)
-    (c .before .before .before .before .before .head-address .ensures) (c .before .before .before .next-queue .ensures) (c .before .search .ensures)
+    (at-delete-refusal .delete-refusal .ensures)
+    (at-if1 .if1 .left) _ _ _ _
+    (at-slots-start .slots-start .ensures)
+    (at-head-address .head-address .ensures) (at-next-queue .next-queue .ensures) (at-search .search .ensures)
 
 accepted-requires : tie.Need-accepted-requires
 accepted-requires c κs = search needs
@@ -53,15 +57,7 @@ same-length-2 : tie.Need-same-length-2
 same-length-2 c = search needs
 
 returns-2 : tie.Need-returns-2
-returns-2 c =
-    let s = c .before .before .before .before .before .before .before .before .before .before .before .before .before .before .before .before .before in
-    delete-done _ (s .pre) (s .args .lane) (s .args .code) _
-    (c .before .before .before .before .before .before .before .before .before .before .before .before .before .before .delete-refusal .ensures)
-    (c .before .before .before .before .before .before .before .before .before .before .before .before .before .if1 .left) _ _ _ _
-    (c .before .before .before .before .before .before .before .before .before .before .before .slots-start .ensures)
-    (c .before .before .before .before .before .before .before .before .before .head-address .ensures)
-    (c .before .before .before .before .before .before .before .next-queue .ensures) (c .before .before .before .before .before .search .ensures) _ _
-    (c .accepted .ensures) (c .before .before .before .remove .ensures)
+returns-2 c = search (needs, delete-done)
 
 pub delete-spec : {M : Type 1} → statement M
 delete-spec =

@@ -10,31 +10,34 @@ lane-address-requires : tie.Need-lane-address-requires
 lane-address-requires c κs = search needs
 
 add-ends : tie.Need-add-ends
-add-ends c = omega (arith, (c .lane-address .ensures), inRange _ (c .before .before .pre .sound) .fewCabinets)
+add-ends c =
+    let entry : tie.Start = search in
+    omega (arith, (c .lane-address .ensures), inRange _ (entry .pre .sound) .fewCabinets)
 
 add-ends-2 : tie.Need-add-ends-2
-add-ends-2 c = omega (arith, (c .lane-address .ensures), inRange _ (c .before .before .pre .sound) .fewCabinets)
+add-ends-2 c =
+    let entry : tie.Start = search in
+    omega (arith, (c .lane-address .ensures), inRange _ (entry .pre .sound) .fewCabinets)
 
 shared-slice-read-is-empty : tie.Need-shared-slice-read-is-empty
-shared-slice-read-is-empty c = omega (arith, long _ (c .before .before .before .pre .sound))
+shared-slice-read-is-empty c =
+    let entry : tie.Start = search in
+    omega (arith, long _ (entry .pre .sound))
 
 is-empty-requires : tie.Need-is-empty-requires
 is-empty-requires c κs =
-    let s = c .before .before .before in
-    omega (arith, (c .before .lane-address .ensures), long _ (s .pre .sound), (s .pre .known))
+    let at-lane-address : tie.After-lane-address = search in
+    let s : tie.Start = search in
+    omega (arith, (at-lane-address .lane-address .ensures), long _ (s .pre .sound), (s .pre .known))
 
 add-result : tie.Need-add-result
 add-result c = search needs
 
 returns : tie.Need-returns
-returns c =
-    let s = c .before .before .before .before .before in
-    lane-empty _ (s .args .lane) (s .pre) _ _ (c .before .before .before .lane-address .ensures) (c .before .is-empty .ensures) (c .if1 .taken)
+returns c = search (needs, lane-empty)
 
 returns-2 : tie.Need-returns-2
-returns-2 c =
-    let s = c .before .before .before .before .before in
-    lane-some _ (s .args .lane) (s .pre) _ _ (c .before .before .before .lane-address .ensures) (c .before .is-empty .ensures) (c .if1 .left)
+returns-2 c = search (needs, lane-some)
 
 pub done-queue-spec : {M : Type 1} → statement M
 done-queue-spec =

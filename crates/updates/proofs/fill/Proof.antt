@@ -14,10 +14,7 @@ same-length : tie.Need-same-length
 same-length c = search needs
 
 returns : tie.Need-returns
-returns c =
-    let s = c .before .before .before .before .before .before .before .before .before in
-    filled-by _ _ _ (s .args .base) (s .args .slots) (s .args .code) (s .args .deposit) (s .args .material) _
-    (c .before .before .before .before .before .before .take-first .ensures) (c .before .before .write-product .ensures)
+returns c = search (needs, filled-by)
 
 pub fill-spec : {M : Type 1} → statement M
 fill-spec = tie.close (tie.spec take-first-requires write-product-requires same-length returns)

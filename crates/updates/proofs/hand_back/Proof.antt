@@ -1,6 +1,5 @@
 -- `hand_back` meets its contract: a law for each way out. Assumes nothing.
 use native.Mathlib.Omega.{arith}
-use Rattle.model.specs.Rules.{hand-back}
 use Rattle.access.specs.Ways.{refuses, long}
 use Rattle.updates.specs.HandBacks.{hand-back-lane, hand-back-first, hand-back-done}
 use borrow.Author.Needs.{needs}
@@ -17,28 +16,21 @@ same-length : tie.Need-same-length
 same-length c = search needs
 
 returns : tie.Need-returns
-returns c =
-    let s = c .before .before .before .before .before in
-    refuses _ (hand-back (s .args .lane)) (s .pre) _ _ (c .before .before .hand-back-refusal .ensures) (c .before .if1 .taken) (c .refused .ensures)
+returns c = search (needs, refuses)
 
 slots-start-requires : tie.Need-slots-start-requires
 slots-start-requires c κs = search needs
 
 slice-read-slots : tie.Need-slice-read-slots
-slice-read-slots c = omega (arith, long _ (c .before .before .before .before .before .before .before .pre))
+slice-read-slots c =
+    let entry : tie.Start = search in
+    omega (arith, long _ (entry .pre))
 
 done-queue-requires : tie.Need-done-queue-requires
-done-queue-requires c κs =
-    let s = c .before .before .before .before .before .before .before .before in
-    hand-back-lane _ (s .pre) (s .args .lane) _ (c .before .before .before .before .before .hand-back-refusal .ensures)
-    (c .before .before .before .before .if1 .left)
+done-queue-requires c κs = search (needs, hand-back-lane)
 
 reclaim-requires : tie.Need-reclaim-requires
-reclaim-requires c κs =
-    let s = c .before .before .before .before .before .before .before .before .before .before in
-    hand-back-first _ (s .pre) (s .args .lane) _ (c .before .before .before .before .before .before .before .hand-back-refusal .ensures)
-    (c .before .before .before .before .before .before .if1 .left) _ _ (c .before .before .before .before .slots-start .ensures)
-    (c .before .done-queue .ensures)
+reclaim-requires c κs = search (needs, hand-back-first)
 
 accepted-requires : tie.Need-accepted-requires
 accepted-requires c κs = search needs
@@ -47,13 +39,7 @@ same-length-2 : tie.Need-same-length-2
 same-length-2 c = search needs
 
 returns-2 : tie.Need-returns-2
-returns-2 c =
-    let s = c .before .before .before .before .before .before .before .before .before .before .before .before .before .before in
-    hand-back-done _ (s .pre) (s .args .lane) _
-    (c .before .before .before .before .before .before .before .before .before .before .before .hand-back-refusal .ensures)
-    (c .before .before .before .before .before .before .before .before .before .before .if1 .left) _ _
-    (c .before .before .before .before .before .before .before .before .slots-start .ensures)
-    (c .before .before .before .before .before .done-queue .ensures) _ _ _ (c .accepted .ensures) (c .before .before .before .reclaim .ensures)
+returns-2 c = search (needs, hand-back-done)
 
 pub hand-back-spec : {M : Type 1} → statement M
 hand-back-spec =

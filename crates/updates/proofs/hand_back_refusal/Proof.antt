@@ -11,36 +11,24 @@ lane-refusal-requires : tie.Need-lane-refusal-requires
 lane-refusal-requires c κs = search needs
 
 returns : tie.Need-returns
-returns c =
-    let s = c .before .before .before in
-    hand-back-refused _ (s .pre) (s .args .lane) _ (c .before .lane-refusal .ensures) (c .if1 .taken)
+returns c = search (needs, hand-back-refused)
 
 done-queue-requires : tie.Need-done-queue-requires
-done-queue-requires c κs =
-    let s = c .before .before .before in
-    lane-in _ (s .pre) (s .args .lane) _ (c .before .lane-refusal .ensures) (c .if1 .left)
+done-queue-requires c κs = search (needs, lane-in)
 
 shared-slice-read-is-empty : tie.Need-shared-slice-read-is-empty
-shared-slice-read-is-empty c = omega (arith, long _ (c .before .before .before .before .before .pre))
+shared-slice-read-is-empty c =
+    let entry : tie.Start = search in
+    omega (arith, long _ (entry .pre))
 
 is-empty-requires : tie.Need-is-empty-requires
-is-empty-requires c κs =
-    let s = c .before .before .before .before .before in
-    done-inside _ (s .args .lane)
-    (lane-in _ (s .pre) (s .args .lane) _ (c .before .before .before .lane-refusal .ensures) (c .before .before .if1 .left)) _
-    (c .before .done-queue .ensures)
+is-empty-requires c κs = search (needs, done-inside, lane-in)
 
 returns-2 : tie.Need-returns-2
-returns-2 c =
-    let s = c .before .before .before .before .before .before .before in
-    hand-back-empty _ (s .pre) (s .args .lane) _ (c .before .before .before .before .before .lane-refusal .ensures)
-    (c .before .before .before .before .if1 .left) _ (c .before .before .before .done-queue .ensures) _ (c .before .is-empty .ensures) (c .if2 .taken)
+returns-2 c = search (needs, hand-back-empty)
 
 returns-3 : tie.Need-returns-3
-returns-3 c =
-    let s = c .before .before .before .before .before .before .before in
-    hand-back-passes _ (s .pre) (s .args .lane) _ (c .before .before .before .before .before .lane-refusal .ensures)
-    (c .before .before .before .before .if1 .left) _ (c .before .before .before .done-queue .ensures) _ (c .before .is-empty .ensures) (c .if2 .left)
+returns-3 c = search (needs, hand-back-passes)
 
 pub hand-back-refusal-spec : {M : Type 1} → statement M
 hand-back-refusal-spec =

@@ -14,8 +14,9 @@ search-requires c κs = search needs
 
 returns : tie.Need-returns
 returns c =
-    let s = c .before .before .before in
-    ap (λ (x : ℕ). not (eqb x none)) (found-slot _ (s .pre) (s .args .code) _ (c .before .search .ensures))
+    let at-search : tie.After-search = search in
+    let s : tie.Start = search in
+    ap (λ (x : ℕ). not (eqb x none)) (found-slot _ (s .pre) (s .args .code) _ (at-search .search .ensures))
 
 pub is-present-spec : {M : Type 1} → statement M
 is-present-spec = tie.close (tie.spec search-requires returns)

@@ -9,7 +9,9 @@ lane-address-requires : tie.Need-lane-address-requires
 lane-address-requires c κs = search needs
 
 add-result : tie.Need-add-result
-add-result c = omega (arith, (c .lane-address .ensures), inRange _ (c .before .before .pre) .fewCabinets)
+add-result c =
+    let entry : tie.Start = search in
+    omega (arith, (c .lane-address .ensures), inRange _ (entry .pre) .fewCabinets)
 
 returns : tie.Need-returns
 returns c = search needs

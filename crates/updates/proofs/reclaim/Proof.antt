@@ -18,10 +18,13 @@ same-length c = search needs
 
 returns : tie.Need-returns
 returns c =
-    let s = c .before .before .before .before .before .before .before .before .before .before .before .before .before in
+    let at-append : tie.After-append = search in
+    let at-clear-slot : tie.After-clear-slot = search in
+    let at-take-first : tie.After-take-first = search in
+    let s : tie.Start = search in
     reclaimed-by _ _ _ _ (s .args .base) (s .args .slots) (s .args .ends) _
-    (c .before .before .before .before .before .before .before .before .before .before .take-first .ensures)
-    (c .before .before .before .before .before .before .clear-slot .ensures) (c .before .before .append .ensures)
+    (at-take-first .take-first .ensures)
+    (at-clear-slot .clear-slot .ensures) (at-append .append .ensures)
 
 pub reclaim-spec : {M : Type 1} → statement M
 reclaim-spec =

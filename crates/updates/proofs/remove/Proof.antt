@@ -18,9 +18,11 @@ same-length c = search needs
 
 returns : tie.Need-returns
 returns c =
-    let s = c .before .before .before .before .before .before .before .before .before in
-    (c .before .before .append .ensures) ∙ ap (λ (n : List ℕ). appended n (s .args .base) (s .args .slots) (s .args .ends) (s .args .slot))
-    (c .before .before .before .before .before .before .unlink .ensures)
+    let at-append : tie.After-append = search in
+    let at-unlink : tie.After-unlink = search in
+    let s : tie.Start = search in
+    (at-append .append .ensures) ∙ ap (λ (n : List ℕ). appended n (s .args .base) (s .args .slots) (s .args .ends) (s .args .slot))
+    (at-unlink .unlink .ensures)
 
 pub remove-spec : {M : Type 1} → statement M
 remove-spec = tie.close (tie.spec unlink-requires append-requires same-length returns)

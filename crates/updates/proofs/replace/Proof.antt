@@ -1,6 +1,5 @@
 -- `replace` meets its contract: a law for each way out. Assumes nothing.
 use native.Mathlib.Omega.{arith}
-use Rattle.model.specs.Rules.{replace}
 use Rattle.access.specs.Ways.{refuses, long}
 use Rattle.updates.specs.Adds.{replace-first, replace-reach, replace-done}
 use borrow.Author.Needs.{needs}
@@ -17,16 +16,15 @@ same-length : tie.Need-same-length
 same-length c = search needs
 
 returns : tie.Need-returns
-returns c =
-    let s = c .before .before .before .before .before in
-    refuses _ (replace (s .args .lane) (s .args .code) (s .args .deposit) (s .args .material)) (s .pre) _ _
-    (c .before .before .replace-refusal .ensures) (c .before .if1 .taken) (c .refused .ensures)
+returns c = search (needs, refuses)
 
 slots-start-requires : tie.Need-slots-start-requires
 slots-start-requires c κs = search needs
 
 slice-read-slots : tie.Need-slice-read-slots
-slice-read-slots c = omega (arith, long _ (c .before .before .before .before .before .before .before .pre))
+slice-read-slots c =
+    let entry : tie.Start = search in
+    omega (arith, long _ (entry .pre))
 
 head-address-requires : tie.Need-head-address-requires
 head-address-requires c κs = search needs
@@ -38,23 +36,25 @@ search-requires : tie.Need-search-requires
 search-requires c κs = search needs
 
 fill-requires : tie.Need-fill-requires
-fill-requires c κs =
-    let s = c .before .before .before .before .before .before .before .before .before .before .before .before .before in
-    replace-first _ (s .pre) (s .args .lane) (s .args .code) (s .args .deposit) (s .args .material) _
-    (c .before .before .before .before .before .before .before .before .before .before .replace-refusal .ensures)
-    (c .before .before .before .before .before .before .before .before .before .if1 .left) _
-    (c .before .before .before .before .before .before .before .slots-start .ensures)
+fill-requires c κs = search (needs, replace-first)
 
 supersede-requires : tie.Need-supersede-requires
 supersede-requires c κs =
-    let s = c .before .before .before .before .before .before .before .before .before .before .before .before .before .before .before .before .before in
+    let at-fill : tie.After-fill = search in
+    let at-search : tie.After-search = search in
+    let at-next-queue : tie.After-next-queue = search in
+    let at-head-address : tie.After-head-address = search in
+    let at-slots-start : tie.After-slots-start = search in
+    let at-if1 : tie.Else1 = search in
+    let at-replace-refusal : tie.After-replace-refusal = search in
+    let s : tie.Start = search in
     replace-reach _ (s .pre) (s .args .lane) (s .args .code) (s .args .deposit) (s .args .material) _
-    (c .before .before .before .before .before .before .before .before .before .before .before .before .before .before .replace-refusal .ensures)
-    (c .before .before .before .before .before .before .before .before .before .before .before .before .before .if1 .left) _
-    (c .before .before .before .before .before .before .before .before .before .before .before .slots-start .ensures) _ _ _ _ _
-    (c .before .before .before .before .before .before .before .before .before .head-address .ensures)
-    (c .before .before .before .before .before .before .before .next-queue .ensures) (c .before .before .before .before .before .search .ensures)
-    (c .before .before .before .fill .ensures) (c .before .before .before .fill .kept .0)
+    (at-replace-refusal .replace-refusal .ensures)
+    (at-if1 .if1 .left) _
+    (at-slots-start .slots-start .ensures) _ _ _ _ _
+    (at-head-address .head-address .ensures)
+    (at-next-queue .next-queue .ensures) (at-search .search .ensures)
+    (at-fill .fill .ensures) (at-fill .fill .kept .0)
 
 accepted-requires : tie.Need-accepted-requires
 accepted-requires c κs = search needs
@@ -63,18 +63,7 @@ same-length-2 : tie.Need-same-length-2
 same-length-2 c = search needs
 
 returns-2 : tie.Need-returns-2
-returns-2 c =
-    let s = c .before .before .before .before .before .before .before .before .before .before .before .before .before .before .before .before .before .before .before .before .before in
-    replace-done _ (s .pre) (s .args .lane) (s .args .code) (s .args .deposit) (s .args .material) _
-    (c .before .before .before .before .before .before .before .before .before .before .before .before .before .before .before .before .before .before .replace-refusal .ensures)
-    (c .before .before .before .before .before .before .before .before .before .before .before .before .before .before .before .before .before .if1 .left)
-    _
-    (c .before .before .before .before .before .before .before .before .before .before .before .before .before .before .before .slots-start .ensures)
-    _ _ _ _ _ (c .before .before .before .before .before .before .before .before .before .before .before .before .before .head-address .ensures)
-    (c .before .before .before .before .before .before .before .before .before .before .before .next-queue .ensures)
-    (c .before .before .before .before .before .before .before .before .before .search .ensures)
-    (c .before .before .before .before .before .before .before .fill .ensures) _ _ (c .accepted .ensures)
-    (c .before .before .before .supersede .ensures)
+returns-2 c = search (needs, replace-done)
 
 pub replace-spec : {M : Type 1} → statement M
 replace-spec =

@@ -11,27 +11,16 @@ missing-refusal-requires : tie.Need-missing-refusal-requires
 missing-refusal-requires c κs = search needs
 
 returns : tie.Need-returns
-returns c =
-    let s = c .before .before .before .before in
-    replace-refused _ (s .args .lane) (s .args .code) (s .args .deposit) (s .args .material) _ (c .before .before .wrong-product .ensures) _
-    (c .before .missing-refusal .ensures) (c .if1 .taken)
+returns c = search (needs, replace-refused)
 
 none-free-requires : tie.Need-none-free-requires
 none-free-requires c κs = search needs
 
 returns-2 : tie.Need-returns-2
-returns-2 c =
-    let s = c .before .before .before .before .before .before in
-    replace-full _ (s .args .lane) (s .args .code) (s .args .deposit) (s .args .material) _
-    (c .before .before .before .before .wrong-product .ensures) _ (c .before .before .before .missing-refusal .ensures) (c .before .before .if1 .left)
-    _ (c .before .none-free .ensures) (c .if2 .taken)
+returns-2 c = search (needs, replace-full)
 
 returns-3 : tie.Need-returns-3
-returns-3 c =
-    let s = c .before .before .before .before .before .before in
-    replace-passes _ (s .args .lane) (s .args .code) (s .args .deposit) (s .args .material) _
-    (c .before .before .before .before .wrong-product .ensures) _ (c .before .before .before .missing-refusal .ensures) (c .before .before .if1 .left)
-    _ (c .before .none-free .ensures) (c .if2 .left)
+returns-3 c = search (needs, replace-passes)
 
 pub replace-refusal-spec : {M : Type 1} → statement M
 replace-refusal-spec =

@@ -14,18 +14,23 @@ chain-head-requires : tie.Need-chain-head-requires
 chain-head-requires c κs = search needs
 
 shared-slice-read-find : tie.Need-shared-slice-read-find
-shared-slice-read-find c = omega (arith, long _ (c .before .before .before .before .pre))
+shared-slice-read-find c =
+    let entry : tie.Start = search in
+    omega (arith, long _ (entry .pre))
 
 find-requires : tie.Need-find-requires
 find-requires c κs =
-    let s = c .before .before .before .before in
-    (omega (arith, (c .before .before .slots-start .ensures), long _ (s .pre)), inRange _ (s .pre) .fewSlots)
+    let at-slots-start : tie.After-slots-start = search in
+    let s : tie.Start = search in
+    (omega (arith, (at-slots-start .slots-start .ensures), long _ (s .pre)), inRange _ (s .pre) .fewSlots)
 
 returns : tie.Need-returns
 returns c =
-    let s = c .before .before .before .before .before in
-    (c .find .ensures) ∙ search-by _ (s .pre) (s .args .code) _ _ (c .before .before .before .slots-start .ensures)
-    (c .before .before .chain-head .ensures)
+    let at-chain-head : tie.After-chain-head = search in
+    let at-slots-start : tie.After-slots-start = search in
+    let s : tie.Start = search in
+    (c .find .ensures) ∙ search-by _ (s .pre) (s .args .code) _ _ (at-slots-start .slots-start .ensures)
+    (at-chain-head .chain-head .ensures)
 
 pub search-spec : {M : Type 1} → statement M
 search-spec =

@@ -18,9 +18,11 @@ same-length c = search needs
 
 returns : tie.Need-returns
 returns c =
-    let s = c .before .before .before .before .before .before .before .before .before in
-    (c .before .before .append .ensures) ∙ ap (λ (n : List ℕ). appended n (s .args .base) (s .args .slots) (s .args .ends) (s .args .old))
-    (c .before .before .before .before .before .before .put-in-place .ensures)
+    let at-append : tie.After-append = search in
+    let at-put-in-place : tie.After-put-in-place = search in
+    let s : tie.Start = search in
+    (at-append .append .ensures) ∙ ap (λ (n : List ℕ). appended n (s .args .base) (s .args .slots) (s .args .ends) (s .args .old))
+    (at-put-in-place .put-in-place .ensures)
 
 pub supersede-spec : {M : Type 1} → statement M
 supersede-spec = tie.close (tie.spec put-in-place-requires append-requires same-length returns)

@@ -1,5 +1,4 @@
 -- `engine::advance::advance` meets its contract: the queue is settled, then a batch begins. Assumes nothing.
-use denote.Ref.{now}
 use borrow.Author.Needs.{needs}
 use Rattle.engine.specs.AdvanceWords.{advanced-by}
 use Rattle.engine.proofs.advance.advance.Statement.{statement}
@@ -15,9 +14,7 @@ same-length : tie.Need-same-length
 same-length c = search needs
 
 returns : tie.Need-returns
-returns c =
-    let s = c .before .before .before .before .before .before .before .before .before .args in
-    advanced-by (now (s .m)) (s .cabinets) (s .places) (s .base) (s .slots) (s .ends) (s .generation) (c .before .before .before .before .before .before .settle .last .0) (c .before .before .begin-batch .last .0) (c .before .before .before .before .before .before .settle .ensures) (c .before .before .begin-batch .ensures)
+returns c = search (needs, advanced-by)
 
 pub advance-spec : {M : Type 1} → statement M
 advance-spec =

@@ -25,7 +25,10 @@ same-length c = search needs
 
 returns : tie.Need-returns
 unfolding batchedWords
-returns c = ap (λ (l : List ℕ). set l (c .before .before .before .before .before .args .generation) (c .before .before .before .before .before .args .g)) (c .before .before .append-queue .ensures)
+returns c =
+    let at-append-queue : tie.After-append-queue = search in
+    let entry : tie.Start = search in
+    ap (λ (l : List ℕ). set l (entry .args .generation) (entry .args .g)) (at-append-queue .append-queue .ensures)
 
 pub batch-spec : {M : Type 1} → statement M
 batch-spec =

@@ -1,5 +1,4 @@
 -- `engine::advance::begin_batch` meets its contract: its tests are those of `begunWords`. Assumes nothing.
-use denote.Ref.{now}
 use borrow.Author.Needs.{needs}
 use Rattle.engine.specs.AdvanceWords.{begun-busy, begun-begins, begun-idle}
 use Rattle.engine.proofs.advance.begin_batch.Statement.{statement}
@@ -15,9 +14,7 @@ slice-read-if1 : tie.Need-slice-read-if1
 slice-read-if1 c = search needs
 
 returns : tie.Need-returns
-returns c =
-    let s = c .before .before .before .args in
-    begun-busy (now (s .m)) (s .cabinets) (s .places) (s .base) (s .slots) (s .ends) (s .generation) (c .if1 .taken)
+returns c = search (needs, begun-busy)
 
 mul-if2 : tie.Need-mul-if2
 mul-if2 c = search needs
@@ -38,14 +35,10 @@ same-length : tie.Need-same-length
 same-length c = search needs
 
 returns-2 : tie.Need-returns-2
-returns-2 c =
-    let s = c .before .before .before .before .before .before .before .before .before .before .before .before .before .before .before .args in
-    begun-begins (now (s .m)) (s .cabinets) (s .places) (s .base) (s .slots) (s .ends) (s .generation) (c .before .before .before .before .before .before .before .before .before .before .before .before .if1 .left) (c .before .before .before .before .before .before .before .before .before .before .if2 .taken) (c .before .before .before .before .before .before .before .before .target .result) (c .before .before .before .before .before .before .before .before .target .ensures) (c .before .before .before .before .before .before .batch .last .0) (c .before .before .request .last .0) (c .before .before .before .before .before .before .batch .ensures) (c .before .before .request .ensures)
+returns-2 c = search (needs, begun-begins)
 
 returns-3 : tie.Need-returns-3
-returns-3 c =
-    let s = c .before .before .before .before .before .args in
-    begun-idle (now (s .m)) (s .cabinets) (s .places) (s .base) (s .slots) (s .ends) (s .generation) (c .before .before .if1 .left) (c .if2 .left)
+returns-3 c = search (needs, begun-idle)
 
 pub begin-batch-spec : {M : Type 1} → statement M
 begin-batch-spec =

@@ -26,7 +26,10 @@ same-length : tie.Need-same-length
 same-length c = search needs
 
 returns : tie.Need-returns
-returns c = ap (λ (l : List ℕ). set l (c .before .before .before .before .before .args .generation) 0) (c .before .before .append-queue .ensures)
+returns c =
+    let at-append-queue : tie.After-append-queue = search in
+    let entry : tie.Start = search in
+    ap (λ (l : List ℕ). set l (entry .args .generation) 0) (at-append-queue .append-queue .ensures)
 
 pub finish-spec : {M : Type 1} → statement M
 finish-spec =

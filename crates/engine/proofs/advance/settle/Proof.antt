@@ -1,5 +1,4 @@
 -- `engine::advance::settle` meets its contract: its tests are those of `settledWords`. Assumes nothing.
-use denote.Ref.{now}
 use borrow.Author.Needs.{needs}
 use Rattle.engine.specs.AdvanceWords.{settled-finished, settled-waits, settled-empty}
 use Rattle.engine.proofs.advance.settle.Statement.{statement}
@@ -33,19 +32,13 @@ same-length : tie.Need-same-length
 same-length c = search needs
 
 returns : tie.Need-returns
-returns c =
-    let s = c .before .before .before .before .before .before .before .before .before .before .before .args in
-    settled-finished (now (s .m)) (s .base) (s .slots) (s .ends) (s .generation) (c .before .before .before .before .before .before .before .before .if1 .taken) (c .before .before .before .before .before .later .result) (c .before .before .before .before .before .later .ensures) (c .before .before .before .before .if2 .taken) (c .before .before .finish .last .0) (c .before .before .finish .ensures)
+returns c = search (needs, settled-finished)
 
 returns-2 : tie.Need-returns-2
-returns-2 c =
-    let s = c .before .before .before .before .before .before .before .args in
-    settled-waits (now (s .m)) (s .base) (s .slots) (s .ends) (s .generation) (c .before .before .before .before .if1 .taken) (c .before .later .result) (c .before .later .ensures) (c .if2 .left)
+returns-2 c = search (needs, settled-waits)
 
 returns-3 : tie.Need-returns-3
-returns-3 c =
-    let s = c .before .before .before .args in
-    settled-empty (now (s .m)) (s .base) (s .slots) (s .ends) (s .generation) (c .if1 .left)
+returns-3 c = search (needs, settled-empty)
 
 pub settle-spec : {M : Type 1} → statement M
 settle-spec =

@@ -1,5 +1,4 @@
 -- `engine::advance::target` meets its contract: its test is that of `targetWord`. Assumes nothing.
-use denote.Ref.{now}
 use borrow.Author.Needs.{needs}
 use Rattle.engine.specs.AdvanceWords.{target-rests, target-runs}
 use Rattle.engine.proofs.advance.target.Statement.{statement}
@@ -12,13 +11,13 @@ shared-slice-read-if1 : tie.Need-shared-slice-read-if1
 shared-slice-read-if1 c = search needs
 
 returns : tie.Need-returns
-returns c = target-rests (now (c .before .before .before .before .args .m)) (c .if1 .taken)
+returns c = search (needs, target-rests)
 
 up-requires : tie.Need-up-requires
 up-requires c κs = search needs
 
 returns-2 : tie.Need-returns-2
-returns-2 c = target-runs (now (c .before .before .before .before .before .args .m)) (c .before .if1 .left) (c .up .result) (c .up .ensures)
+returns-2 c = search (needs, target-runs)
 
 pub target-spec : {M : Type 1} → statement M
 target-spec =

@@ -2,7 +2,6 @@
 use Prim.Native.Nat.{_+_}
 use mathlib.Core.Path.{_∙_}
 use lib.ListN.{length-set}
-use denote.Ref.{now}
 use Rattle.model.specs.Layout.{generationAt}
 use Rattle.engine.specs.OffWords.{handed-by}
 use borrow.Author.Needs.{needs}
@@ -41,13 +40,15 @@ slice-write-m c = search needs
 
 same-length : tie.Need-same-length
 same-length c =
-    length-set (c .before .before .append-queue3 .last .0) (c .before .before .before .before .before .before .before .before .before .before .before .before .before .args .a + generationAt) 0
-    ∙ c .before .before .append-queue3 .kept .0 ∙ c .before .before .before .before .before .before .append-queue2 .kept .0 ∙ c .before .before .before .before .before .before .before .before .before .before .append-queue .kept .0
+    let at-append-queue3 : tie.After-append-queue3 = search in
+    let at-append-queue2 : tie.After-append-queue2 = search in
+    let at-append-queue : tie.After-append-queue = search in
+    let entry : tie.Start = search in
+    length-set (at-append-queue3 .append-queue3 .last .0) (entry .args .a + generationAt) 0
+    ∙ at-append-queue3 .append-queue3 .kept .0 ∙ at-append-queue2 .append-queue2 .kept .0 ∙ at-append-queue .append-queue .kept .0
 
 returns : tie.Need-returns
-returns c =
-    let s = c .before .before .before .before .before .before .before .before .before .before .before .before .before .args in
-    handed-by (now (s .m)) (s .base) (s .slots) (s .a) (c .before .before .before .before .before .before .before .before .before .before .append-queue .last .0) (c .before .before .before .before .before .before .append-queue2 .last .0) (c .before .before .append-queue3 .last .0) (c .before .before .before .before .before .before .before .before .before .before .append-queue .ensures) (c .before .before .before .before .before .before .append-queue2 .ensures) (c .before .before .append-queue3 .ensures)
+returns c = search (needs, handed-by)
 
 pub hand-over-spec : {M : Type 1} → statement M
 hand-over-spec =

@@ -25,7 +25,9 @@ same-length : tie.Need-same-length
 same-length c = search needs
 
 returns : tie.Need-returns
-returns c = ap (set (now (c .before .before .before .args .m)) (c .before .before .before .args .a)) (c .clear-bit .ensures)
+returns c =
+    let entry : tie.Start = search in
+    ap (set (now (entry .args .m)) (entry .args .a)) (c .clear-bit .ensures)
 
 pub mark-off-spec : {M : Type 1} → statement M
 mark-off-spec =

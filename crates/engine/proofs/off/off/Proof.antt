@@ -14,20 +14,28 @@ index-requires-2 c κs = search needs
 
 lane-start-requires : tie.Need-lane-start-requires
 lane-start-requires c κs =
-    let s = c .before .before .before .args in
-    let h = lane-inside (now (s .m)) (s .cabinets) (s .places) (s .base) (s .slots) (s .cabinet) (s .place) (c .before .index .result) (c .index2 .result) (c .before .index .ensures) (c .index2 .ensures) (c .before .before .before .pre) in
+    let at-index : tie.After-index = search in
+    let entry : tie.Start = search in
+    let s = entry .args in
+    let h = lane-inside (now (s .m)) (s .cabinets) (s .places) (s .base) (s .slots) (s .cabinet) (s .place) (at-index .index .result) (c .index2 .result) (at-index .index .ensures) (c .index2 .ensures) (entry .pre) in
     search needs
 
 mark-off-requires : tie.Need-mark-off-requires
 mark-off-requires c κs =
-    let s = c .before .before .before .before .before .args in
-    let h = lane-inside (now (s .m)) (s .cabinets) (s .places) (s .base) (s .slots) (s .cabinet) (s .place) (c .before .before .before .index .result) (c .before .before .index2 .result) (c .before .before .before .index .ensures) (c .before .before .index2 .ensures) (c .before .before .before .before .before .pre) in
+    let at-index2 : tie.After-index2 = search in
+    let at-index : tie.After-index = search in
+    let entry : tie.Start = search in
+    let s = entry .args in
+    let h = lane-inside (now (s .m)) (s .cabinets) (s .places) (s .base) (s .slots) (s .cabinet) (s .place) (at-index .index .result) (at-index2 .index2 .result) (at-index .index .ensures) (at-index2 .index2 .ensures) (entry .pre) in
     search needs
 
 hand-over-requires : tie.Need-hand-over-requires
 hand-over-requires c κs =
-    let s = c .before .before .before .before .before .before .before .before .before .args in
-    let h = lane-inside (now (s .m)) (s .cabinets) (s .places) (s .base) (s .slots) (s .cabinet) (s .place) (c .before .before .before .before .before .before .before .index .result) (c .before .before .before .before .before .before .index2 .result) (c .before .before .before .before .before .before .before .index .ensures) (c .before .before .before .before .before .before .index2 .ensures) (c .before .before .before .before .before .before .before .before .before .pre) in
+    let at-index2 : tie.After-index2 = search in
+    let at-index : tie.After-index = search in
+    let entry : tie.Start = search in
+    let s = entry .args in
+    let h = lane-inside (now (s .m)) (s .cabinets) (s .places) (s .base) (s .slots) (s .cabinet) (s .place) (at-index .index .result) (at-index2 .index2 .result) (at-index .index .ensures) (at-index2 .index2 .ensures) (entry .pre) in
     search needs
 
 release-requires : tie.Need-release-requires
@@ -40,9 +48,7 @@ same-length : tie.Need-same-length
 same-length c = search needs
 
 returns : tie.Need-returns
-returns c =
-    let s = c .before .before .before .before .before .before .before .before .before .before .before .before .before .before .before .before .before .before .before .before .args in
-    off-by (now (s .m)) (s .cabinets) (s .places) (s .base) (s .slots) (s .cabinet) (s .place) (c .before .before .before .before .before .before .before .before .before .before .before .before .before .before .before .before .before .before .index .result) (c .before .before .before .before .before .before .before .before .before .before .before .before .before .before .before .before .before .index2 .result) (c .before .before .before .before .before .before .before .before .before .before .before .before .before .before .before .before .before .before .index .ensures) (c .before .before .before .before .before .before .before .before .before .before .before .before .before .before .before .before .before .index2 .ensures) (c .before .before .before .before .before .before .before .before .before .before .before .before .before .before .before .before .lane-start .result) (c .before .before .before .before .before .before .before .before .before .before .before .before .before .before .before .before .lane-start .ensures) (c .before .before .before .before .before .before .before .before .before .before .before .before .before .before .mark-off .last .0) (c .before .before .before .before .before .before .before .before .before .before .hand-over .last .0) (c .before .before .before .before .before .before .release .last .0) (c .before .before .advance .last .0) (c .before .before .before .before .before .before .before .before .before .before .before .before .before .before .mark-off .ensures) (c .before .before .before .before .before .before .before .before .before .before .hand-over .ensures) (c .before .before .before .before .before .before .release .ensures) (c .before .before .advance .ensures)
+returns c = search (needs, off-by)
 
 pub off-spec : {M : Type 1} → statement M
 off-spec =

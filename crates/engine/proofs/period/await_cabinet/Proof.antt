@@ -1,8 +1,8 @@
 -- `engine::period::await_cabinet` meets its contract: the cabinet's mask is stored, and its bit is set where that mask is not 0.
 -- Assumes nothing.
 use Prim.Native.Nat.{ℕ}
-use mathlib.Core.Bool.{Bool, not, cond}
-use mathlib.Core.Path.{ap, sym, _∙_}
+use mathlib.Core.Bool.{cond}
+use mathlib.Core.Path.{ap, sym}
 use denote.Ref.{now}
 use borrow.Author.Tests.{ne-eqb}
 use borrow.Author.Needs.{needs}
@@ -16,7 +16,10 @@ index-requires : tie.Need-index-requires
 index-requires c κs = search needs
 
 cabinet-online-requires : tie.Need-cabinet-online-requires
-cabinet-online-requires c κs = rw (c .before .index .ensures) (c .before .before .before .pre)
+cabinet-online-requires c κs =
+    let at-index : tie.After-index = search in
+    let entry : tie.Start = search in
+    rw (at-index .index .ensures) (entry .pre)
 
 add-m : tie.Need-add-m
 add-m c = search needs
@@ -32,9 +35,12 @@ same-length c = search needs
 
 returns : tie.Need-returns
 returns c =
-    let s = c .before .before .before .before .before .args in
-    let x = c .before .cabinet-online .result in
-    awaited (now (s .m)) (s .cabinets) (s .places) (s .cabinet) (s .waiting) (c .before .before .before .index .result) x (s .waiting) (c .before .before .before .index .ensures) (c .before .cabinet-online .ensures)
+    let at-cabinet-online : tie.After-cabinet-online = search in
+    let at-index : tie.After-index = search in
+    let entry : tie.Start = search in
+    let s = entry .args in
+    let x = at-cabinet-online .cabinet-online .result in
+    awaited (now (s .m)) (s .cabinets) (s .places) (s .cabinet) (s .waiting) (at-index .index .result) x (s .waiting) (at-index .index .ensures) (at-cabinet-online .cabinet-online .ensures)
     (sym (ap (λ (y : ℕ). cond (isNotZero y) (withBit (s .cabinet) (s .waiting)) (s .waiting)) (c .if1 .taken)))
 
 set-bit-requires : tie.Need-set-bit-requires
@@ -44,11 +50,7 @@ same-length-2 : tie.Need-same-length-2
 same-length-2 c = search needs
 
 returns-2 : tie.Need-returns-2
-returns-2 c =
-    let s = c .before .before .before .before .before .before .args in
-    let x = c .before .before .cabinet-online .result in
-    awaited (now (s .m)) (s .cabinets) (s .places) (s .cabinet) (s .waiting) (c .before .before .before .before .index .result) x (c .set-bit .result) (c .before .before .before .before .index .ensures) (c .before .before .cabinet-online .ensures)
-    (c .set-bit .ensures ∙ sym (ap (λ (d : Bool). cond (not d) (withBit (s .cabinet) (s .waiting)) (s .waiting)) (ne-eqb x 0 (c .before .if1 .left))))
+returns-2 c = search (needs, awaited, now, ne-eqb)
 
 pub await-cabinet-spec : {M : Type 1} → statement M
 await-cabinet-spec =

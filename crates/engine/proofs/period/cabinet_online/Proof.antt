@@ -39,10 +39,12 @@ online-mask-requires c κs = search needs
 
 returns : tie.Need-returns
 returns c =
-    let s = c .before .before .before .before .args in
-    let a = c .before .before .cabinet-start .result in
+    let at-cabinet-start : tie.After-cabinet-start = search in
+    let entry : tie.Start = search in
+    let s = entry .args in
+    let a = at-cabinet-start .cabinet-start .result in
     c .online-mask .ensures
-    ∙ online-part (now (s .m)) (s .cabinets) (s .places) (s .cabinet) (a + laneLength * s .places - a) a (c .before .before .cabinet-start .ensures) (omega arith)
+    ∙ online-part (now (s .m)) (s .cabinets) (s .places) (s .cabinet) (a + laneLength * s .places - a) a (at-cabinet-start .cabinet-start .ensures) (omega arith)
 
 pub cabinet-online-spec : {M : Type 1} → statement M
 cabinet-online-spec =

@@ -31,29 +31,33 @@ slice-write-m : tie.Need-slice-write-m
 slice-write-m c = search needs
 
 slice-read-clear-bit-2 : tie.Need-slice-read-clear-bit-2
-slice-read-clear-bit-2 c = omega (arith, length-set (now (c .before .before .before .before .before .before .args .m)) (masksAt + c .before .before .before .before .index .result) (c .before .before .clear-bit .result))
+slice-read-clear-bit-2 c =
+    let at-clear-bit : tie.After-clear-bit = search in
+    let at-index : tie.After-index = search in
+    let entry : tie.Start = search in
+    omega (arith, length-set (now (entry .args .m)) (masksAt + at-index .index .result) (at-clear-bit .clear-bit .result))
 
 clear-bit-requires-2 : tie.Need-clear-bit-requires-2
 clear-bit-requires-2 c κs = search needs
 
 slice-write-m-2 : tie.Need-slice-write-m-2
-slice-write-m-2 c = omega (arith, length-set (now (c .before .before .before .before .before .before .before .args .m)) (masksAt + c .before .before .before .before .before .index .result) (c .before .before .before .clear-bit .result))
+slice-write-m-2 c =
+    let at-clear-bit : tie.After-clear-bit = search in
+    let at-index : tie.After-index = search in
+    let entry : tie.Start = search in
+    omega (arith, length-set (now (entry .args .m)) (masksAt + at-index .index .result) (at-clear-bit .clear-bit .result))
 
 same-length : tie.Need-same-length
 same-length c = search needs
 
 returns : tie.Need-returns
-returns c =
-    let s = c .before .before .before .before .before .before .before .args in
-    cleared-last (now (s .m)) (s .cabinet) (s .place) (c .before .before .before .before .before .index .result) (c .before .before .before .before .before .index .ensures) (c .before .before .before .clear-bit .result) (c .before .before .before .clear-bit .ensures) (c .clear-bit2 .result) (c .before .before .if1 .taken) (c .clear-bit2 .ensures)
+returns c = search (needs, cleared-last)
 
 same-length-2 : tie.Need-same-length-2
 same-length-2 c = search needs
 
 returns-2 : tie.Need-returns-2
-returns-2 c =
-    let s = c .before .before .before .before .before .args in
-    cleared-more (now (s .m)) (s .cabinet) (s .place) (c .before .before .before .index .result) (c .before .before .before .index .ensures) (c .before .clear-bit .result) (c .before .clear-bit .ensures) (c .if1 .left)
+returns-2 c = search (needs, cleared-more)
 
 pub clear-pending-spec : {M : Type 1} → statement M
 clear-pending-spec =

@@ -1,5 +1,4 @@
 -- `engine::period::end_if_over` meets its contract: its test is that of `overWords`. Assumes nothing.
-use denote.Ref.{now}
 use borrow.Author.Needs.{needs}
 use Rattle.engine.specs.ReleaseWords.{over-ends, over-goes}
 use Rattle.engine.proofs.period.end_if_over.Statement.{statement}
@@ -15,14 +14,10 @@ same-length : tie.Need-same-length
 same-length c = search needs
 
 returns : tie.Need-returns
-returns c =
-    let s = c .before .before .before .before .before .before .before .args in
-    over-ends (now (s .m)) (s .cabinets) (s .places) (c .before .before .before .before .if1 .taken) (c .before .before .end-period .last .0) (c .before .before .end-period .ensures)
+returns c = search (needs, over-ends)
 
 returns-2 : tie.Need-returns-2
-returns-2 c =
-    let s = c .before .before .before .args in
-    over-goes (now (s .m)) (s .cabinets) (s .places) (c .if1 .left)
+returns-2 c = search (needs, over-goes)
 
 pub end-if-over-spec : {M : Type 1} → statement M
 end-if-over-spec =

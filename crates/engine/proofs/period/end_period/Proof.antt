@@ -27,23 +27,22 @@ same-length : tie.Need-same-length
 same-length c = search needs
 
 returns : tie.Need-returns
-returns c =
-    let s = c .before .before .before .before .before .before .args in
-    ended-rests (now (s .m)) (s .cabinets) (s .places) (c .before .before .up .result) (c .before .later .result) (c .before .before .up .ensures) (c .before .later .ensures) (c .if1 .taken)
+returns c = search (needs, ended-rests)
 
 start-period-requires : tie.Need-start-period-requires
 start-period-requires c κs = search needs
 
 same-length-2 : tie.Need-same-length-2
 same-length-2 c =
-    let s = c .before .before .before .before .before .before .before .before .before .before .args in
-    let g = c .before .before .before .before .before .before .up .result in
-    ap length (c .before .before .start-period .ensures) ∙ length-startedWords (set (now (s .m)) currentGenerationAt g) (s .cabinets) (s .places) ∙ length-set (now (s .m)) currentGenerationAt g
+    let at-start-period : tie.After-start-period = search in
+    let at-up : tie.After-up = search in
+    let entry : tie.Start = search in
+    let s = entry .args in
+    let g = at-up .up .result in
+    ap length (at-start-period .start-period .ensures) ∙ length-startedWords (set (now (s .m)) currentGenerationAt g) (s .cabinets) (s .places) ∙ length-set (now (s .m)) currentGenerationAt g
 
 returns-2 : tie.Need-returns-2
-returns-2 c =
-    let s = c .before .before .before .before .before .before .before .before .before .before .args in
-    ended-goes (now (s .m)) (s .cabinets) (s .places) (c .before .before .before .before .before .before .up .result) (c .before .before .before .before .before .later .result) (c .before .before .before .before .before .before .up .ensures) (c .before .before .before .before .before .later .ensures) (c .before .before .before .before .if1 .left) (c .before .before .start-period .last .0) (c .before .before .start-period .ensures)
+returns-2 c = search (needs, ended-goes)
 
 pub end-period-spec : {M : Type 1} → statement M
 end-period-spec =

@@ -1,5 +1,4 @@
 -- `engine::period::pass_period` meets its contract: its test is that of `passedWords`. Assumes nothing.
-use denote.Ref.{now}
 use borrow.Author.Needs.{needs}
 use Rattle.engine.specs.ReleaseWords.{passed-set, passed-clear}
 use Rattle.engine.proofs.period.pass_period.Statement.{statement}
@@ -30,14 +29,10 @@ same-length : tie.Need-same-length
 same-length c = search needs
 
 returns : tie.Need-returns
-returns c =
-    let s = c .before .before .before .before .before .before .before .before .before .before .before .before .before .args in
-    passed-set (now (s .m)) (s .cabinet) (s .place) (c .before .before .before .before .before .before .before .before .before .before .before .index .result) (c .before .before .before .before .before .before .before .before .before .before .before .index .ensures) (s .cabinets) (s .places) (c .before .before .before .before .before .before .before .before .before .test .result) (c .before .before .before .before .before .before .before .before .before .test .ensures) (c .before .before .before .before .before .before .before .before .if1 .taken) (c .before .before .before .before .before .before .clear-pending .last .0) (c .before .before .end-if-over .last .0) (c .before .before .before .before .before .before .clear-pending .ensures) (c .before .before .end-if-over .ensures)
+returns c = search (needs, passed-set)
 
 returns-2 : tie.Need-returns-2
-returns-2 c =
-    let s = c .before .before .before .before .before .args in
-    passed-clear (now (s .m)) (s .cabinet) (s .place) (c .before .before .before .index .result) (c .before .before .before .index .ensures) (s .cabinets) (s .places) (c .before .test .result) (c .before .test .ensures) (c .if1 .left)
+returns-2 c = search (needs, passed-clear)
 
 pub pass-period-spec : {M : Type 1} → statement M
 pass-period-spec =

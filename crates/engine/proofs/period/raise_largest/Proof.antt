@@ -25,14 +25,18 @@ same-length c = search needs
 returns : tie.Need-returns
 unfolding raisedWords
 returns c =
-    let s = c .before .before .before .before .args in
-    ap (λ (d : Bool). cond d (set (now (s .m)) largestGenerationAt (s .g)) (now (s .m))) (sym (sym (c .before .later .ensures) ∙ c .if1 .taken))
+    let at-later : tie.After-later = search in
+    let entry : tie.Start = search in
+    let s = entry .args in
+    ap (λ (d : Bool). cond d (set (now (s .m)) largestGenerationAt (s .g)) (now (s .m))) (sym (sym (at-later .later .ensures) ∙ c .if1 .taken))
 
 returns-2 : tie.Need-returns-2
 unfolding raisedWords
 returns-2 c =
-    let s = c .before .before .before .before .args in
-    ap (λ (d : Bool). cond d (set (now (s .m)) largestGenerationAt (s .g)) (now (s .m))) (sym (sym (c .before .later .ensures) ∙ c .if1 .left))
+    let at-later : tie.After-later = search in
+    let entry : tie.Start = search in
+    let s = entry .args in
+    ap (λ (d : Bool). cond d (set (now (s .m)) largestGenerationAt (s .g)) (now (s .m))) (sym (sym (at-later .later .ensures) ∙ c .if1 .left))
 
 pub raise-largest-spec : {M : Type 1} → statement M
 raise-largest-spec =

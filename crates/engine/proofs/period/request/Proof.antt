@@ -1,5 +1,4 @@
 -- `engine::period::request` meets its contract: its test is that of `requestedWords`, and each way out leaves what that says. Assumes nothing.
-use denote.Ref.{now}
 use borrow.Author.Needs.{needs}
 use Rattle.engine.specs.PeriodWords.{requested-goes, requested-rests}
 use Rattle.engine.proofs.period.request.Statement.{statement}
@@ -18,17 +17,13 @@ same-length : tie.Need-same-length
 same-length c = search needs
 
 returns : tie.Need-returns
-returns c =
-    let s = c .before .before .before .before .before .before .before .before .before .before .before .args in
-    requested-goes (now (s .m)) (s .cabinets) (s .places) (s .g) (c .before .before .before .before .before .before .before .raise-largest .last .0) (c .before .before .before .before .before .before .before .raise-largest .ensures) (c .before .before .before .before .if1 .taken) (c .before .before .start-period .last .0) (c .before .before .start-period .ensures)
+returns c = search (needs, requested-goes)
 
 same-length-2 : tie.Need-same-length-2
 same-length-2 c = search needs
 
 returns-2 : tie.Need-returns-2
-returns-2 c =
-    let s = c .before .before .before .before .before .before .before .args in
-    requested-rests (now (s .m)) (s .cabinets) (s .places) (s .g) (c .before .before .before .raise-largest .last .0) (c .before .before .before .raise-largest .ensures) (c .if1 .left)
+returns-2 c = search (needs, requested-rests)
 
 pub request-spec : {M : Type 1} → statement M
 request-spec =

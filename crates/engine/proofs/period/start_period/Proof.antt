@@ -29,10 +29,7 @@ cast-await-cabinet : tie.Need-cast-await-cabinet Inv-loop μ-loop
 cast-await-cabinet c = omega arith
 
 await-cabinet-requires : tie.Need-await-cabinet-requires Inv-loop μ-loop
-await-cabinet-requires c κs =
-    let s = c .before .before .before .before .args in
-    let l = c .before .before .loop in
-    cabinet-lent (l .m) (s .cabinets) (s .places) (lent-alike (now (s .m)) (s .cabinets) (s .places) (l .m) (l .inv .1 .0) (c .before .before .before .before .pre)) (l .c) (c .before .loop-test .taken)
+await-cabinet-requires c κs = search (needs, cabinet-lent, lent-alike)
 
 add-c : tie.Need-add-c Inv-loop μ-loop
 add-c c = omega arith
@@ -42,10 +39,14 @@ loop-less c = omega arith
 
 loop-again : tie.Need-loop-again Inv-loop μ-loop
 loop-again c =
-    let s = c .before .before .before .before .before .before .before .args in
-    let l = c .before .before .before .before .before .loop in (
+    let at-await-cabinet : tie.After-await-cabinet Inv-loop μ-loop = search in
+    let at-loop-test : tie.In-loop Inv-loop μ-loop = search in
+    let at-loop : tie.At-loop Inv-loop μ-loop = search in
+    let entry : tie.Start Inv-loop μ-loop = search in
+    let s = entry .args in
+    let l = at-loop .loop in (
       omega arith,
-      one-more (now (s .m)) (s .cabinets) (s .places) (l .c) (c .before .before .before .before .loop-test .taken) (c .before .before .before .before .before .before .before .pre .fewCabinets) (l .m) (c .before .before .await-cabinet .last .0) (l .waiting) (c .before .before .await-cabinet .result) (l .inv .1 .1 .0) (l .inv .1 .1 .1) (c .before .before .await-cabinet .ensures),
+      one-more (now (s .m)) (s .cabinets) (s .places) (l .c) (at-loop-test .loop-test .taken) (entry .pre .fewCabinets) (l .m) (at-await-cabinet .await-cabinet .last .0) (l .waiting) (at-await-cabinet .await-cabinet .result) (l .inv .1 .1 .0) (l .inv .1 .1 .1) (at-await-cabinet .await-cabinet .ensures),
     )
 
 slice-write-m : tie.Need-slice-write-m Inv-loop μ-loop
@@ -57,8 +58,10 @@ same-length c = search needs
 returns : tie.Need-returns Inv-loop μ-loop
 unfolding startedWords
 returns c =
-    let s = c .before .before .before .args in
-    let l = c .before .loop in
+    let at-loop : tie.At-loop Inv-loop μ-loop = search in
+    let entry : tie.Start Inv-loop μ-loop = search in
+    let s = entry .args in
+    let l = at-loop .loop in
     let e : l .c ≡ s .cabinets = omega arith in
     ap₂ (λ (x : List ℕ) (w : ℕ). set x cabinetMaskAt w) (l .inv .1 .1 .0 ∙ ap (masksSet (now (s .m)) (s .cabinets) (s .places)) e)
     (l .inv .1 .1 .1 ∙ ap (waitingFor (now (s .m)) (s .cabinets) (s .places)) e)

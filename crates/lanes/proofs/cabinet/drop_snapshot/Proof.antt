@@ -37,15 +37,20 @@ write-counts-requires : tie.Need-write-counts-requires
 write-counts-requires c κs = simp length-set (omega arith)
 
 same-length : tie.Need-same-length
-same-length c = c .before .before .write-counts .kept .0 ∙ simp length-set
+same-length c =
+    let at-write-counts : tie.After-write-counts = search in
+    at-write-counts .write-counts .kept .0 ∙ simp length-set
 
 returns : tie.Need-returns
 unfolding droppedAt
 returns c =
-    let s = c .before .before .before .before .before .before .args in
+    let at-write-counts : tie.After-write-counts = search in
+    let at-slice-known : tie.After-slice-known = search in
+    let entry : tie.Start = search in
+    let s = entry .args in
     let a = placeAt (s .place) in
-    let h : at (now (s .cabinet)) a < 2 ^ 32 = omega (arith, c .before .before .before .before .before .slice-known .given a) in
-    c .before .before .write-counts .ensures
+    let h : at (now (s .cabinet)) a < 2 ^ 32 = omega (arith, at-slice-known .slice-known .given a) in
+    at-write-counts .write-counts .ensures
     ∙ ap (λ (w : ℕ). sets (set (now (s .cabinet)) a w) (a + snapshotAt) (0 ∷ 0 ∷ 0 ∷ 0 ∷ [])) (and-withFlag heldBit (at (now (s .cabinet)) a) (omega arith) h)
 
 pub drop-snapshot-spec : {M : Type 1} → statement M

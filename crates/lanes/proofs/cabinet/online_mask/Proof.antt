@@ -41,21 +41,26 @@ loop-less c = omega arith
 
 loop-again : tie.Need-loop-again Inv-loop μ-loop
 loop-again c =
-    let g = onlineAt (now (c .before .before .before .before .before .args .cabinet)) in
-    let p = c .before .before .before .loop .p in
-    let w = c .before .lane-flags .result in
-    let e : g p ≡ flag 0 w = ap (flag 0) (sym (c .before .lane-flags .ensures)) in (
+    let at-lane-flags : tie.After-lane-flags Inv-loop μ-loop = search in
+    let at-loop : tie.At-loop Inv-loop μ-loop = search in
+    let entry : tie.Start Inv-loop μ-loop = search in
+    let g = onlineAt (now (entry .args .cabinet)) in
+    let p = at-loop .loop .p in
+    let w = at-lane-flags .lane-flags .result in
+    let e : g p ≡ flag 0 w = ap (flag 0) (sym (at-lane-flags .lane-flags .ensures)) in (
       omega arith,
       ⊎-elim
-          (λ t. t .1 ∙ ap (λ (x : ℕ). bitOr x ((1 * 2 ^ p) % 2 ^ 32)) (c .before .before .before .loop .inv .1) ∙ mask-online g p w (omega arith) e (t .0 .taken))
-          (λ t. t .1 ∙ c .before .before .before .loop .inv .1 ∙ mask-offline g p w e (t .0 .left))
+          (λ t. t .1 ∙ ap (λ (x : ℕ). bitOr x ((1 * 2 ^ p) % 2 ^ 32)) (at-loop .loop .inv .1) ∙ mask-online g p w (omega arith) e (t .0 .taken))
+          (λ t. t .1 ∙ at-loop .loop .inv .1 ∙ mask-offline g p w e (t .0 .left))
           (c .if1 .came),
     )
 
 returns : tie.Need-returns Inv-loop μ-loop
 returns c =
-    let e : c .before .loop .p ≡ c .before .before .before .args .places = omega arith in
-    c .before .loop .inv .1 ∙ ap (λ (n : ℕ). mask (map (onlineAt (now (c .before .before .before .args .cabinet))) (from 0 n))) e
+    let at-loop : tie.At-loop Inv-loop μ-loop = search in
+    let entry : tie.Start Inv-loop μ-loop = search in
+    let e : at-loop .loop .p ≡ entry .args .places = omega arith in
+    at-loop .loop .inv .1 ∙ ap (λ (n : ℕ). mask (map (onlineAt (now (entry .args .cabinet))) (from 0 n))) e
 
 pub online-mask-spec : {M : Type 1} → statement M
 online-mask-spec =

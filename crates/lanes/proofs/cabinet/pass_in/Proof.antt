@@ -27,11 +27,15 @@ same-length c = search needs
 
 returns : tie.Need-returns
 returns c =
-    let s = c .before .before .before .before .before .before .before .before .args in
+    let at-write-lane : tie.After-write-lane = search in
+    let at-passed : tie.After-passed = search in
+    let at-read-lane : tie.After-read-lane = search in
+    let entry : tie.Start = search in
+    let s = entry .args in
     let a = placeAt (s .place) in
     let m = now (s .cabinet) in
-    c .before .before .write-lane .ensures
-    ∙ ap (recordStored m a) (c .before .before .before .before .passed .ensures ∙ ap (λ (r : LaneRecord). countedRecord r (s .kind)) (c .before .before .before .before .before .read-lane .ensures))
+    at-write-lane .write-lane .ensures
+    ∙ ap (recordStored m a) (at-passed .passed .ensures ∙ ap (λ (r : LaneRecord). countedRecord r (s .kind)) (at-read-lane .read-lane .ensures))
     ∙ recordStored-counted m a (s .kind) (omega arith) (omega arith)
 
 pub pass-in-spec : {M : Type 1} → statement M

@@ -41,13 +41,16 @@ same-length c = search needs
 
 returns : tie.Need-returns
 returns c =
-    let s = c .before .before .before .before .before .before .args in
+    let at-pass-in : tie.After-pass-in = search in
+    let at-cabinet-start : tie.After-cabinet-start = search in
+    let entry : tie.Start = search in
+    let s = entry .args in
     let m = now (s .m) in
-    let a = c .before .before .before .before .cabinet-start .result in
+    let a = at-cabinet-start .cabinet-start .result in
     let n = a + laneLength * s .places - a in
-    ap (λ (l : List ℕ). take a m ++ (l ++ drop n (drop a m))) (c .before .before .pass-in .ensures)
+    ap (λ (l : List ℕ). take a m ++ (l ++ drop n (drop a m))) (at-pass-in .pass-in .ensures)
     ∙ part-countedAt m a n (placeAt (s .place)) (omega arith) (s .kind) (omega arith)
-    ∙ ap (λ (i : ℕ). countedAt m (i + placeAt (s .place)) (s .kind)) (c .before .before .before .before .cabinet-start .ensures)
+    ∙ ap (λ (i : ℕ). countedAt m (i + placeAt (s .place)) (s .kind)) (at-cabinet-start .cabinet-start .ensures)
 
 pub pass-lane-spec : {M : Type 1} → statement M
 pass-lane-spec =

@@ -43,15 +43,20 @@ write-counts-requires : tie.Need-write-counts-requires
 write-counts-requires c κs = simp length-set (omega arith)
 
 same-length : tie.Need-same-length
-same-length c = c .before .before .write-counts .kept .0 ∙ simp length-set
+same-length c =
+    let at-write-counts : tie.After-write-counts = search in
+    at-write-counts .write-counts .kept .0 ∙ simp length-set
 
 returns : tie.Need-returns
 unfolding sampledAt
 returns c =
-    let s = c .before .before .before .before .before .before .before .before .args in
+    let at-write-counts : tie.After-write-counts = search in
+    let at-read-counts : tie.After-read-counts = search in
+    let entry : tie.Start = search in
+    let s = entry .args in
     let a = placeAt (s .place) in
-    c .before .before .write-counts .ensures
-    ∙ ap₂ (λ (w : ℕ) (q : List ℕ). sets (set (now (s .cabinet)) a w) (a + snapshotAt) (readCounts q 0)) (or-withFlag heldBit (at (now (s .cabinet)) a)) (c .before .before .before .before .before .read-counts .ensures)
+    at-write-counts .write-counts .ensures
+    ∙ ap₂ (λ (w : ℕ) (q : List ℕ). sets (set (now (s .cabinet)) a w) (a + snapshotAt) (readCounts q 0)) (or-withFlag heldBit (at (now (s .cabinet)) a)) (at-read-counts .read-counts .ensures)
 
 pub take-snapshot-spec : {M : Type 1} → statement M
 take-snapshot-spec =

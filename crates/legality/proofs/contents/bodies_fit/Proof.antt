@@ -69,7 +69,9 @@ mul-result-3 c = search needs
 
 returns : tie.Need-returns
 unfolding bodiesFit
-returns c = rw (c .before .before .before .before .before .before .before .before .before .index .ensures)
+returns c =
+    let at-index : tie.After-index = search in
+    rw (at-index .index .ensures)
 
 pub bodies-fit-spec : {M : Type 1} → statement M
 bodies-fit-spec =

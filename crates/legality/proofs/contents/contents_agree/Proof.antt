@@ -22,7 +22,7 @@ sizes-fit-requires : tie.Need-sizes-fit-requires
 sizes-fit-requires c κs = search needs
 
 returns-2 : tie.Need-returns-2
-returns-2 c = contents-unsized _ (c .before .before .before .before .before .if1 .left) _ (c .before .sizes-fit .ensures) (not-true _ (c .if2 .taken))
+returns-2 c = search (needs, contents-unsized, not-true)
 
 shared-slice-read-lane-count : tie.Need-shared-slice-read-lane-count
 shared-slice-read-lane-count c = search needs
@@ -31,7 +31,10 @@ shared-slice-read-lane-count-2 : tie.Need-shared-slice-read-lane-count-2
 shared-slice-read-lane-count-2 c = search needs
 
 lane-count-requires : tie.Need-lane-count-requires
-lane-count-requires c κs = let s = sizes-small _ _ _ (sym (c .before .before .before .sizes-fit .ensures) ∙ not-false _ (c .before .before .if2 .left)) in (s .cabinets, s .places)
+lane-count-requires c κs =
+    let at-if2 : tie.Else2 = search in
+    let at-sizes-fit : tie.After-sizes-fit = search in
+    let s = sizes-small _ _ _ (sym (at-sizes-fit .sizes-fit .ensures) ∙ not-false _ (at-if2 .if2 .left)) in (s .cabinets, s .places)
 
 shared-slice-read-bodies-fit : tie.Need-shared-slice-read-bodies-fit
 shared-slice-read-bodies-fit c = search needs
@@ -40,10 +43,15 @@ shared-slice-read-bodies-fit-2 : tie.Need-shared-slice-read-bodies-fit-2
 shared-slice-read-bodies-fit-2 c = search needs
 
 bodies-fit-requires : tie.Need-bodies-fit-requires
-bodies-fit-requires c κs = let s = sizes-small _ _ _ (sym (c .before .before .before .before .before .before .sizes-fit .ensures) ∙ not-false _ (c .before .before .before .before .before .if2 .left)) in (c .before .before .before .before .before .before .before .before .before .before .if1 .left, s .cabinets, c .before .before .lane-count .ensures .most, s .slots)
+bodies-fit-requires c κs =
+    let at-lane-count : tie.After-lane-count = search in
+    let at-if2 : tie.Else2 = search in
+    let at-sizes-fit : tie.After-sizes-fit = search in
+    let at-if1 : tie.Else1 = search in
+    let s = sizes-small _ _ _ (sym (at-sizes-fit .sizes-fit .ensures) ∙ not-false _ (at-if2 .if2 .left)) in (at-if1 .if1 .left, s .cabinets, at-lane-count .lane-count .ensures .most, s .slots)
 
 returns-3 : tie.Need-returns-3
-returns-3 c = contents-decided _ (c .before .before .before .before .before .before .before .before .before .before .before .if1 .left) _ (c .before .before .before .before .before .before .before .sizes-fit .ensures) (not-false _ (c .before .before .before .before .before .before .if2 .left)) _ (c .before .before .before .lane-count .ensures .lanes) _ (c .bodies-fit .ensures)
+returns-3 c = search (needs, contents-decided, not-false)
 
 pub contents-agree-spec : {M : Type 1} → statement M
 contents-agree-spec =

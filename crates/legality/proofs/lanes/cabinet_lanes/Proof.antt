@@ -34,7 +34,7 @@ lane-fits-requires : tie.Need-lane-fits-requires Inv-loop μ-loop
 lane-fits-requires c κs = search needs
 
 returns : tie.Need-returns Inv-loop μ-loop
-returns c = lanes-fails _ _ _ _ _ _ _ (c .before .before .before .loop .inv .2) _ (c .before .before .before .loop .inv .1) (c .before .before .loop-test .taken) _ (c .before .lane-fits .ensures) (not-true _ (c .if1 .taken))
+returns c = search (needs, lanes-fails, not-true)
 
 add-p : tie.Need-add-p Inv-loop μ-loop
 add-p c = search needs
@@ -47,11 +47,14 @@ loop-less c = search needs
 
 loop-again : tie.Need-loop-again Inv-loop μ-loop
 loop-again c =
-    let i = c .before .before .before .loop .inv in
-    (omega arith, half-on _ _ _ (i .1), lanes-on _ _ _ _ _ _ _ (i .2) _ (i .1) (c .before .before .loop-test .taken) _ (c .before .lane-fits .ensures) (not-false _ (c .if1 .left)))
+    let at-lane-fits : tie.After-lane-fits Inv-loop μ-loop = search in
+    let at-loop-test : tie.In-loop Inv-loop μ-loop = search in
+    let at-loop : tie.At-loop Inv-loop μ-loop = search in
+    let i = at-loop .loop .inv in
+    (omega arith, half-on _ _ _ (i .1), lanes-on _ _ _ _ _ _ _ (i .2) _ (i .1) (at-loop-test .loop-test .taken) _ (at-lane-fits .lane-fits .ensures) (not-false _ (c .if1 .left)))
 
 returns-2 : tie.Need-returns-2 Inv-loop μ-loop
-returns-2 c = all-end _ _ _ _ (c .before .loop .inv .2) (c .loop-test .left)
+returns-2 c = search (needs, all-end)
 
 pub cabinet-lanes-spec : {M : Type 1} → statement M
 cabinet-lanes-spec =

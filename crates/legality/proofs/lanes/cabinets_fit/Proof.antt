@@ -40,7 +40,7 @@ cabinet-fits-requires : tie.Need-cabinet-fits-requires Inv-loop μ-loop
 cabinet-fits-requires c κs = search needs
 
 returns : tie.Need-returns Inv-loop μ-loop
-returns c = cabinets-fails (c .before .before .before .before .before .before .before .args .m .now) _ _ _ _ _ (c .before .before .before .before .loop .inv .2) _ (c .before .before .before .before .loop .inv .1) (c .before .before .before .loop-test .taken) _ (c .before .cabinet-fits .ensures) (not-true _ (c .if1 .taken))
+returns c = search (needs, cabinets-fails, not-true)
 
 add-c : tie.Need-add-c Inv-loop μ-loop
 add-c c = search needs
@@ -53,11 +53,15 @@ loop-less c = search needs
 
 loop-again : tie.Need-loop-again Inv-loop μ-loop
 loop-again c =
-    let i = c .before .before .before .before .loop .inv in
-    (omega arith, half-on _ _ _ (i .1), cabinets-on (c .before .before .before .before .before .before .before .args .m .now) _ _ _ _ _ (i .2) _ (i .1) (c .before .before .before .loop-test .taken) _ (c .before .cabinet-fits .ensures) (not-false _ (c .if1 .left)))
+    let at-cabinet-fits : tie.After-cabinet-fits Inv-loop μ-loop = search in
+    let at-loop-test : tie.In-loop Inv-loop μ-loop = search in
+    let at-loop : tie.At-loop Inv-loop μ-loop = search in
+    let entry : tie.Start Inv-loop μ-loop = search in
+    let i = at-loop .loop .inv in
+    (omega arith, half-on _ _ _ (i .1), cabinets-on (entry .args .m .now) _ _ _ _ _ (i .2) _ (i .1) (at-loop-test .loop-test .taken) _ (at-cabinet-fits .cabinet-fits .ensures) (not-false _ (c .if1 .left)))
 
 returns-2 : tie.Need-returns-2 Inv-loop μ-loop
-returns-2 c = all-end _ _ _ _ (c .before .loop .inv .2) (c .loop-test .left)
+returns-2 c = search (needs, all-end)
 
 pub cabinets-fit-spec : {M : Type 1} → statement M
 cabinets-fit-spec =

@@ -17,8 +17,11 @@ later-requires c κs = search needs
 
 returns : tie.Need-returns
 returns c =
-    let p : c .before .before .wrapping-sub-u32 .result ≡ down (c .before .before .before .args .current) = omega (arith, c .before .before .wrapping-sub-u32 .ensures, c .before .before .before .fits .current) in
-    let q : c .before .wrapping-add-u32 .result ≡ up (c .before .before .before .args .current) = c .before .wrapping-add-u32 .ensures in
+    let at-wrapping-add-u32 : tie.After-wrapping-add-u32 = search in
+    let at-wrapping-sub-u32 : tie.After-wrapping-sub-u32 = search in
+    let entry : tie.Start = search in
+    let p : at-wrapping-sub-u32 .wrapping-sub-u32 .result ≡ down (entry .args .current) = omega (arith, at-wrapping-sub-u32 .wrapping-sub-u32 .ensures, entry .fits .current) in
+    let q : at-wrapping-add-u32 .wrapping-add-u32 .result ≡ up (entry .args .current) = at-wrapping-add-u32 .wrapping-add-u32 .ensures in
     rw (p, q, c .later .ensures)
 
 pub generation-fits-spec : {M : Type 1} → statement M

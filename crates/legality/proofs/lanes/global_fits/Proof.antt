@@ -13,7 +13,9 @@ later-requires c κs = search needs
 
 returns : tie.Need-returns
 returns c =
-    let q : c .before .wrapping-add-u32 .result ≡ up (c .before .before .args .current) = c .before .wrapping-add-u32 .ensures in
+    let at-wrapping-add-u32 : tie.After-wrapping-add-u32 = search in
+    let entry : tie.Start = search in
+    let q : at-wrapping-add-u32 .wrapping-add-u32 .result ≡ up (entry .args .current) = at-wrapping-add-u32 .wrapping-add-u32 .ensures in
     rw (q, c .later .ensures)
 
 pub global-fits-spec : {M : Type 1} → statement M

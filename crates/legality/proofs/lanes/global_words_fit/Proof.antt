@@ -36,7 +36,11 @@ heads-fit-requires c κs = search needs
 
 returns : tie.Need-returns
 unfolding globalWordsFit
-returns c = rw (c .before .before .before .before .fits-in .ensures, c .before .before .before .largest-fits .ensures, c .before .global-fits .ensures, c .heads-fit .ensures)
+returns c =
+    let at-global-fits : tie.After-global-fits = search in
+    let at-largest-fits : tie.After-largest-fits = search in
+    let at-fits-in : tie.After-fits-in = search in
+    rw (at-fits-in .fits-in .ensures, at-largest-fits .largest-fits .ensures, at-global-fits .global-fits .ensures, c .heads-fit .ensures)
 
 pub global-words-fit-spec : {M : Type 1} → statement M
 global-words-fit-spec =

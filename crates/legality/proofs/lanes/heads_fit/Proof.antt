@@ -1,7 +1,6 @@
 -- `heads_fit` meets its contract. The loop's invariant: the words from a on decide. The measure: the words left. Assumes nothing.
 use Prim.Native.Nat.{ℕ, _+_}
 use mathlib.Core.Path.{_≡_, refl}
-use native.Mathlib.Omega.{arith}
 use borrow.Author.Tests.{not-true, not-false}
 use Rattle.model.specs.Lists.{all, from}
 use mathlib.Core.Bool.{_||_}
@@ -44,7 +43,7 @@ shared-slice-read-if1-2 : tie.Need-shared-slice-read-if1-2 Inv-loop μ-loop
 shared-slice-read-if1-2 c = search needs
 
 returns : tie.Need-returns Inv-loop μ-loop
-returns c = all-fails _ _ _ _ (c .before .before .before .before .loop .inv .1) (c .before .before .before .loop-test .taken) _ refl (not-true _ (c .if1 .taken))
+returns c = search (needs, all-fails, not-true)
 
 add-a : tie.Need-add-a Inv-loop μ-loop
 add-a c = search needs
@@ -56,10 +55,10 @@ loop-less : tie.Need-loop-less Inv-loop μ-loop
 loop-less c = search needs
 
 loop-again : tie.Need-loop-again Inv-loop μ-loop
-loop-again c = (omega arith, all-on _ _ _ _ (c .before .before .before .before .loop .inv .1) (c .before .before .before .loop-test .taken) _ refl (not-false _ (c .if1 .left)))
+loop-again c = search (needs, all-on, not-false)
 
 returns-2 : tie.Need-returns-2 Inv-loop μ-loop
-returns-2 c = all-end _ _ _ _ (c .before .loop .inv .1) (c .loop-test .left)
+returns-2 c = search (needs, all-end)
 
 pub heads-fit-spec : {M : Type 1} → statement M
 heads-fit-spec =

@@ -49,7 +49,11 @@ generation-fits-requires c κs = search needs
 returns : tie.Need-returns
 unfolding laneFits
 returns c =
-    rw (c .before .before .before .before .before .lane-in-range .ensures, c .before .before .before .before .lookup-in-range .ensures, c .before .before .before .lane-at-rest .ensures, c .before .before .lane-agrees .ensures, c .generation-fits .ensures)
+    let at-lane-agrees : tie.After-lane-agrees = search in
+    let at-lane-at-rest : tie.After-lane-at-rest = search in
+    let at-lookup-in-range : tie.After-lookup-in-range = search in
+    let at-lane-in-range : tie.After-lane-in-range = search in
+    rw (at-lane-in-range .lane-in-range .ensures, at-lookup-in-range .lookup-in-range .ensures, at-lane-at-rest .lane-at-rest .ensures, at-lane-agrees .lane-agrees .ensures, c .generation-fits .ensures)
 
 pub lane-fits-spec : {M : Type 1} → statement M
 lane-fits-spec =

@@ -27,10 +27,16 @@ unfolding allLanes
 loop-holds c = (omega arith, refl, refl)
 
 mul-cabinet-lanes : tie.Need-mul-cabinet-lanes Inv-loop μ-loop
-mul-cabinet-lanes c = omega (arith, stride-within (c .before .before .before .args .cabinets) (c .before .before .before .args .places) (c .before .loop .c) (omega arith), lanes-most (c .before .before .before .args .cabinets) (c .before .before .before .args .places) (omega arith) (omega arith))
+mul-cabinet-lanes c =
+    let at-loop : tie.At-loop Inv-loop μ-loop = search in
+    let entry : tie.Start Inv-loop μ-loop = search in
+    omega (arith, stride-within (entry .args .cabinets) (entry .args .places) (at-loop .loop .c) (omega arith), lanes-most (entry .args .cabinets) (entry .args .places) (omega arith) (omega arith))
 
 add-cabinet-lanes : tie.Need-add-cabinet-lanes Inv-loop μ-loop
-add-cabinet-lanes c = omega (arith, stride-within (c .before .before .before .args .cabinets) (c .before .before .before .args .places) (c .before .loop .c) (omega arith), lanes-most (c .before .before .before .args .cabinets) (c .before .before .before .args .places) (omega arith) (omega arith))
+add-cabinet-lanes c =
+    let at-loop : tie.At-loop Inv-loop μ-loop = search in
+    let entry : tie.Start Inv-loop μ-loop = search in
+    omega (arith, stride-within (entry .args .cabinets) (entry .args .places) (at-loop .loop .c) (omega arith), lanes-most (entry .args .cabinets) (entry .args .places) (omega arith) (omega arith))
 
 add-cabinet-lanes-2 : tie.Need-add-cabinet-lanes-2 Inv-loop μ-loop
 add-cabinet-lanes-2 c = search needs
@@ -42,10 +48,13 @@ shared-slice-read-cabinet-lanes : tie.Need-shared-slice-read-cabinet-lanes Inv-l
 shared-slice-read-cabinet-lanes c = search needs
 
 cabinet-lanes-requires : tie.Need-cabinet-lanes-requires Inv-loop μ-loop
-cabinet-lanes-requires c κs = omega (arith, stride-within (c .before .before .before .before .args .cabinets) (c .before .before .before .before .args .places) (c .before .before .loop .c) (omega arith), lanes-most (c .before .before .before .before .args .cabinets) (c .before .before .before .before .args .places) (omega arith) (omega arith))
+cabinet-lanes-requires c κs =
+    let at-loop : tie.At-loop Inv-loop μ-loop = search in
+    let entry : tie.Start Inv-loop μ-loop = search in
+    omega (arith, stride-within (entry .args .cabinets) (entry .args .places) (at-loop .loop .c) (omega arith), lanes-most (entry .args .cabinets) (entry .args .places) (omega arith) (omega arith))
 
 returns : tie.Need-returns Inv-loop μ-loop
-returns c = all-fails _ _ _ _ (c .before .before .before .before .loop .inv .2) (c .before .before .before .loop-test .taken) _ (c .before .cabinet-lanes .ensures) (not-true _ (c .if1 .taken))
+returns c = search (needs, all-fails, not-true)
 
 add-c : tie.Need-add-c Inv-loop μ-loop
 add-c c = search needs
@@ -57,10 +66,10 @@ loop-less : tie.Need-loop-less Inv-loop μ-loop
 loop-less c = search needs
 
 loop-again : tie.Need-loop-again Inv-loop μ-loop
-loop-again c = (omega arith, refl, all-on _ _ _ _ (c .before .before .before .before .loop .inv .2) (c .before .before .before .loop-test .taken) _ (c .before .cabinet-lanes .ensures) (not-false _ (c .if1 .left)))
+loop-again c = search (needs, all-on, not-false)
 
 returns-2 : tie.Need-returns-2 Inv-loop μ-loop
-returns-2 c = all-end _ _ _ _ (c .before .loop .inv .2) (c .loop-test .left)
+returns-2 c = search (needs, all-end)
 
 pub lanes-fit-spec : {M : Type 1} → statement M
 lanes-fit-spec =

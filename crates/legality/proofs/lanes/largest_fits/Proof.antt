@@ -14,12 +14,16 @@ wrapping-add-u32-requires c κs = search needs
 
 returns : tie.Need-returns
 returns c =
-    let q : c .before .wrapping-add-u32 .result ≡ up (c .before .before .before .args .current) = c .before .wrapping-add-u32 .ensures in
+    let at-wrapping-add-u32 : tie.After-wrapping-add-u32 = search in
+    let entry : tie.Start = search in
+    let q : at-wrapping-add-u32 .wrapping-add-u32 .result ≡ up (entry .args .current) = at-wrapping-add-u32 .wrapping-add-u32 .ensures in
     rw (c .if1 .taken, q)
 
 returns-2 : tie.Need-returns-2
 returns-2 c =
-    let p : c .before .before .wrapping-sub-u32 .result ≡ down (c .before .before .before .args .current) = omega (arith, c .before .before .wrapping-sub-u32 .ensures, c .before .before .before .fits .current) in
+    let at-wrapping-sub-u32 : tie.After-wrapping-sub-u32 = search in
+    let entry : tie.Start = search in
+    let p : at-wrapping-sub-u32 .wrapping-sub-u32 .result ≡ down (entry .args .current) = omega (arith, at-wrapping-sub-u32 .wrapping-sub-u32 .ensures, entry .fits .current) in
     rw (c .if1 .left, p)
 
 pub largest-fits-spec : {M : Type 1} → statement M

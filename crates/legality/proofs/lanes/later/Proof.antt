@@ -15,7 +15,8 @@ wrapping-sub-u32-requires c κs = search needs
 returns : tie.Need-returns
 unfolding later
 returns c =
-    let q : c .wrapping-sub-u32 .result ≡ (c .before .args .a + (4294967296 - c .before .args .b)) % 4294967296 = omega (arith, c .wrapping-sub-u32 .ensures) in
+    let entry : tie.Start = search in
+    let q : c .wrapping-sub-u32 .result ≡ (entry .args .a + (4294967296 - entry .args .b)) % 4294967296 = omega (arith, c .wrapping-sub-u32 .ensures) in
     ap (λ (d : ℕ). leb 1 d && leb d 2147483647) q
 
 pub later-spec : {M : Type 1} → statement M

@@ -65,7 +65,7 @@ shared-slice-read-result-6 : tie.Need-shared-slice-read-result-6
 shared-slice-read-result-6 c = search needs
 
 returns : tie.Need-returns
-returns c = chained-tests (c .before .before .before .before .before .before .before .before .before .args .m .now) (c .before .before .before .before .before .before .before .before .before .args .slots) (c .before .before .before .before .before .before .before .before .before .args .b) _ _ (c .before .before .before .before .before .before .before .before .before .args .mark) (c .before .before .before .before .before .before .before .code-at .ensures) (c .before .before .before .before .before .before .mark-of .ensures) ((c .before .before .before .before .before .before .before .before .before .pre .1))
+returns c = search (needs, chained-tests)
 
 pub chained-fits-spec : {M : Type 1} → statement M
 chained-fits-spec =

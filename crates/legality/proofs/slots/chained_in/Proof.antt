@@ -30,7 +30,7 @@ abbrev μ-loop : tie.MeasureT-loop
 μ-loop m base slots marks few cells₀ i₀ left₀ cells i left = left
 
 loop-holds : tie.Need-loop-holds Inv-loop μ-loop
-loop-holds c = (omega arith, refl, refl, sofar-start _ _ _ _ _ refl (c .before .before .pre .3))
+loop-holds c = search (needs, sofar-start)
 
 element-copy-out-if1 : tie.Need-element-copy-out-if1 Inv-loop μ-loop
 element-copy-out-if1 c = search needs
@@ -51,8 +51,7 @@ same-length : tie.Need-same-length Inv-loop μ-loop
 same-length c = search needs
 
 returns : tie.Need-returns Inv-loop μ-loop
-returns c =
-    unfit (all-fails _ _ _ _ (c .before .before .before .before .before .before .loop .inv .1) (c .before .before .before .before .before .loop-test .taken) _ (chained-on (c .before .before .before .before .before .before .before .before .before .args .m .now) (c .before .before .before .before .before .before .before .before .before .args .base) (c .before .before .before .before .before .before .before .before .before .args .slots) (c .before .before .before .before .before .before .before .before .before .args .marks .now) (c .before .before .before .before .before .before .loop .i) _ (c .before .before .before .if1 .taken) (c .before .chained-fits .ensures)) (not-true _ (c .if2 .taken)))
+returns c = search (needs, unfit, all-fails, chained-on, not-true)
 
 enter-requires : tie.Need-enter-requires Inv-loop μ-loop
 enter-requires c κs = search needs
@@ -62,8 +61,12 @@ same-length-2 c = search needs
 
 returns-2 : tie.Need-returns-2 Inv-loop μ-loop
 returns-2 c =
-    let b : (c .before .before .before .before .before .before .before .before .before .before .before .loop .i) < (c .before .before .before .before .before .before .before .before .before .before .before .before .before .before .args .slots) = omega arith in
-    twice (sofar-fails _ _ _ _ _ _ (c .before .before .before .before .before .before .before .before .before .before .before .loop .inv .3) _ _ _ b (le-leb _ _ (c .before .before .before .before .before .before .before .before .if1 .taken)) (c .before .before .before .enter .ensures) (not-true _ (c .if3 .taken)))
+    let at-enter : tie.After-enter Inv-loop μ-loop = search in
+    let at-if1 : tie.Then1 Inv-loop μ-loop = search in
+    let at-loop : tie.At-loop Inv-loop μ-loop = search in
+    let entry : tie.Start Inv-loop μ-loop = search in
+    let b : (at-loop .loop .i) < (entry .args .slots) = omega arith in
+    twice (sofar-fails _ _ _ _ _ _ (at-loop .loop .inv .3) _ _ _ b (le-leb _ _ (at-if1 .if1 .taken)) (at-enter .enter .ensures) (not-true _ (c .if3 .taken)))
 
 add-i : tie.Need-add-i Inv-loop μ-loop
 add-i c = search needs
@@ -76,9 +79,12 @@ loop-less c = search needs
 
 loop-again : tie.Need-loop-again Inv-loop μ-loop
 loop-again c =
-    let i = (c .before .before .before .loop .inv) in
-    let t = (c .before .before .loop-test .taken) in
-    let fit = ⊎-elim (λ w. all-on _ _ _ _ (i .1) t _ (chained-on (c .before .before .before .before .before .before .args .m .now) (c .before .before .before .before .before .before .args .base) (c .before .before .before .before .before .before .args .slots) (c .before .before .before .before .before .before .args .marks .now) (c .before .before .before .loop .i) _ (w .0 .taken) (w .2 .ensures)) (not-false _ (w .3 .left))) (λ w. all-on _ _ _ _ (i .1) t true (chained-off (c .before .before .before .before .before .before .args .m .now) (c .before .before .before .before .before .before .args .base) (c .before .before .before .before .before .before .args .slots) (c .before .before .before .before .before .before .args .marks .now) (c .before .before .before .loop .i) true (w .0 .left)) refl) (c .if1 .came) in
+    let at-loop-test : tie.In-loop Inv-loop μ-loop = search in
+    let at-loop : tie.At-loop Inv-loop μ-loop = search in
+    let entry : tie.Start Inv-loop μ-loop = search in
+    let i = (at-loop .loop .inv) in
+    let t = (at-loop-test .loop-test .taken) in
+    let fit = ⊎-elim (λ w. all-on _ _ _ _ (i .1) t _ (chained-on (entry .args .m .now) (entry .args .base) (entry .args .slots) (entry .args .marks .now) (at-loop .loop .i) _ (w .0 .taken) (w .2 .ensures)) (not-false _ (w .3 .left))) (λ w. all-on _ _ _ _ (i .1) t true (chained-off (entry .args .m .now) (entry .args .base) (entry .args .slots) (entry .args .marks .now) (at-loop .loop .i) true (w .0 .left)) refl) (c .if1 .came) in
     let on = ⊎-elim (λ w. sofar-on _ _ _ _ _ _ (i .3) _ _ _ (w .9) (le-leb _ _ (w .0 .taken)) (w .5 .ensures) (not-false _ (w .8 .left))) (λ w. sofar-left _ _ _ _ _ _ (i .3) _ (w .1) (lt-leb _ _ (w .0 .left))) (c .if1 .came) in
     (omega arith, fit, on .size, on)
 
@@ -86,7 +92,9 @@ same-length-3 : tie.Need-same-length-3 Inv-loop μ-loop
 same-length-3 c = search needs
 
 returns-3 : tie.Need-returns-3 Inv-loop μ-loop
-returns-3 c = right (all-end _ _ _ _ (c .before .loop .inv .1) (c .loop-test .left)) (sofar-end _ _ _ _ _ _ (c .before .loop .inv .3) _ (omega arith))
+returns-3 c =
+    let at-loop : tie.At-loop Inv-loop μ-loop = search in
+    right (all-end _ _ _ _ (at-loop .loop .inv .1) (c .loop-test .left)) (sofar-end _ _ _ _ _ _ (at-loop .loop .inv .3) _ (omega arith))
 
 pub chained-in-spec : {M : Type 1} → statement M
 chained-in-spec =

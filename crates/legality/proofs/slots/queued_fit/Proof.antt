@@ -39,7 +39,7 @@ queued-fits-requires : tie.Need-queued-fits-requires Inv-loop μ-loop
 queued-fits-requires c κs = search needs
 
 returns : tie.Need-returns Inv-loop μ-loop
-returns c = all-fails _ _ _ _ (c .before .before .before .before .before .before .loop .inv .1) (c .before .before .before .before .before .loop-test .taken) _ (queued-on (c .before .before .before .before .before .before .before .before .args .m .now) (c .before .before .before .before .before .before .before .before .args .base) (c .before .before .before .before .before .before .before .before .args .slots) (c .before .before .before .before .before .before .before .before .args .marks .now) (c .before .before .before .before .before .before .loop .i) _ (c .before .before .before .if1 .taken) (c .before .queued-fits .ensures)) (not-true _ (c .if2 .taken))
+returns c = search (needs, all-fails, queued-on, not-true)
 
 add-i : tie.Need-add-i Inv-loop μ-loop
 add-i c = search needs
@@ -52,13 +52,16 @@ loop-less c = search needs
 
 loop-again : tie.Need-loop-again Inv-loop μ-loop
 loop-again c =
-    let i = (c .before .before .before .loop .inv) in
-    let t = (c .before .before .loop-test .taken) in
-    let fit = ⊎-elim (λ w. all-on _ _ _ _ (i .1) t _ (queued-on (c .before .before .before .before .before .args .m .now) (c .before .before .before .before .before .args .base) (c .before .before .before .before .before .args .slots) (c .before .before .before .before .before .args .marks .now) (c .before .before .before .loop .i) _ (w .0 .taken) (w .2 .ensures)) (not-false _ (w .3 .left))) (λ w. all-on _ _ _ _ (i .1) t true (queued-off (c .before .before .before .before .before .args .m .now) (c .before .before .before .before .before .args .base) (c .before .before .before .before .before .args .slots) (c .before .before .before .before .before .args .marks .now) (c .before .before .before .loop .i) true (w .left)) refl) (c .if1 .came) in
+    let at-loop-test : tie.In-loop Inv-loop μ-loop = search in
+    let at-loop : tie.At-loop Inv-loop μ-loop = search in
+    let entry : tie.Start Inv-loop μ-loop = search in
+    let i = (at-loop .loop .inv) in
+    let t = (at-loop-test .loop-test .taken) in
+    let fit = ⊎-elim (λ w. all-on _ _ _ _ (i .1) t _ (queued-on (entry .args .m .now) (entry .args .base) (entry .args .slots) (entry .args .marks .now) (at-loop .loop .i) _ (w .0 .taken) (w .2 .ensures)) (not-false _ (w .3 .left))) (λ w. all-on _ _ _ _ (i .1) t true (queued-off (entry .args .m .now) (entry .args .base) (entry .args .slots) (entry .args .marks .now) (at-loop .loop .i) true (w .left)) refl) (c .if1 .came) in
     (omega arith, fit)
 
 returns-2 : tie.Need-returns-2 Inv-loop μ-loop
-returns-2 c = all-end _ _ _ _ (c .before .loop .inv .1) (c .loop-test .left)
+returns-2 c = search (needs, all-end)
 
 pub queued-fit-spec : {M : Type 1} → statement M
 queued-fit-spec =

@@ -12,7 +12,9 @@ queued-in-place-requires : tie.Need-queued-in-place-requires
 queued-in-place-requires c κs = search needs
 
 returns : tie.Need-returns
-returns c = ap₂ _&&_ (c .before .slot-in-range .ensures) (c .queued-in-place .ensures)
+returns c =
+    let at-slot-in-range : tie.After-slot-in-range = search in
+    ap₂ _&&_ (at-slot-in-range .slot-in-range .ensures) (c .queued-in-place .ensures)
 
 pub queued-fits-spec : {M : Type 1} → statement M
 queued-fits-spec = tie.close (tie.spec slot-in-range-requires queued-in-place-requires returns)

@@ -47,10 +47,10 @@ shared-slice-read-result-5 : tie.Need-shared-slice-read-result-5
 shared-slice-read-result-5 c = search needs
 
 returns : tie.Need-returns
-returns c = rw (lt-leb _ _ ((c .before .before .before .before .before .before .pre .1)), eq-eqb _ _ ((c .before .before .before .before .before .if1 .taken)))
+returns c = search (needs, lt-leb, eq-eqb)
 
 returns-2 : tie.Need-returns-2
-returns-2 c = rw (lt-leb _ _ ((c .before .pre .1)), ne-eqb _ _ ((c .if1 .left)))
+returns-2 c = search (needs, lt-leb, ne-eqb)
 
 pub queued-in-place-spec : {M : Type 1} → statement M
 queued-in-place-spec =

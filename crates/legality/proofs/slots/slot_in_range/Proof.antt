@@ -61,7 +61,9 @@ shared-slice-read-result-6 : tie.Need-shared-slice-read-result-6
 shared-slice-read-result-6 c = search needs
 
 returns : tie.Need-returns
-returns c = rw (c .before .before .before .before .before .before .code-at .ensures)
+returns c =
+    let at-code-at : tie.After-code-at = search in
+    rw (at-code-at .code-at .ensures)
 
 pub slot-in-range-spec : {M : Type 1} → statement M
 slot-in-range-spec =

@@ -20,7 +20,7 @@ same-length-2 : tie.Need-same-length-2
 same-length-2 c = search needs
 
 returns : tie.Need-returns
-returns c = answers-line _ _ _ (c .before .before .before .before .before .before .before .before .finish .ensures) (c .before .before .before .before .before .before .before .call-of .ensures) (c .before .before .before .before .put-asked .ensures)
+returns c = search (needs, answers-line)
 
 pub answer-line-spec : {M : Type 1} → statement M
 answer-line-spec =

@@ -9,7 +9,9 @@ feed-until-newline-requires : tie.Need-feed-until-newline-requires
 feed-until-newline-requires c κs = search needs
 
 answer-line-requires : tie.Need-answer-line-requires
-answer-line-requires c κs = (c .before .before .before .before .before .before .before .before .pre) .1
+answer-line-requires c κs =
+    let entry : tie.Start = search in
+    (entry .pre) .1
 
 nothing-requires : tie.Need-nothing-requires
 nothing-requires c κs = search needs
@@ -21,10 +23,18 @@ same-length-2 : tie.Need-same-length-2
 same-length-2 c = search needs
 
 returns : tie.Need-returns
-returns c = record { goes = goes-line _ _ _ _ _ _ _ (c .before .before .before .before .before .before .before .before .before .before .feed-until-newline .ensures) (c .before .before .before .before .before .before .before .before .if1 .taken) (c .before .before .before .before .before .answer-line .ensures) (c .nothing .ensures) ((c .before .before .before .before .before .before .before .before .before .before .before .before .before .before .pre) .0) ((c .before .before .before .before .before .before .before .before .before .before .before .before .before .before .pre) .1) ((c .before .before .before .before .before .answer-line .kept) .1 .1 .0); further = (c .before .before .before .before .before .before .before .before .before .before .feed-until-newline .ensures .further) ((c .before .before .before .before .before .before .before .before .before .before .before .before .before .before .pre) .0) }
+returns c =
+    let at-answer-line : tie.After-answer-line = search in
+    let at-if1 : tie.Then1 = search in
+    let at-feed-until-newline : tie.After-feed-until-newline = search in
+    let entry : tie.Start = search in
+    record { goes = goes-line _ _ _ _ _ _ _ (at-feed-until-newline .feed-until-newline .ensures) (at-if1 .if1 .taken) (at-answer-line .answer-line .ensures) (c .nothing .ensures) ((entry .pre) .0) ((entry .pre) .1) ((at-answer-line .answer-line .kept) .1 .1 .0); further = (at-feed-until-newline .feed-until-newline .ensures .further) ((entry .pre) .0) }
 
 returns-2 : tie.Need-returns-2
-returns-2 c = record { goes = goes-part _ _ _ _ _ (c .before .before .feed-until-newline .ensures) (c .if1 .left) ((c .before .before .before .before .before .before .pre) .0) (omega (arith, (c .before .before .before .before .before .before .pre) .1)); further = (c .before .before .feed-until-newline .ensures .further) ((c .before .before .before .before .before .before .pre) .0) }
+returns-2 c =
+    let at-feed-until-newline : tie.After-feed-until-newline = search in
+    let entry : tie.Start = search in
+    record { goes = goes-part _ _ _ _ _ (at-feed-until-newline .feed-until-newline .ensures) (c .if1 .left) ((entry .pre) .0) (omega (arith, (entry .pre) .1)); further = (at-feed-until-newline .feed-until-newline .ensures .further) ((entry .pre) .0) }
 
 pub answer-part-spec : {M : Type 1} → statement M
 answer-part-spec =

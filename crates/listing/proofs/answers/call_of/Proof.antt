@@ -58,55 +58,55 @@ returns c = asks-as _ _ _ ((c .enum-told .given) .1) refl
 
 returns-2 : tie.Need-returns-2
 unfolding callAsked requestParsed
-returns-2 c = asks-as _ _ _ ((c .before .request .given) .1) refl
+returns-2 c = search (needs, asks-as)
 
 returns-3 : tie.Need-returns-3
 unfolding callAsked requestParsed
-returns-3 c = asks-as _ _ _ ((c .before .request2 .given) .1) refl
+returns-3 c = search (needs, asks-as)
 
 returns-4 : tie.Need-returns-4
 unfolding callAsked requestParsed
-returns-4 c = asks-as _ _ _ ((c .before .request3 .given) .1) refl
+returns-4 c = search (needs, asks-as)
 
 returns-5 : tie.Need-returns-5
 unfolding callAsked requestParsed
-returns-5 c = asks-as _ _ _ ((c .before .request4 .given) .1) refl
+returns-5 c = search (needs, asks-as)
 
 returns-6 : tie.Need-returns-6
 unfolding callAsked requestParsed
-returns-6 c = asks-as _ _ _ ((c .before .request5 .given) .1) refl
+returns-6 c = search (needs, asks-as)
 
 returns-7 : tie.Need-returns-7
 unfolding callAsked requestParsed
-returns-7 c = asks-as _ _ _ ((c .before .request6 .given) .1) refl
+returns-7 c = search (needs, asks-as)
 
 returns-8 : tie.Need-returns-8
 unfolding callAsked requestParsed
-returns-8 c = asks-as _ _ _ ((c .before .request7 .given) .1) refl
+returns-8 c = search (needs, asks-as)
 
 returns-9 : tie.Need-returns-9
 unfolding callAsked requestParsed
-returns-9 c = asks-as _ _ _ ((c .before .request8 .given) .1) refl
+returns-9 c = search (needs, asks-as)
 
 returns-10 : tie.Need-returns-10
 unfolding callAsked requestParsed
-returns-10 c = asks-as _ _ _ ((c .before .request9 .given) .1) refl
+returns-10 c = search (needs, asks-as)
 
 returns-11 : tie.Need-returns-11
 unfolding callAsked requestParsed
-returns-11 c = asks-as _ _ _ ((c .before .request10 .given) .1) refl
+returns-11 c = search (needs, asks-as)
 
 returns-12 : tie.Need-returns-12
 unfolding callAsked requestParsed
-returns-12 c = asks-as _ _ _ ((c .before .request11 .given) .1) refl
+returns-12 c = search (needs, asks-as)
 
 returns-13 : tie.Need-returns-13
 unfolding callAsked requestParsed
-returns-13 c = asks-as _ _ _ ((c .before .request12 .given) .1) refl
+returns-13 c = search (needs, asks-as)
 
 returns-14 : tie.Need-returns-14
 unfolding callAsked requestParsed
-returns-14 c = asks-as _ _ _ ((c .before .request13 .given) .1) refl
+returns-14 c = search (needs, asks-as)
 
 returns-15 : tie.Need-returns-15
 unfolding callAsked requestParsed

@@ -23,7 +23,10 @@ same-length c = search needs
 
 returns : tie.Need-returns
 unfolding callAsked
-returns c = prints-as (sym (ap callAsked ((c .before .before .before .before .enum-told .given) .1))) (prints-bad (c .before .before .put-bad .ensures))
+returns c =
+    let at-put-bad : tie.After-put-bad = search in
+    let at-enum-told : tie.After-enum-told = search in
+    prints-as (sym (ap callAsked ((at-enum-told .enum-told .given) .1))) (prints-bad (at-put-bad .put-bad .ensures))
 
 same-length-2 : tie.Need-same-length-2
 same-length-2 c = search needs
@@ -33,7 +36,10 @@ same-length-3 c = search needs
 
 returns-2 : tie.Need-returns-2
 unfolding callAsked
-returns-2 c = prints-as (sym (ap callAsked ((c .before .before .before .before .before .before .before .before .asked .given) .1))) (c .before .before .before .before .put-call .ensures)
+returns-2 c =
+    let at-put-call : tie.After-put-call = search in
+    let at-asked : tie.After-asked = search in
+    prints-as (sym (ap callAsked ((at-asked .asked .given) .1))) (at-put-call .put-call .ensures)
 
 pub put-asked-spec : {M : Type 1} → statement M
 put-asked-spec =

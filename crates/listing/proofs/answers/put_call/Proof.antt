@@ -17,7 +17,7 @@ same-length-2 : tie.Need-same-length-2
 same-length-2 c = search needs
 
 returns : tie.Need-returns
-returns c = prints-call _ _ (c .before .before .before .before .before .before .make-call .ensures) (c .before .before .put-answer .ensures)
+returns c = search (needs, prints-call)
 
 pub put-call-spec : {M : Type 1} → statement M
 put-call-spec =

@@ -1,6 +1,7 @@
 -- The proof of the cycle of calls {put_number}. The measure is the number. A number below ten is one digit; the digits of any other are those of its
 -- tenth, which the call writes, and its last digit.
 -- Assumes nothing.
+use borrow.Author.Needs.{needs}
 use mathlib.Core.Path.{sym, ap}
 use native.Mathlib.Omega.{arith}
 use lib.ListN.{length, length-set}
@@ -47,24 +48,23 @@ put-number-slice-write-out : (t : ℕ) → put-number-lts.Need-slice-write-out (
   put-number.Post,
 ) (put-number-at t) put-number.Post
 put-number-slice-write-out t c =
-    let entry = c .before .before in
+    let entry : put-number-lts.Start (put-number-below t, put-number.Post) (put-number-at t) put-number.Post = search in
     omega (arith, entry .pre .1, ap length (decimal-digit (entry .args .n) (c .if1 .taken)))
 
 put-number-add-result : (t : ℕ) → put-number-lts.Need-add-result (
   put-number-below t,
   put-number.Post,
 ) (put-number-at t) put-number.Post
-put-number-add-result t c =
-    let entry = c .before .before in
-    omega (arith, entry .pre .1, ap length (decimal-digit (entry .args .n) (c .if1 .taken)))
+put-number-add-result t c = search (needs, length, decimal-digit)
 
 put-number-put-number-requires : (t : ℕ) → put-number-lts.Need-put-number-requires (
   put-number-below t,
   put-number.Post,
 ) (put-number-at t) put-number.Post
 put-number-put-number-requires t c κs =
-    let entry = c .before .before .before in
-    (omega (arith, entry .pre .0), omega (arith, entry .pre .1, decimal-more-length (c .before .if1 .left)))
+    let at-if1 : put-number-lts.Else1 (put-number-below t, put-number.Post) (put-number-at t) put-number.Post = search in
+    let entry : put-number-lts.Start (put-number-below t, put-number.Post) (put-number-at t) put-number.Post = search in
+    (omega (arith, entry .pre .0), omega (arith, entry .pre .1, decimal-more-length (at-if1 .if1 .left)))
 
 put-number-cast-out-2 : (t : ℕ) → put-number-lts.Need-cast-out-2 (
   put-number-below t,
@@ -83,9 +83,9 @@ put-number-slice-write-out-2 : (t : ℕ) → put-number-lts.Need-slice-write-out
   put-number.Post,
 ) (put-number-at t) put-number.Post
 put-number-slice-write-out-2 t c =
-    let called = c .before .before in
-    let branch = called .before .before in
-    let entry = branch .before .before in
+    let called : put-number-lts.After-put-number (put-number-below t, put-number.Post) (put-number-at t) put-number.Post = search in
+    let branch : put-number-lts.Else1 (put-number-below t, put-number.Post) (put-number-at t) put-number.Post = search in
+    let entry : put-number-lts.Start (put-number-below t, put-number.Post) (put-number-at t) put-number.Post = search in
     omega (arith, entry .pre .1, decimal-more-length (branch .if1 .left), called .put-number .ensures .end, called .put-number .kept .0)
 
 put-number-add-result-2 : (t : ℕ) → put-number-lts.Need-add-result-2 (
@@ -93,9 +93,9 @@ put-number-add-result-2 : (t : ℕ) → put-number-lts.Need-add-result-2 (
   put-number.Post,
 ) (put-number-at t) put-number.Post
 put-number-add-result-2 t c =
-    let called = c .before .before in
-    let branch = called .before .before in
-    let entry = branch .before .before in
+    let called : put-number-lts.After-put-number (put-number-below t, put-number.Post) (put-number-at t) put-number.Post = search in
+    let branch : put-number-lts.Else1 (put-number-below t, put-number.Post) (put-number-at t) put-number.Post = search in
+    let entry : put-number-lts.Start (put-number-below t, put-number.Post) (put-number-at t) put-number.Post = search in
     omega (arith, entry .pre .1, entry .good, decimal-more-length (branch .if1 .left), called .put-number .ensures .end)
 
 put-number-same-length : (t : ℕ) → put-number-lts.Need-same-length (
@@ -116,16 +116,16 @@ put-number-same-length-2 : (t : ℕ) → put-number-lts.Need-same-length-2 (
   put-number-below t,
   put-number.Post,
 ) (put-number-at t) put-number.Post
-put-number-same-length-2 t c = simp length-set (c .before .before .put-number .kept .0)
+put-number-same-length-2 t c = search (needs, length-set)
 
 put-number-returns-2 : (t : ℕ) → put-number-lts.Need-returns-2 (
   put-number-below t,
   put-number.Post,
 ) (put-number-at t) put-number.Post
 put-number-returns-2 t c =
-    let called = c .before .before in
-    let branch = called .before .before in
-    let entry = branch .before .before in
+    let called : put-number-lts.After-put-number (put-number-below t, put-number.Post) (put-number-at t) put-number.Post = search in
+    let branch : put-number-lts.Else1 (put-number-below t, put-number.Post) (put-number-at t) put-number.Post = search in
+    let entry : put-number-lts.Start (put-number-below t, put-number.Post) (put-number-at t) put-number.Post = search in
     puts-as (sym (decimal-more _ (branch .if1 .left)))
     (puts-then (omega (arith, entry .pre .1, decimal-more-length (branch .if1 .left))) (called .put-number .ensures)
     (puts-byte _ _ _ (put-number-slice-write-out-2 t c)))

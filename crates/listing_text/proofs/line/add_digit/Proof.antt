@@ -1,7 +1,6 @@
 -- `line::add_digit` meets its contract: its tests are those of `counted`, in their order.
 -- Assumes nothing.
 use borrow.Author.Needs.{needs}
-use mathlib.Core.Path.{sym, _∙_}
 use Rattle.listing_text.proofs.MachineLaws.{counted-below, counted-above, counted-digit, counted-full}
 use Rattle.listing_text.proofs.line.add_digit.Statement.{statement}
 use Rattle.listing_text.proofs.line.add_digit.Tie as tie
@@ -10,13 +9,13 @@ refuse-requires : tie.Need-refuse-requires
 refuse-requires c κs = search needs
 
 returns : tie.Need-returns
-returns c = c .refuse .ensures ∙ sym (counted-below _ _ (c .before .if1 .taken))
+returns c = search (needs, counted-below)
 
 refuse-requires-2 : tie.Need-refuse-requires-2
 refuse-requires-2 c κs = search needs
 
 returns-2 : tie.Need-returns-2
-returns-2 c = c .refuse2 .ensures ∙ sym (counted-above _ _ (c .before .before .if1 .left) (c .before .if2 .taken))
+returns-2 c = search (needs, counted-above)
 
 sub-digit : tie.Need-sub-digit
 sub-digit c = search needs
@@ -34,10 +33,10 @@ refuse-requires-3 : tie.Need-refuse-requires-3
 refuse-requires-3 c κs = search needs
 
 returns-3 : tie.Need-returns-3
-returns-3 c = sym (counted-digit _ _ (c .before .before .before .before .if1 .left) (c .before .before .before .if2 .left) (c .before .if3 .taken))
+returns-3 c = search (needs, counted-digit)
 
 returns-4 : tie.Need-returns-4
-returns-4 c = c .refuse3 .ensures ∙ sym (counted-full _ _ (c .before .before .before .before .if1 .left) (c .before .before .before .if2 .left) (c .before .if3 .left))
+returns-4 c = search (needs, counted-full)
 
 pub add-digit-spec : {M : Type 1} → statement M
 add-digit-spec = tie.close (tie.spec refuse-requires returns refuse-requires-2 returns-2 sub-digit sub-if3 mul-next add-next refuse-requires-3 returns-3 returns-4)

@@ -1,7 +1,6 @@
 -- `line::add_letter` meets its contract: its tests are those of `lettered`, in their order.
 -- Assumes nothing.
 use borrow.Author.Needs.{needs}
-use mathlib.Core.Path.{sym, _∙_}
 use Rattle.listing_text.proofs.MachineLaws.{lettered-below, lettered-above, lettered-letter, lettered-full}
 use Rattle.listing_text.proofs.line.add_letter.Statement.{statement}
 use Rattle.listing_text.proofs.line.add_letter.Tie as tie
@@ -10,13 +9,13 @@ refuse-requires : tie.Need-refuse-requires
 refuse-requires c κs = search needs
 
 returns : tie.Need-returns
-returns c = c .refuse .ensures ∙ sym (lettered-below _ _ (c .before .if1 .taken))
+returns c = search (needs, lettered-below)
 
 refuse-requires-2 : tie.Need-refuse-requires-2
 refuse-requires-2 c κs = search needs
 
 returns-2 : tie.Need-returns-2
-returns-2 c = c .refuse2 .ensures ∙ sym (lettered-above _ _ (c .before .before .if1 .left) (c .before .if2 .taken))
+returns-2 c = search (needs, lettered-above)
 
 mul-next : tie.Need-mul-next
 mul-next c = search needs
@@ -28,10 +27,10 @@ refuse-requires-3 : tie.Need-refuse-requires-3
 refuse-requires-3 c κs = search needs
 
 returns-3 : tie.Need-returns-3
-returns-3 c = sym (lettered-letter _ _ (c .before .before .before .before .if1 .left) (c .before .before .before .if2 .left) (c .before .if3 .taken))
+returns-3 c = search (needs, lettered-letter)
 
 returns-4 : tie.Need-returns-4
-returns-4 c = c .refuse3 .ensures ∙ sym (lettered-full _ _ (c .before .before .before .before .if1 .left) (c .before .before .before .if2 .left) (c .before .if3 .left))
+returns-4 c = search (needs, lettered-full)
 
 pub add-letter-spec : {M : Type 1} → statement M
 add-letter-spec = tie.close (tie.spec refuse-requires returns refuse-requires-2 returns-2 mul-next add-next refuse-requires-3 returns-3 returns-4)

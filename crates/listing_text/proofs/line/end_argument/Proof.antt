@@ -1,7 +1,6 @@
 -- `line::end_argument` meets its contract: its tests are those of `argued`, and the store is the one that `withArgument` states.
 -- Assumes nothing.
 use borrow.Author.Needs.{needs}
-use mathlib.Core.Path.{sym, _∙_}
 use Rattle.listing_text.proofs.MachineLaws.{argued-empty, argued-more, argued-full}
 use Rattle.listing_text.proofs.line.end_argument.Statement.{statement}
 use Rattle.listing_text.proofs.line.end_argument.Tie as tie
@@ -22,13 +21,13 @@ refuse-requires-2 : tie.Need-refuse-requires-2
 refuse-requires-2 c κs = search needs
 
 returns : tie.Need-returns
-returns c = sym (argued-more _ (c .before .if1 .taken) (c .if2 .taken))
+returns c = search (needs, argued-more)
 
 returns-2 : tie.Need-returns-2
-returns-2 c = c .refuse .ensures ∙ sym (argued-full _ (c .before .before .if1 .taken) (c .before .if2 .left))
+returns-2 c = search (needs, argued-full)
 
 returns-3 : tie.Need-returns-3
-returns-3 c = c .refuse2 .ensures ∙ sym (argued-empty _ (c .before .if1 .left))
+returns-3 c = search (needs, argued-empty)
 
 pub end-argument-spec : {M : Type 1} → statement M
 end-argument-spec = tie.close (tie.spec mul-next element-write-next add-next refuse-requires refuse-requires-2 returns returns-2 returns-3)

@@ -1,7 +1,7 @@
 -- `line::end_word` meets its contract: its tests are those of `ended`.
 -- Assumes nothing.
 use borrow.Author.Needs.{needs}
-use mathlib.Core.Path.{sym, _∙_}
+use mathlib.Core.Path.{sym}
 use Rattle.listing_text.proofs.MachineLaws.{ended-bad, ended-named, ended-unnamed}
 use Rattle.listing_text.proofs.line.end_word.Statement.{statement}
 use Rattle.listing_text.proofs.line.end_word.Tie as tie
@@ -13,10 +13,10 @@ end-argument-requires : tie.Need-end-argument-requires
 end-argument-requires c κs = search needs
 
 returns-2 : tie.Need-returns-2
-returns-2 c = c .end-argument .ensures ∙ sym (ended-named _ (c .before .before .if1 .left) (c .before .if2 .taken))
+returns-2 c = search (needs, ended-named)
 
 returns-3 : tie.Need-returns-3
-returns-3 c = sym (ended-unnamed _ (c .before .if1 .left) (c .if2 .left))
+returns-3 c = search (needs, ended-unnamed)
 
 pub end-word-spec : {M : Type 1} → statement M
 end-word-spec = tie.close (tie.spec returns end-argument-requires returns-2 returns-3)

@@ -1,7 +1,6 @@
 -- `line::feed` meets its contract: its test is that of `fed`.
 -- Assumes nothing.
 use borrow.Author.Needs.{needs}
-use mathlib.Core.Path.{sym, _∙_}
 use Rattle.listing_text.proofs.MachineLaws.{fed-space, fed-other, feeds}
 use Rattle.listing_text.proofs.line.feed.Statement.{statement}
 use Rattle.listing_text.proofs.line.feed.Tie as tie
@@ -13,10 +12,10 @@ grow-word-requires : tie.Need-grow-word-requires
 grow-word-requires c κs = search needs
 
 returns : tie.Need-returns
-returns c = feeds (c .end-word .ensures ∙ sym (fed-space _ _ (c .before .if1 .taken)))
+returns c = search (needs, feeds, fed-space)
 
 returns-2 : tie.Need-returns-2
-returns-2 c = feeds (c .grow-word .ensures ∙ sym (fed-other _ _ (c .before .if1 .left)))
+returns-2 c = search (needs, feeds, fed-other)
 
 pub feed-spec : {M : Type 1} → statement M
 feed-spec = tie.close (tie.spec end-word-requires grow-word-requires returns returns-2)

@@ -25,9 +25,7 @@ add-i : tie.Need-add-i Inv-loop μ-loop
 add-i c = search needs
 
 returns : tie.Need-returns Inv-loop μ-loop
-returns c =
-    let head = c .before .before .before in
-    part-newline _ _ _ _ _ (head .loop .inv) (c .before .before .loop-test .taken) (c .if1 .taken)
+returns c = search (needs, part-newline)
 
 feed-requires : tie.Need-feed-requires Inv-loop μ-loop
 feed-requires c κs = search needs
@@ -36,12 +34,10 @@ loop-less : tie.Need-loop-less Inv-loop μ-loop
 loop-less c = omega arith
 
 loop-again : tie.Need-loop-again Inv-loop μ-loop
-loop-again c =
-    let turn = c .before .before .before in
-    part-more _ _ _ _ _ (turn .before .loop .inv) _ (turn .loop-test .taken) (c .before .if1 .left) (c .feed .ensures .machine)
+loop-again c = search (needs, part-more)
 
 returns-2 : tie.Need-returns-2 Inv-loop μ-loop
-returns-2 c = part-end _ _ _ _ _ (c .before .loop .inv) (c .loop-test .left)
+returns-2 c = search (needs, part-end)
 
 pub feed-until-newline-spec : {M : Type 1} → statement M
 feed-until-newline-spec =

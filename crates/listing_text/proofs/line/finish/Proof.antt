@@ -13,7 +13,9 @@ end-word-requires c κs = search needs
 
 returns : tie.Need-returns
 unfolding requestParsed
-returns c = finishes (sym (finished-bad _ _ (c .before .end-word .ensures) (c .if1 .taken)))
+returns c =
+    let at-end-word : tie.After-end-word = search in
+    finishes (sym (finished-bad _ _ (at-end-word .end-word .ensures) (c .if1 .taken)))
 
 command-of-requires : tie.Need-command-of-requires
 command-of-requires c κs = search needs
@@ -23,11 +25,13 @@ request-of-requires c κs = search needs
 
 returns-2 : tie.Need-returns-2
 returns-2 c =
-    let called = c .before .before .before .before in
+    let at-command-of : tie.After-command-of = search in
+    let at-if1 : tie.Else1 = search in
+    let called : tie.After-end-word = search in
     finishes
     (c .request-of .ensures
-    ∙ ap (λ k. askedOf k (called .end-word .result .given) (called .end-word .result .values)) (c .before .command-of .ensures)
-    ∙ sym (finished-whole _ _ (called .end-word .ensures) (c .before .before .before .if1 .left)))
+    ∙ ap (λ k. askedOf k (called .end-word .result .given) (called .end-word .result .values)) (at-command-of .command-of .ensures)
+    ∙ sym (finished-whole _ _ (called .end-word .ensures) (at-if1 .if1 .left)))
 
 pub finish-spec : {M : Type 1} → statement M
 finish-spec = tie.close (tie.spec end-word-requires returns command-of-requires request-of-requires returns-2)

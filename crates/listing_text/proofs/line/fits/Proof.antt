@@ -21,10 +21,7 @@ shape-of-requires : tie.Need-shape-of-requires Inv-loop μ-loop
 shape-of-requires c κs = search needs
 
 returns : tie.Need-returns Inv-loop μ-loop
-returns c =
-    let called = c .before .before in
-    let len : length (called .before .args .t3) ≡ 4 = search needs in
-    within-other _ _ (called .shape-of .ensures) _ _ len (c .if1 .taken)
+returns c = search (needs, within-other)
 
 loop-holds : tie.Need-loop-holds Inv-loop μ-loop
 loop-holds c = (omega arith, λ k h. absurd (omega arith))
@@ -33,14 +30,10 @@ largest-requires : tie.Need-largest-requires Inv-loop μ-loop
 largest-requires c κs = search needs
 
 mul-if2 : tie.Need-mul-if2 Inv-loop μ-loop
-mul-if2 c =
-    let called = c .before .before .before .before .before in
-    omega (arith, called .shape-of .ensures .few)
+mul-if2 c = search needs
 
 array-read-if2 : tie.Need-array-read-if2 Inv-loop μ-loop
-array-read-if2 c =
-    let called = c .before .before .before .before .before in
-    omega (arith, called .shape-of .ensures .few)
+array-read-if2 c = search needs
 
 returns-2 : tie.Need-returns-2 Inv-loop μ-loop
 returns-2 c =
@@ -52,27 +45,29 @@ returns-2 c =
     within-above _ _ (called .shape-of .ensures) _ _ len (head .before .if1 .left) (head .loop .i) (c .before .before .loop-test .taken) above
 
 add-i : tie.Need-add-i Inv-loop μ-loop
-add-i c =
-    let called = c .before .before .before .before .before .before in
-    omega (arith, called .shape-of .ensures .few)
+add-i c = search needs
 
 loop-less : tie.Need-loop-less Inv-loop μ-loop
 loop-less c = omega arith
 
 loop-again : tie.Need-loop-again Inv-loop μ-loop
 loop-again c =
-    let head = c .before .before .before in
-    let called = head .before .before .before in
+    let at-largest : tie.After-largest Inv-loop μ-loop = search in
+    let entry : tie.Start Inv-loop μ-loop = search in
+    let head : tie.At-loop Inv-loop μ-loop = search in
+    let called : tie.After-shape-of Inv-loop μ-loop = search in
     let few : head .loop .i < 4 = omega (arith, called .shape-of .ensures .few) in
-    let below : getD (called .before .args .t3) (head .loop .i) 0 < getD (limitsOf 4 (called .shape-of .result .1)) (head .loop .i) 0 = omega (arith, c .before .largest .ensures few) in
+    let below : getD (entry .args .t3) (head .loop .i) 0 < getD (limitsOf 4 (called .shape-of .result .1)) (head .loop .i) 0 = omega (arith, at-largest .largest .ensures few) in
     (omega arith, below-more _ _ (head .loop .inv .1) below)
 
 returns-3 : tie.Need-returns-3 Inv-loop μ-loop
 returns-3 c =
-    let head = c .before in
-    let called = head .before .before .before in
-    let len : length (called .before .args .t3) ≡ 4 = search needs in
-    within-below _ _ (called .shape-of .ensures) _ _ len (head .before .if1 .left) (λ k h. head .loop .inv .1 k (omega arith))
+    let at-if1 : tie.Else1 Inv-loop μ-loop = search in
+    let entry : tie.Start Inv-loop μ-loop = search in
+    let head : tie.At-loop Inv-loop μ-loop = search in
+    let called : tie.After-shape-of Inv-loop μ-loop = search in
+    let len : length (entry .args .t3) ≡ 4 = search needs in
+    within-below _ _ (called .shape-of .ensures) _ _ len (at-if1 .if1 .left) (λ k h. head .loop .inv .1 k (omega arith))
 
 pub fits-spec : {M : Type 1} → statement M
 fits-spec =

@@ -1,7 +1,7 @@
 -- `line::grow_word` meets its contract: its tests are those of `grown`.
 -- Assumes nothing.
 use borrow.Author.Needs.{needs}
-use mathlib.Core.Path.{sym, _∙_}
+use mathlib.Core.Path.{sym}
 use Rattle.listing_text.proofs.MachineLaws.{grown-bad, grown-named, grown-unnamed}
 use Rattle.listing_text.proofs.line.grow_word.Statement.{statement}
 use Rattle.listing_text.proofs.line.grow_word.Tie as tie
@@ -16,10 +16,10 @@ add-letter-requires : tie.Need-add-letter-requires
 add-letter-requires c κs = search needs
 
 returns-2 : tie.Need-returns-2
-returns-2 c = c .add-digit .ensures ∙ sym (grown-named _ _ (c .before .before .if1 .left) (c .before .if2 .taken))
+returns-2 c = search (needs, grown-named)
 
 returns-3 : tie.Need-returns-3
-returns-3 c = c .add-letter .ensures ∙ sym (grown-unnamed _ _ (c .before .before .if1 .left) (c .before .if2 .left))
+returns-3 c = search (needs, grown-unnamed)
 
 pub grow-word-spec : {M : Type 1} → statement M
 grow-word-spec = tie.close (tie.spec returns add-digit-requires add-letter-requires returns-2 returns-3)

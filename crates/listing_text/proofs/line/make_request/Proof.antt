@@ -78,55 +78,88 @@ enum-told-15 c = search needs
 
 returns : tie.Need-returns
 unfolding limits coded made callOf requestParsed
-returns c = rw (c .enum-told .given .1, c .before .before .low4 .ensures, c .before .before .before .low3 .ensures, c .before .before .before .before .low2 .ensures)
+returns c =
+    let at-low4 : tie.After-low4 = search in
+    let at-low3 : tie.After-low3 = search in
+    let at-low2 : tie.After-low2 = search in
+    rw (c .enum-told .given .1, at-low4 .low4 .ensures, at-low3 .low3 .ensures, at-low2 .low2 .ensures)
 
 returns-2 : tie.Need-returns-2
 unfolding limits coded made callOf requestParsed
-returns-2 c = rw (c .enum-told2 .given .1, c .before .before .low4 .ensures, c .before .before .before .before .low2 .ensures, c .before .before .before .before .before .low .ensures)
+returns-2 c =
+    let at-low4 : tie.After-low4 = search in
+    let at-low2 : tie.After-low2 = search in
+    let at-low : tie.After-low = search in
+    rw (c .enum-told2 .given .1, at-low4 .low4 .ensures, at-low2 .low2 .ensures, at-low .low .ensures)
 
 returns-3 : tie.Need-returns-3
 unfolding limits coded made callOf requestParsed
-returns-3 c = rw (c .enum-told3 .given .1, c .before .before .low4 .ensures, c .before .before .before .before .low2 .ensures, c .before .before .before .before .before .low .ensures)
+returns-3 c =
+    let at-low4 : tie.After-low4 = search in
+    let at-low2 : tie.After-low2 = search in
+    let at-low : tie.After-low = search in
+    rw (c .enum-told3 .given .1, at-low4 .low4 .ensures, at-low2 .low2 .ensures, at-low .low .ensures)
 
 returns-4 : tie.Need-returns-4
 unfolding limits coded made callOf requestParsed
-returns-4 c = rw (c .enum-told4 .given .1, c .before .before .low4 .ensures)
+returns-4 c =
+    let at-low4 : tie.After-low4 = search in
+    rw (c .enum-told4 .given .1, at-low4 .low4 .ensures)
 
 returns-5 : tie.Need-returns-5
 unfolding limits coded made callOf requestParsed
-returns-5 c = rw (c .enum-told5 .given .1, c .before .before .low4 .ensures)
+returns-5 c =
+    let at-low4 : tie.After-low4 = search in
+    rw (c .enum-told5 .given .1, at-low4 .low4 .ensures)
 
 returns-6 : tie.Need-returns-6
 unfolding limits coded made callOf requestParsed
-returns-6 c = rw (c .enum-told6 .given .1, c .before .before .low4 .ensures)
+returns-6 c =
+    let at-low4 : tie.After-low4 = search in
+    rw (c .enum-told6 .given .1, at-low4 .low4 .ensures)
 
 returns-7 : tie.Need-returns-7
 unfolding limits coded made callOf requestParsed
-returns-7 c = rw (c .enum-told7 .given .1, c .before .before .low4 .ensures)
+returns-7 c =
+    let at-low4 : tie.After-low4 = search in
+    rw (c .enum-told7 .given .1, at-low4 .low4 .ensures)
 
 returns-8 : tie.Need-returns-8
 unfolding limits coded made callOf requestParsed
-returns-8 c = rw (c .enum-told8 .given .1, c .before .before .low4 .ensures)
+returns-8 c =
+    let at-low4 : tie.After-low4 = search in
+    rw (c .enum-told8 .given .1, at-low4 .low4 .ensures)
 
 returns-9 : tie.Need-returns-9
 unfolding limits coded made callOf requestParsed
-returns-9 c = rw (c .enum-told9 .given .1, c .before .before .low4 .ensures, c .before .before .before .low3 .ensures)
+returns-9 c =
+    let at-low4 : tie.After-low4 = search in
+    let at-low3 : tie.After-low3 = search in
+    rw (c .enum-told9 .given .1, at-low4 .low4 .ensures, at-low3 .low3 .ensures)
 
 returns-10 : tie.Need-returns-10
 unfolding limits coded made callOf requestParsed
-returns-10 c = rw (c .enum-told10 .given .1, c .before .before .low4 .ensures)
+returns-10 c =
+    let at-low4 : tie.After-low4 = search in
+    rw (c .enum-told10 .given .1, at-low4 .low4 .ensures)
 
 returns-11 : tie.Need-returns-11
 unfolding limits coded made callOf requestParsed
-returns-11 c = rw (c .enum-told11 .given .1, c .before .before .low4 .ensures)
+returns-11 c =
+    let at-low4 : tie.After-low4 = search in
+    rw (c .enum-told11 .given .1, at-low4 .low4 .ensures)
 
 returns-12 : tie.Need-returns-12
 unfolding limits coded made callOf requestParsed
-returns-12 c = rw (c .enum-told12 .given .1, c .before .before .low4 .ensures)
+returns-12 c =
+    let at-low4 : tie.After-low4 = search in
+    rw (c .enum-told12 .given .1, at-low4 .low4 .ensures)
 
 returns-13 : tie.Need-returns-13
 unfolding limits coded made callOf requestParsed
-returns-13 c = rw (c .enum-told13 .given .1, c .before .before .low4 .ensures)
+returns-13 c =
+    let at-low4 : tie.After-low4 = search in
+    rw (c .enum-told13 .given .1, at-low4 .low4 .ensures)
 
 returns-14 : tie.Need-returns-14
 unfolding limits coded made callOf requestParsed

@@ -14,11 +14,16 @@ make-request-requires : tie.Need-make-request-requires
 make-request-requires c κs = search needs
 
 returns : tie.Need-returns
-returns c = c .make-request .ensures ∙ askedOf-within _ _ _ (sym (c .before .before .fits2 .ensures) ∙ c .before .if1 .taken)
+returns c =
+    let at-if1 : tie.Then1 = search in
+    let at-fits2 : tie.After-fits2 = search in
+    c .make-request .ensures ∙ askedOf-within _ _ _ (sym (at-fits2 .fits2 .ensures) ∙ at-if1 .if1 .taken)
 
 returns-2 : tie.Need-returns-2
 unfolding requestParsed
-returns-2 c = askedOf-other _ _ _ (sym (c .before .fits2 .ensures) ∙ c .if1 .left)
+returns-2 c =
+    let at-fits2 : tie.After-fits2 = search in
+    askedOf-other _ _ _ (sym (at-fits2 .fits2 .ensures) ∙ c .if1 .left)
 
 pub request-of-spec : {M : Type 1} → statement M
 request-of-spec = tie.close (tie.spec fits-requires make-request-requires returns returns-2)
