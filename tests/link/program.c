@@ -1,6 +1,7 @@
 /*
  * program.c - links with the library, as C and as C++: each call once, its answer against
- * document 01's rules, and a table in a memory from malloc. Prints "linked" and ends with 0.
+ * document 01's rules, and a table in a memory from malloc. Prints "linked, " and the shared
+ * library's name with the memory's version word, and ends with 0.
  */
 #include <stdio.h>
 #include <stdlib.h>
@@ -47,8 +48,8 @@ int main(void)
 	is("hand_back", pt_hand_back(LENT, 0), 0, 0, 0, 0, 0);
 	if (pt_awaited(memory, words, answer, 4) != PT_SHORT_ANSWER)
 		wrong = 1;
-	free(memory);
 	if (!wrong)
-		puts("linked");
+		printf("linked, libproduct_table.so.%lu\n", (unsigned long)memory[0]);
+	free(memory);
 	return wrong;
 }
