@@ -157,7 +157,7 @@ def main(path):
         for slot in hand_back_all(table, OFFICE):
             print(f"  slot {slot} is handed back")
 
-    print("The memory is kept in a file overnight, and is another one in the morning: no word is an address.")
+    print("The memory is kept in a file overnight, and is another one in the morning: no word is a pointer.")
     with tempfile.TemporaryFile() as file:
         file.write(table.memory)
         file.seek(0)

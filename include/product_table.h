@@ -15,7 +15,7 @@
  * cabinet and S slots takes PT_WORDS(C, M, S) words, the total: 7,456 at full size.
  * More may be lent; words past the total are neither read nor written. "none" is
  * PT_NONE. In this order, without gaps:
- *   contents  12 words: version, C, M, S, first word and length of each body below;
+ *   contents  12 words: version 1, C, M, S, first word and length of each body below;
  *   global    76 words: current generation, largest generation requested, mask of
  *             pending cabinets, 64 chain heads, first and last of the free, next,
  *             current and done queues, generation of the current queue;
@@ -28,11 +28,21 @@
  *             link, queue link.
  * The number of a lane is cabinet * M + place.
  *
+ * Words. A word is a uint32_t of the machine, in its own byte order; the low word of a
+ * code comes first on every machine. No word is a pointer: between two calls a memory
+ * may be copied, sent or kept in a file, and the copy goes on from there. For a machine
+ * of the other byte order the four bytes of each word are swapped.
+ *
  * Legal. A memory is legal when its contents agree with its sizes and its length,
  * every word is in range or at its rest value, each slot stands in exactly one chain
  * or queue, and flags, masks and generations agree with each other. pt_setup()
  * makes a legal memory of any words, and every call keeps it legal. A damaged
  * memory is refused by all other calls, and never followed out of its bounds.
+ *
+ * Sections. What pt_begin(), pt_step() and pt_hand_back() promise about sections holds
+ * as long as nothing but these calls has written the memory since its set-up. Legality
+ * alone does not give it: other writes can make a legal memory in which a slot that
+ * an open section still reads is done.
  *
  * Answer. Each call writes five words into the first PT_ANSWER_WORDS words of
  * @answer, the status first, and returns the status. A refusal answers its number
@@ -42,9 +52,10 @@
  * tested first is returned.
  *
  * What the caller owes: @memory and @answer do not overlap; each points to as many
- * words as its length says; a length of 0 is allowed, with any pointer that C allows
- * for it. Calls on one memory are made one after another: there are no locks here,
- * and no memory barriers. Nothing but a wrong pointer or length is undefined.
+ * words as its length says, aligned as a uint32_t; a length of 0 is allowed, with any
+ * pointer that C allows for it. Calls on one memory are made one after another: there
+ * are no locks here, and no memory barriers. Nothing but a wrong pointer or length is
+ * undefined.
  *
  * The words of the hall and the words used here:
  *   house, the house's         global
