@@ -7,8 +7,9 @@ use Rattle.model.specs.Lists.{every}
 use Rattle.model.specs.Memory.{state}
 use Rattle.model.specs.Legal.{contentsAgree, linksInRange, fieldsInRange, sentences, legal}
 use Rattle.laws.specs.Tests.{every-true, every-intro, and-true, and-intro}
-use Rattle.legality.specs.Parts.{engineLegal, tableLegal}
-use Rattle.legality.proofs.EngineLaws.{iff-eq}
+use Rattle.engine_legality.specs.Sentences.{engineLegal}
+use Rattle.legality.specs.Parts.{tableLegal}
+use Rattle.engine_legality.proofs.EngineLaws.{iff-eq}
 
 module _ (m : List ℕ) where
   -- the sentences are those of the two parts

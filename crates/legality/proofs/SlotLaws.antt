@@ -9,7 +9,7 @@ use borrow.Author.Tests.{le-leb, lt-leb}
 use Rattle.model.specs.Word.{none}
 use Rattle.model.specs.Rules.{wrongProduct}
 use Rattle.model.specs.Memory.{at, wide}
-use Rattle.legality.specs.Lanes.{slotOrNone}
+use Rattle.engine_legality.specs.Lanes.{slotOrNone}
 use Rattle.legality.specs.Slots.{slotInRange, slotInPlace, slotFits, chainedFits, queuedFits}
 
 implied : (a o c n : Bool) → (a && (c && n)) ≡ ((a && (o || n)) && (c && n))

@@ -1,4 +1,3 @@
--- What the functions of the check decide, in their order: `Lanes` and `Slots` one lane and one slot at a time, `Parts` the sentences of document 01.
-pub mod Lanes
+-- What the functions of the check decide of the slots: `Slots` one slot at a time, `Parts` the sentences of document 01.
 pub mod Slots
 pub mod Parts

@@ -12,7 +12,7 @@ use Rattle.model.specs.Rules.{wrongProduct}
 use Rattle.model.specs.Memory.{at, wide}
 use Rattle.slot_places.specs.Steps.{freeKind}
 use Rattle.distinct_codes.specs.Tree.{Tells}
-use Rattle.legality.specs.Lanes.{slotOrNone}
+use Rattle.engine_legality.specs.Lanes.{slotOrNone}
 
 -- the product and the links are in range
 abbrev pub slotInRange : List ℕ → ℕ → ℕ → Bool

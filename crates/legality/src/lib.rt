@@ -1,33 +1,15 @@
 // The legality check: whether a memory is legal (document 01, "The memory", last paragraph), for any
 // words and any number of them. It reads no word past the total and follows no link out of range; a
 // walk that comes round again meets a marked slot and ends.
-mod contents;
-mod lanes;
 mod slots;
 
 ghost use mathlib.Core.Path.{_≡_};
-ghost use Prim.Native.Nat.{ℕ, _+_, _*_, _≤_};
+ghost use Prim.Native.Nat.{_+_, _*_, _≤_};
 ghost use lib.ListN.{length};
 ghost use Rattle.model.specs.Legal.{legal as isLegal};
 ghost use Rattle.slot_places.specs.Steps.{Runs};
-ghost use Rattle.legality.specs.Parts.{Fits, Table, engineLegal, tableLegal, placeSteps};
-
-// The sentences about the global words, the cabinets and the lanes.
-fn engine_fits(m: &[u32]) -> bool
-    requires { ⌜ Fits (now m) ⌝ }
-    ensures { λ r. ⌜ r ≡ engineLegal (now (m .entry)) ⌝ }
-{
-    let slots = m[words::SLOTS_AT];
-    let cabinets = words::index(m[words::CABINETS_AT]);
-    let places = words::index(m[words::PLACES_AT]);
-    if !lanes::global_words_fit(m, m[words::CABINETS_AT], slots) {
-        return false;
-    }
-    if !lanes::cabinets_fit(m, cabinets, m[words::PLACES_AT]) {
-        return false;
-    }
-    lanes::lanes_fit(m, words::MASKS_AT + cabinets, cabinets, places, slots)
-}
+ghost use Rattle.engine_legality.specs.Contents.{Fits};
+ghost use Rattle.legality.specs.Parts.{Table, tableLegal, placeSteps};
 
 // Marks each slot with the kind of its place; slot 0's words begin at base, lane 0's at lane.
 fn mark_slots(
@@ -92,7 +74,10 @@ fn table_fits(m: &[u32]) -> bool
     requires { ⌜ Fits (now m) ⌝ }
     ensures { λ r. ⌜ r ≡ tableLegal (now (m .entry)) ⌝ }
 {
-    let lanes = words::index(contents::lane_count(m[words::CABINETS_AT], m[words::PLACES_AT]));
+    let lanes = words::index(engine_legality::contents::lane_count(
+        m[words::CABINETS_AT],
+        m[words::PLACES_AT],
+    ));
     let lane = words::MASKS_AT + words::index(m[words::CABINETS_AT]);
     slots_agree(m, lane + words::LANE_LENGTH * lanes, lane, lanes)
 }
@@ -101,10 +86,10 @@ fn table_fits(m: &[u32]) -> bool
 pub fn legal(m: &[u32]) -> bool
     ensures { λ r. ⌜ r ≡ isLegal (now (m .entry)) ⌝ }
 {
-    if !contents::contents_agree(m) {
+    if !engine_legality::contents::contents_agree(m) {
         return false;
     }
-    if !engine_fits(m) {
+    if !engine_legality::engine_fits(m) {
         return false;
     }
     table_fits(m)

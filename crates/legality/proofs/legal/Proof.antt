@@ -1,7 +1,7 @@
 -- `legal` meets its contract: a law for each way out. Assumes nothing.
 use mathlib.Core.Path.{sym, _∙_}
 use borrow.Author.Tests.{not-true, not-false}
-use Rattle.legality.proofs.ContentsLaws.{contents-fits}
+use Rattle.engine_legality.proofs.ContentsLaws.{contents-fits}
 use Rattle.legality.proofs.LegalLaws.{legal-contents, legal-engine, legal-table}
 use borrow.Author.Needs.{needs}
 use Rattle.legality.proofs.legal.Statement.{statement}

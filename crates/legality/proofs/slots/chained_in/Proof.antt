@@ -13,7 +13,7 @@ use Rattle.model.specs.Memory.{wide}
 use Rattle.distinct_codes.specs.Tree.{rootsOf}
 use Rattle.distinct_codes.proofs.TreeLaws.{Sofar, sofar-start, sofar-left, sofar-on, sofar-fails, sofar-end}
 use Rattle.legality.specs.Slots.{chainedFits, unfit, twice, right}
-use Rattle.legality.proofs.Loops.{all-end, all-fails, all-on}
+use Rattle.engine_legality.proofs.Loops.{all-end, all-fails, all-on}
 use Rattle.legality.proofs.SlotLaws.{chained-on, chained-off}
 use borrow.Author.Needs.{needs}
 use Rattle.legality.proofs.slots.chained_in.Statement.{statement}

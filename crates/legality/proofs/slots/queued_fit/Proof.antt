@@ -7,7 +7,7 @@ use native.Mathlib.Omega.{arith}
 use borrow.Author.Tests.{not-true, not-false}
 use Rattle.model.specs.Lists.{all, from}
 use Rattle.legality.specs.Slots.{queuedFits}
-use Rattle.legality.proofs.Loops.{all-end, all-fails, all-on}
+use Rattle.engine_legality.proofs.Loops.{all-end, all-fails, all-on}
 use Rattle.legality.proofs.SlotLaws.{queued-on, queued-off}
 use borrow.Author.Needs.{needs}
 use Rattle.legality.proofs.slots.queued_fit.Statement.{statement}

@@ -1,0 +1,14 @@
+-- `fits_in` meets its contract: a word below a power of two is 0 when shifted by it. Assumes nothing.
+use Rattle.engine_legality.proofs.Bits.{shr-zero}
+use borrow.Author.Needs.{needs}
+use Rattle.engine_legality.proofs.lanes.fits_in.Statement.{statement}
+use Rattle.engine_legality.proofs.lanes.fits_in.Tie as tie
+
+shr-result : tie.Need-shr-result
+shr-result c = search needs
+
+returns : tie.Need-returns
+returns c = shr-zero (c .args .word) (c .args .bits)
+
+pub fits-in-spec : {M : Type 1} → statement M
+fits-in-spec = tie.close (tie.spec shr-result returns)

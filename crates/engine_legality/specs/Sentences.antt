@@ -1,0 +1,26 @@
+-- Legality's sentences about the global words, the cabinets and the lanes: all that speak of no slot.
+use Prim.Native.Nat.{ℕ, _+_}
+use mathlib.Core.Bool.{Bool, not}
+use mathlib.Core.List.{List, [], _∷_}
+use Rattle.model.specs.Lists.{all, every, from}
+use Rattle.model.specs.Layout.{chainCount, queueWidth, queuesWidth, headsAt, lookupAt, laneAddress}
+use Rattle.model.specs.Rules.{wrongCode}
+use Rattle.model.specs.Memory.{at, wide, sizes, state}
+use Rattle.model.specs.Legal.{laneNumbers, slotOrNone, laneLinksInRange, flagsInRange, masksInRange, snapshotsAtRest, lookupsAtRest, generationsAtRest, offLanes, lookupsInSections, snapshotsPending, cabinetBits, largestAgrees, laneGenerations, globalGeneration}
+
+module _ (m : List ℕ) where
+  -- chain heads and the global ends are in range
+  abbrev pub headsInRange : Bool
+  headsInRange = all (λ (a : ℕ). slotOrNone m (at m a)) (from headsAt (chainCount + queueWidth + queuesWidth))
+
+  abbrev pub lookupCodesInRange : Bool
+  lookupCodesInRange = all (λ (i : ℕ). not (wrongCode (wide m (laneAddress (sizes m) i + lookupAt)))) (laneNumbers m)
+
+  -- the sentences about the global words, the cabinets and the lanes
+  unfoldable pub engineLegal : Bool
+  engineLegal =
+      every
+      (flagsInRange m ∷ masksInRange m ∷ headsInRange ∷ all (laneLinksInRange m) (laneNumbers m) ∷ lookupCodesInRange
+      ∷ snapshotsAtRest m ∷ lookupsAtRest m ∷ generationsAtRest (state m)
+      ∷ offLanes (state m) ∷ lookupsInSections (state m) ∷ snapshotsPending (state m) ∷ cabinetBits m
+      ∷ largestAgrees m (state m) ∷ laneGenerations m (state m) ∷ globalGeneration (state m) ∷ [])
