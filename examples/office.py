@@ -123,14 +123,15 @@ def print_try(table, *call):
 
 # ---- the round
 
-OFFICE, CUSTOMER = LANES = range(2)  # the office works by lane 0, a customer stands at lane 1
+LANES = 2
+OFFICE, CUSTOMER = 0, 1  # the office works by lane 0, a customer stands at lane 1
 GLASS, PET = 1, 2
 PRODUCTS = [(17, 8, GLASS), (24, 15, GLASS), (31, 25, PET), (48, 25, PET), (192, 8, GLASS), (512, 15, GLASS)]
 CODES = [code for code, _, _ in PRODUCTS]
 
 
 def main(path):
-    table = ProductTable(ctypes.CDLL(path), cabinets=1, lanes=len(LANES), slots=8)
+    table = ProductTable(ctypes.CDLL(path), cabinets=1, lanes=LANES, slots=8)
 
     print("The office enters its products; a mistake is refused by name, and changes nothing.")
     for product in PRODUCTS:
@@ -151,7 +152,7 @@ def main(path):
     print("The customer goes. The lanes pass and make clocks until no slot is retired.")
     table("end", CUSTOMER)
     while print_slots(table):
-        for lane in LANES:
+        for lane in range(LANES):
             table("pass", lane, IDLE)
             table("clock", lane)
         for slot in hand_back_all(table, OFFICE):
