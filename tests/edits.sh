@@ -1,0 +1,147 @@
+# edits.sh - edits of the crates, each tried on a copy: shell functions, to be read with '.'. The mutants of the rules, the twins and the check of the must-fail
+# edits share them. An edit has the form of a crate's must-fail edit: a 'file:' line, then pairs of 'old:' and 'new:', each old text once in the file.
+#
+#   edit_value KEY EDIT         the value of the line 'KEY: VALUE'
+#   edit_apply EDIT DIR         puts an edit into the copy of a crate's folder; says what is wrong with it, if anything is
+#   edit_place LOG              where a log's first error is, FILE:LINE:COLUMN
+#   edit_names LOG              whether the first error is that a name is missing: the edit changed the code's shape, and no fact failed
+#   edit_begin TOP              a copy of the crates with what rt has proved already, $edit_room/base; it is removed at the end
+#   edit_prove CRATE ..         proves them there: without an edit all have to be proved
+#   edit_all TRY EDIT ..        TRY EDIT COPY LOG for each, in a copy of its own, two at a time; TRY prints what it found, and its status says whether that is right
+#   edit_finish                 prints what failed and last 'N passed, M failed', and ends, with status 0 only if M is 0
+
+. "$(dirname "${BASH_SOURCE[0]}")/progress.sh"
+
+edit_command=${0#"$PWD"/} edit_passed=0 edit_failed=0 edit_batch=()
+
+edit_value() { # KEY EDIT
+    sed -n "s/^$1: *//p" "$2" | head -n 1
+}
+
+# puts new in the place of old, which the file has exactly once
+edit_substitute() { # FILE OLD NEW
+    OLD=$2 NEW=$3 awk '
+        { text = text $0 "\n" }
+        END {
+            old = ENVIRON["OLD"]
+            at = old == "" ? 0 : index(text, old)
+            if (!at) exit 3
+            rest = substr(text, at + length(old))
+            if (index(rest, old)) exit 4
+            printf "%s%s%s", substr(text, 1, at - 1), ENVIRON["NEW"], rest
+        }' "$1" >"$1.new"
+    case $? in
+    0) mv "$1.new" "$1" ;;
+    3) echo "an 'old:' text is not in ${1##*/}"; return 1 ;;
+    4) echo "an 'old:' text is in ${1##*/} more than once"; return 1 ;;
+    *) echo "awk failed on ${1##*/}"; return 1 ;;
+    esac
+}
+
+edit_apply() { # EDIT DIR
+    local line file='' old='' pairs=0
+    while IFS= read -r line || [ -n "$line" ]; do
+        case $line in
+        'file: '*) file=${line#file: } ;;
+        'old: '*) old=${line#old: } ;;
+        'new:'*)
+            line=${line#new:}
+            case $file in
+            *../*) echo "a 'file:' line leads out of the crate"; return 1 ;;
+            src/* | specs/* | proofs/*) ;;
+            *) echo "a 'file:' line names no file under src/, specs/ or proofs/"; return 1 ;;
+            esac
+            [ -f "$2/$file" ] || { echo "there is no $file in the crate"; return 1; }
+            edit_substitute "$2/$file" "$old" "${line# }" || return 1
+            old='' pairs=$((pairs + 1))
+            ;;
+        esac
+    done <"$1"
+    [ "$pairs" -gt 0 ] || { echo "it has no 'old:' and 'new:' pair"; return 1; }
+}
+
+edit_place() { # LOG
+    local found
+    found=$(grep -m 1 -oE '^[^ ]+:[0-9]+:[0-9]+: error' "$1")
+    [ -n "$found" ] || found=$(grep -m 1 -oE '^note: [^ ]+:[0-9]+:[0-9]+:' "$1" | sed 's/^note: //')
+    found=${found%: error}
+    printf '%s\n' "${found%:}"
+}
+
+edit_names() { # LOG
+    grep -m 1 -E '^[^ ]+:[0-9]+:[0-9]+: error' "$1" | grep -qE 'that can be named from here|not in scope'
+}
+
+edit_begin() { # TOP
+    local part
+    edit_room=$(mktemp -d) && edit_room=$(cd "$edit_room" && pwd -P) || exit 2
+    trap 'rm -rf "$edit_room"' EXIT
+    trap 'exit 130' INT TERM
+    mkdir -p "$edit_room/base/target" && cp -R "$1/crates.txt" "$1/crates" "$edit_room/base/" || exit 2
+    for part in rlib stamp; do
+        if [ -d "$1/target/$part" ]; then cp -R "$1/target/$part" "$edit_room/base/target/" || exit 2; fi
+    done
+}
+
+edit_prove() { # CRATE ..
+    (cd "$edit_room/base" && rt check "$@") >"$edit_room/base.log" 2>&1 && return
+    cat "$edit_room/base.log"
+    echo "FAILED: the tree is not proved without an edit ($*)"
+    return 1
+}
+
+# one edit in its own copy; its line is left in ROOM/NAME.line
+edit_one() { # TRY EDIT NAME
+    local copy=$edit_room/$3 said
+    if [ ! -d "$edit_room/base/crates/$(edit_value crate "$2")" ] || [ -z "$(edit_value crate "$2")" ]; then
+        said="FAILED $3: its 'crate:' line names no crate"
+    elif ! cp -R "$edit_room/base" "$copy"; then
+        said="FAILED $3: the tree could not be copied"
+    elif said=$(edit_apply "$2" "$copy/crates/$(edit_value crate "$2")" && "$1" "$2" "$copy" "$edit_room/$3.log"); then
+        said="ok $3: $said"
+    else
+        said="FAILED $3: $said"
+    fi
+    rm -rf "$copy"
+    printf '%s\n' "$said" >"$edit_room/$3.line"
+}
+
+# waits for the edits that were started, prints their lines and counts them
+edit_flush() {
+    local name line
+    wait
+    progress_clear
+    for name in "${edit_batch[@]}"; do
+        line=$(cat "$edit_room/$name.line" 2>/dev/null) || line="FAILED $name: it was not tried to its end"
+        printf '%s\n' "$line"
+        if [[ $line == "ok "* ]]; then
+            edit_passed=$((edit_passed + 1))
+        else
+            edit_failed=$((edit_failed + 1))
+            progress_fault "${line#FAILED }" "$edit_command" "$name"
+        fi
+    done
+    edit_batch=()
+}
+
+# one at a time where the machine has one processor or RT_JOBS says so
+edit_all() { # TRY EDIT ..
+    local try=$1 edit jobs
+    shift
+    jobs=${RT_JOBS:-$(nproc 2>/dev/null)}
+    [ "$jobs" = 1 ] || jobs=2
+    for edit in "$@"; do
+        [ "${#edit_batch[@]}" -lt "$jobs" ] || edit_flush
+        edit_batch+=("$(basename "$edit" .edit)")
+        progress_update "${edit_batch[*]}, $((edit_passed + edit_failed)) of $# edits tried"
+        edit_one "$try" "$edit" "${edit_batch[-1]}" &
+    done
+    edit_flush
+}
+
+edit_finish() {
+    progress_finish
+    echo "$edit_passed passed, $edit_failed failed"
+    [ "$edit_failed" -eq 0 ]
+    exit
+}
