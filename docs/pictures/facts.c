@@ -10,7 +10,7 @@
 #include "calls.h"
 #include "line.h"
 #include "table.h"
-#include "trial.h"
+#include "lent.h"
 
 /* A field of a record: its first word, how many, and what it is. */
 struct field {
@@ -132,21 +132,21 @@ static void print_state(const uint32_t *memory)
 
 static void print_listing(FILE *listing)
 {
-	static struct trial trial;
+	static struct lent lent;
 	char line[100];
 
-	trial_start(&trial);
+	lent_start(&lent);
 	while (fgets(line, sizeof line, listing) != NULL) {
 		struct call call;
 
 		line[strcspn(line, "\n")] = '\0';
-		call = trial_call(line);
-		trial_make(&trial, &call);
+		call = lent_call(line);
+		lent_make(&lent, &call);
 		printf("call %s\nanswer", line);
 		for (size_t n = 0; n < PT_ANSWER_WORDS; n++)
-			printf(" %" PRIu32, trial.answer[n]);
+			printf(" %" PRIu32, lent.answer[n]);
 		printf("\n");
-		print_state(trial.memory);
+		print_state(lent.memory);
 	}
 }
 

@@ -22,7 +22,6 @@
 
 enum { GRACE_SECONDS = 60, CLOSING_ROUNDS = 10 };
 
-static const struct interface library = INTERFACE(pt_);
 
 static uint32_t memory[PT_WORDS(CABINETS, LANES_OF_A_CABINET, SLOTS)];
 static uint32_t answer[PT_ANSWER_WORDS];
@@ -50,7 +49,7 @@ static double now(void)
 /* Makes a call on the lent memory; returns the status. */
 static uint32_t make(const struct call *call)
 {
-	uint32_t status = call_make(&library, memory, sizeof memory / sizeof memory[0], answer,
+	uint32_t status = call_make(&tested, memory, sizeof memory / sizeof memory[0], answer,
 			PT_ANSWER_WORDS, call);
 
 	history_note(call, answer);

@@ -81,7 +81,6 @@ struct kept {
 	uint32_t level;
 };
 
-static const struct interface library = INTERFACE(pt_);
 static const struct table_form *form;
 static uint32_t lanes; /* of all cabinets */
 static size_t total;
@@ -340,7 +339,7 @@ static void print_call(const struct call *call)
 		return;
 	}
 	fprintf(stderr, "  %s", call_forms[call->name].command);
-	for (uint32_t n = 0; n < call_forms[call->name].arguments; n++)
+	for (uint32_t n = 0; n < call_arguments(call->name); n++)
 		fprintf(stderr, " %" PRIu64, call->argument[n]);
 	fprintf(stderr, "\n");
 }
@@ -428,7 +427,7 @@ static void make(const struct state *from, uint32_t number, uint32_t at)
 	const char *what;
 	uint32_t status;
 
-	status = call_make(&library, state.memory, total, answer, PT_ANSWER_WORDS, call);
+	status = call_make(&tested, state.memory, total, answer, PT_ANSWER_WORDS, call);
 	what = owed(from->memory, state.memory, answer, status);
 	if (what == NULL && compared)
 		what = alike(call, from->memory, state.memory, answer);
@@ -466,7 +465,7 @@ static void start(void)
 	for (size_t n = 0; n < WORDS + PAST; n++)
 		state.memory[n] = FILL;
 	ledger_reset(&state.ledger);
-	if (library.setup(state.memory, total, answer, PT_ANSWER_WORDS, form->cabinets,
+	if (tested.setup(state.memory, total, answer, PT_ANSWER_WORDS, form->cabinets,
 			form->lanes, form->slots) != PT_OK) {
 		fprintf(stderr, "exhaustive: set-up is refused\n");
 		exit(1);

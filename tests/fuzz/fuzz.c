@@ -34,7 +34,6 @@ enum {
 /* What stands where no call may write. */
 #define FILL 0xa5a5a5a5u
 
-static const struct interface library = INTERFACE(pt_);
 
 /* The memory between calls, what is lent, and the words that the last accepted call left. */
 static uint32_t memory[WORDS];
@@ -78,7 +77,7 @@ static uint32_t *guarded(void)
 static void print_call(const struct call *call, uint32_t status, const char *what)
 {
 	fprintf(stderr, "fuzz: %s", call_forms[call->name].command);
-	for (uint32_t n = 0; n < call_forms[call->name].arguments; n++)
+	for (uint32_t n = 0; n < call_arguments(call->name); n++)
 		fprintf(stderr, " %" PRIu64, call->argument[n]);
 	fprintf(stderr, ", %zu words and %zu of answer lent, status %" PRIu32 "%s\n",
 		words, answer_words, status, what);
@@ -197,7 +196,7 @@ static uint32_t make(const struct call *call)
 	memcpy(now, memory, words * sizeof *now);
 	fill(now, BEFORE);
 	fill(answer_end, answer_words + BEFORE);
-	status = call_make(&library, now, words, answer, answer_words, call);
+	status = call_make(&tested, now, words, answer, answer_words, call);
 	if (saying)
 		print_call(call, status, "");
 	what = owed(status, now, answer);

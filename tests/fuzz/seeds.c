@@ -8,8 +8,9 @@
 #include <stdlib.h>
 #include <string.h>
 
+#include "draw.h"
+#include "lent.h"
 #include "stream.h"
-#include "trial.h"
 
 enum { NAME = 200, LINE = 200 };
 
@@ -60,8 +61,8 @@ static void put_code(uint64_t code)
 static void put_call(const struct call *call)
 {
 	put(call->name, 1);
-	for (uint32_t n = 0; n < call_forms[call->name].arguments; n++)
-		if (call_forms[call->name].codes >> n & 1u)
+	for (uint32_t n = 0; n < call_arguments(call->name); n++)
+		if (call_forms[call->name].kind[n] == KIND_CODE)
 			put_code(call->argument[n]);
 		else if (n == 0 && call->name != CALL_SETUP && call->argument[n] >= LANES)
 			put_raw((uint32_t)call->argument[n]);
@@ -94,7 +95,7 @@ static void put_line(const char *line)
 	} else if (strcmp(line, "round") == 0) {
 		put(ROUND, 1);
 	} else {
-		call = trial_call(line);
+		call = lent_call(line);
 		put_call(&call);
 	}
 }
@@ -129,12 +130,12 @@ static void put_random(uint32_t cabinets, uint32_t lanes, uint32_t slots, uint32
 
 	put_call(&call);
 	for (uint32_t n = 0; n < count; n++) {
-		call.name = names[trial_random(&state, sizeof names / sizeof names[0])];
-		call.argument[0] = trial_random(&state, cabinets * lanes);
-		call.argument[1] = call.name == CALL_PASS ? trial_random(&state, KINDS) :
-			64 * trial_random(&state, 4) + trial_random(&state, 2);
-		call.argument[2] = trial_random(&state, 50);
-		call.argument[3] = trial_random(&state, 8);
+		call.name = names[draw_below(&state, sizeof names / sizeof names[0])];
+		call.argument[0] = draw_below(&state, cabinets * lanes);
+		call.argument[1] = call.name == CALL_PASS ? draw_below(&state, KINDS) :
+			64 * draw_below(&state, 4) + draw_below(&state, 2);
+		call.argument[2] = draw_below(&state, 50);
+		call.argument[3] = draw_below(&state, 8);
 		put_call(&call);
 		if (n % 20 == 19)
 			put(ROUND, 1);

@@ -108,8 +108,8 @@ static inline struct call stream_call(struct stream *stream, enum call_name name
 {
 	struct call call = { .name = name };
 
-	for (uint32_t n = 0; n < call_forms[name].arguments; n++)
-		if (call_forms[name].codes >> n & 1u)
+	for (uint32_t n = 0; n < call_arguments(name); n++)
+		if (call_forms[name].kind[n] == KIND_CODE)
 			call.argument[n] = stream_code(stream);
 		else if (n == 0 && name != CALL_SETUP)
 			call.argument[n] = stream_lane(stream, lanes);

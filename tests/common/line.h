@@ -3,8 +3,8 @@
  * (document 01, "A listing, and edges"): a command and its arguments in decimal
  * digits, parted by single spaces.
  */
-#ifndef REFERENCE_LINE_H
-#define REFERENCE_LINE_H
+#ifndef COMMON_LINE_H
+#define COMMON_LINE_H
 
 #include <stdbool.h>
 #include <stddef.h>
@@ -12,7 +12,7 @@
 
 #include "calls.h"
 
-enum { LINE_COMMAND = 8 };
+enum { LINE_COMMAND = 8, LINE_TEXT = 100 };
 
 /* What is known of the bytes so far. */
 struct line {
@@ -33,4 +33,13 @@ void line_byte(struct line *line, unsigned char byte);
 /* The call that the line is; false if it is bad. */
 bool line_call(const struct line *line, struct call *call);
 
-#endif /* REFERENCE_LINE_H */
+/* The line that the call is, without a newline. */
+void line_text(const struct call *call, char text[LINE_TEXT]);
+
+/* The call that a text is; false if it is bad. */
+bool line_read(const char *text, struct call *call);
+
+/* The five words of an answer as a line. */
+void line_answer(const uint32_t *answer, char text[LINE_TEXT]);
+
+#endif /* COMMON_LINE_H */

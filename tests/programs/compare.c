@@ -1,6 +1,6 @@
 /*
  * compare.c - many calls on tables of a dozen sizes, on memories damaged on the way. Each
- * call is made with all checks of a trial: if the library is tried, its answer and every
+ * call is made with all checks of lent.h: if the library is tried, its answer and every
  * word it leaves are those of the reference. Usage: compare [SEED [CALLS]], the calls of
  * each list; a run is made again by its seed.
  */
@@ -10,7 +10,7 @@
 #include <string.h>
 
 #include "draw.h"
-#include "trial.h"
+#include "lent.h"
 
 static const struct list lists[] = {
 	{ 1, 1, 1, 2, 30000, 1 },
@@ -27,7 +27,7 @@ static const struct list lists[] = {
 	{ 8, 8, 1024, 400, 2000, 4294967295u },
 };
 
-static struct trial trial;
+static struct lent lent;
 static uint64_t seed;
 
 /* What all lists reached. */
@@ -35,68 +35,51 @@ static uint32_t calls, damaged, accepted[CALLS], refused[PT_NOTHING_DONE + 1];
 
 static uint32_t draw(uint32_t below)
 {
-	return trial_random(&seed, below);
+	return draw_below(&seed, below);
 }
 
 static void make(const struct call *call)
 {
-	trial_make(&trial, call);
+	lent_make(&lent, call);
 	calls++;
-	if (trial.answer[0] == PT_OK)
+	if (lent.answer[0] == PT_OK)
 		accepted[call->name]++;
 	else
-		refused[trial.answer[0]]++;
-}
-
-/* A word that may fit where another stood. */
-static uint32_t draw_word(size_t total)
-{
-	switch (draw(5)) {
-	case 0:
-		return PT_NONE;
-	case 1:
-		return draw(16);
-	case 2:
-		return trial.memory[draw((uint32_t)total)];
-	case 3:
-		return 1u << draw(32);
-	default:
-		return draw(PT_NONE);
-	}
+		refused[lent.answer[0]]++;
 }
 
 /* Calls on the memory with one to three of its words changed; then it is as it was. */
 static void make_damaged(const struct list *list, size_t total)
 {
-	uint32_t before[TRIAL_WORDS];
+	uint32_t before[LENT_WORDS];
 
-	memcpy(before, trial.memory, sizeof before);
+	memcpy(before, lent.memory, sizeof before);
 	for (uint32_t n = 1 + draw(3); n > 0; n--)
-		trial.memory[draw((uint32_t)total)] = draw_word(total);
+		lent.memory[draw((uint32_t)total)] = draw_word(&seed, lent.memory, total);
 	damaged++;
 	for (uint32_t n = 1 + draw(3); n > 0; n--) {
 		struct call call = draw_call(&seed, list);
 
 		make(&call);
 	}
-	memcpy(trial.memory, before, sizeof before);
+	memcpy(lent.memory, before, sizeof before);
 }
 
 static void run(const struct list *list, uint32_t count)
 {
 	size_t total = PT_WORDS(list->cabinets, list->lanes, list->slots);
 
-	trial_start(&trial);
+	lent_start(&lent);
 	make(&(struct call){ CALL_SETUP, { list->cabinets, list->lanes, list->slots } });
-	trial_global(trial.memory)[GLOBAL_CURRENT_GENERATION] = list->generation;
-	trial_global(trial.memory)[GLOBAL_LARGEST_GENERATION] = list->generation - 1u;
+	lent_global(lent.memory)[GLOBAL_CURRENT_GENERATION] = list->generation;
+	lent_global(lent.memory)[GLOBAL_LARGEST_GENERATION] = list->generation - 1u;
 	while (count > 0) {
 		struct call call = draw_call(&seed, list);
 
 		count--;
-		trial.words = draw(100) == 0 ? draw((uint32_t)total) : TRIAL_WORDS;
+		lent.words = draw(100) == 0 ? draw((uint32_t)total) : LENT_WORDS;
 		make(&call);
-		trial.words = TRIAL_WORDS;
+		lent.words = LENT_WORDS;
 		if (draw(10) == 0)
 			make_damaged(list, total);
 	}

@@ -8,9 +8,9 @@
 #include <string.h>
 
 #include "reference.h"
-#include "trial.h"
+#include "lent.h"
 
-static struct trial trial;
+static struct lent lent;
 
 /* Addresses here are document 01's numbers, and not those of layout.h. */
 static void test_words_of_setup(void)
@@ -38,14 +38,14 @@ static void test_words_of_setup(void)
 	memcpy(expected + 89, lane, sizeof lane);
 	memcpy(expected + 108, slots, sizeof slots);
 
-	trial_start(&trial);
-	trial_expect(&trial, "setup 1 1 2", "0 120 0 0 0");
-	CHECK(memcmp(trial.memory, expected, sizeof expected) == 0);
+	lent_start(&lent);
+	lent_expect(&lent, "setup 1 1 2", "0 120 0 0 0");
+	CHECK(memcmp(lent.memory, expected, sizeof expected) == 0);
 }
 
 static void test_words_of_calls(void)
 {
-	static const struct trial_step steps[] = {
+	static const struct lent_step steps[] = {
 		{ "setup 1 2 3", "0 145 0 0 0" },
 		{ "add 0 4294967313 25 1", "0 0 0 0 0" }, /* 2^32 + 17 */
 		{ "add 0 17 26 2", "0 1 0 0 0" },
@@ -68,23 +68,23 @@ static void test_words_of_calls(void)
 		0, 0, 0, 0, PT_NONE, PT_NONE
 	};
 
-	trial_start(&trial);
-	TRIAL_PLAY(&trial, steps);
-	CHECK(trial.memory[12] == 1 && trial.memory[13] == 1 && trial.memory[14] == 1);
-	CHECK(trial.memory[15 + 17] == 0);
-	CHECK(trial.memory[79] == 2 && trial.memory[80] == 2);
-	CHECK(trial.memory[88] == 3);
-	CHECK(memcmp(trial.memory + 89, lane0, sizeof lane0) == 0);
-	CHECK(memcmp(trial.memory + 108, lane1, sizeof lane1) == 0);
-	CHECK(memcmp(trial.memory + 127, slots, sizeof slots) == 0);
+	lent_start(&lent);
+	LENT_PLAY(&lent, steps);
+	CHECK(lent.memory[12] == 1 && lent.memory[13] == 1 && lent.memory[14] == 1);
+	CHECK(lent.memory[15 + 17] == 0);
+	CHECK(lent.memory[79] == 2 && lent.memory[80] == 2);
+	CHECK(lent.memory[88] == 3);
+	CHECK(memcmp(lent.memory + 89, lane0, sizeof lane0) == 0);
+	CHECK(memcmp(lent.memory + 108, lane1, sizeof lane1) == 0);
+	CHECK(memcmp(lent.memory + 127, slots, sizeof slots) == 0);
 }
 
 static void test_totals(void)
 {
-	uint32_t *memory = trial.memory;
+	uint32_t *memory = lent.memory;
 	uint32_t answer[PT_ANSWER_WORDS];
 
-	trial_start(&trial);
+	lent_start(&lent);
 	for (uint32_t c = 1; c <= 8; c++)
 		for (uint32_t m = 1; m <= 8; m++)
 			for (uint32_t s = 1; s <= 1024; s += 93) {
@@ -99,7 +99,7 @@ static void test_totals(void)
 
 static void test_setup_refusals(void)
 {
-	static const struct trial_step sizes[] = {
+	static const struct lent_step sizes[] = {
 		{ "setup 0 1 1", "1 0 0 0 0" }, { "setup 9 1 1", "1 0 0 0 0" },
 		{ "setup 1 0 1", "1 0 0 0 0" }, { "setup 1 9 1", "1 0 0 0 0" },
 		{ "setup 1 1 0", "1 0 0 0 0" }, { "setup 1 1 1025", "1 0 0 0 0" },
@@ -109,27 +109,27 @@ static void test_setup_refusals(void)
 		{ "setup 65536 65536 1", "1 0 0 0 0" },
 	};
 
-	trial_start(&trial);
-	TRIAL_PLAY(&trial, sizes);
-	trial.words = 0; /* the size is tested first */
-	TRIAL_PLAY(&trial, sizes);
-	trial_expect(&trial, "setup 1 1 1", "2 0 0 0 0");
-	trial.words = 7455;
-	trial_expect(&trial, "setup 8 8 1024", "2 0 0 0 0");
-	trial.words = 7456;
-	trial_expect(&trial, "setup 8 8 1024", "0 7456 0 0 0");
-	trial_expect(&trial, "awaited", "0 0 4294967295 1024 0");
+	lent_start(&lent);
+	LENT_PLAY(&lent, sizes);
+	lent.words = 0; /* the size is tested first */
+	LENT_PLAY(&lent, sizes);
+	lent_expect(&lent, "setup 1 1 1", "2 0 0 0 0");
+	lent.words = 7455;
+	lent_expect(&lent, "setup 8 8 1024", "2 0 0 0 0");
+	lent.words = 7456;
+	lent_expect(&lent, "setup 8 8 1024", "0 7456 0 0 0");
+	lent_expect(&lent, "awaited", "0 0 4294967295 1024 0");
 	/* A refused set-up leaves the table; an accepted one begins another. */
-	trial_expect(&trial, "setup 8 8 1025", "1 0 0 0 0");
-	trial_expect(&trial, "begin 63", "0 0 0 0 0");
-	trial_expect(&trial, "setup 1 1 1", "0 114 0 0 0");
-	trial_expect(&trial, "begin 0", "0 0 0 0 0");
+	lent_expect(&lent, "setup 8 8 1025", "1 0 0 0 0");
+	lent_expect(&lent, "begin 63", "0 0 0 0 0");
+	lent_expect(&lent, "setup 1 1 1", "0 114 0 0 0");
+	lent_expect(&lent, "begin 0", "0 0 0 0 0");
 }
 
 /* Every call but set-up refuses a memory that is not legal, before any other cause. */
 static void test_not_legal(void)
 {
-	static const struct trial_step steps[] = {
+	static const struct lent_step steps[] = {
 		{ "add 0 5 1 1", "3 0 0 0 0" }, { "rep 0 5 1 1", "3 0 0 0 0" },
 		{ "del 0 5", "3 0 0 0 0" }, { "begin 0", "3 0 0 0 0" },
 		{ "end 0", "3 0 0 0 0" }, { "start 0 5", "3 0 0 0 0" },
@@ -139,25 +139,25 @@ static void test_not_legal(void)
 		{ "awaited", "3 0 0 0 0" }, { "add 99 18446744073709551615 1 1", "3 0 0 0 0" },
 	};
 
-	trial_start(&trial);
-	TRIAL_PLAY(&trial, steps);
-	trial.words = 0;
-	TRIAL_PLAY(&trial, steps);
-	trial.words = TRIAL_WORDS;
-	memset(trial.memory, 0, sizeof trial.memory);
-	TRIAL_PLAY(&trial, steps);
+	lent_start(&lent);
+	LENT_PLAY(&lent, steps);
+	lent.words = 0;
+	LENT_PLAY(&lent, steps);
+	lent.words = LENT_WORDS;
+	memset(lent.memory, 0, sizeof lent.memory);
+	LENT_PLAY(&lent, steps);
 	/* A table that was legal, lent one word short. */
-	trial_expect(&trial, "setup 1 2 3", "0 145 0 0 0");
-	trial.words = 144;
-	TRIAL_PLAY(&trial, steps);
-	trial.words = 145;
-	trial_expect(&trial, "begin 0", "0 0 0 0 0");
+	lent_expect(&lent, "setup 1 2 3", "0 145 0 0 0");
+	lent.words = 144;
+	LENT_PLAY(&lent, steps);
+	lent.words = 145;
+	lent_expect(&lent, "begin 0", "0 0 0 0 0");
 }
 
 /* Causes 4, 5, 6 and 15. */
 static void test_lanes(void)
 {
-	static const struct trial_step steps[] = {
+	static const struct lent_step steps[] = {
 		{ "setup 1 2 2", "0 139 0 0 0" },
 		{ "add 2 5 1 1", "4 0 0 0 0" }, { "rep 2 5 1 1", "4 0 0 0 0" },
 		{ "del 2 5", "4 0 0 0 0" }, { "begin 2", "4 0 0 0 0" },
@@ -183,14 +183,14 @@ static void test_lanes(void)
 		{ "setup 1 1 1", "0 114 0 0 0" }, { "off 0", "15 0 0 0 0" },
 	};
 
-	trial_start(&trial);
-	TRIAL_PLAY(&trial, steps);
+	lent_start(&lent);
+	LENT_PLAY(&lent, steps);
 }
 
 /* Causes 7 to 10. */
 static void test_sections(void)
 {
-	static const struct trial_step steps[] = {
+	static const struct lent_step steps[] = {
 		{ "setup 1 2 2", "0 139 0 0 0" },
 		{ "end 0", "8 0 0 0 0" }, { "start 0 5", "8 0 0 0 0" },
 		{ "start 0 18446744073709551615", "8 0 0 0 0" },
@@ -213,14 +213,14 @@ static void test_sections(void)
 		{ "off 0", "15 0 0 0 0" },
 	};
 
-	trial_start(&trial);
-	TRIAL_PLAY(&trial, steps);
+	lent_start(&lent);
+	LENT_PLAY(&lent, steps);
 }
 
 /* Causes 11 to 14 and 16. */
 static void test_records(void)
 {
-	static const struct trial_step steps[] = {
+	static const struct lent_step steps[] = {
 		{ "setup 1 2 2", "0 139 0 0 0" },
 		{ "add 0 10000000000000 1 1", "11 0 0 0 0" },
 		{ "add 0 18446744073709551615 1 1", "11 0 0 0 0" },
@@ -246,21 +246,21 @@ static void test_records(void)
 		{ "awaited", "0 0 4294967295 0 2" },
 	};
 
-	trial_start(&trial);
-	TRIAL_PLAY(&trial, steps);
+	lent_start(&lent);
+	LENT_PLAY(&lent, steps);
 }
 
 /* Chains: heads, a slot in the middle, a slot under a reader. */
 static void test_chains(void)
 {
-	static const struct trial_step six_calls[] = {
+	static const struct lent_step six_calls[] = {
 		{ "setup 1 1 4", "0 132 0 0 0" },
 		{ "add 0 192 10 1", "0 0 0 0 0" }, { "add 0 0 20 2", "0 1 0 0 0" },
 		{ "begin 0", "0 0 0 0 0" }, { "start 0 192", "0 0 0 0 0" },
 		{ "del 0 0", "0 1 0 0 0" },
 		{ "step 0", "0 0 0 0 0" }, { "step 0", "0 1 0 10 1" },
 	};
-	static const struct trial_step replaced[] = {
+	static const struct lent_step replaced[] = {
 		{ "setup 1 2 8", "0 175 0 0 0" },
 		{ "add 0 0 10 0", "0 0 0 0 0" }, { "add 0 64 11 1", "0 1 0 0 0" },
 		{ "add 0 128 12 2", "0 2 0 0 0" },
@@ -282,15 +282,15 @@ static void test_chains(void)
 	};
 
 
-	trial_start(&trial);
-	TRIAL_PLAY(&trial, six_calls);
-	TRIAL_PLAY(&trial, replaced);
+	lent_start(&lent);
+	LENT_PLAY(&lent, six_calls);
+	LENT_PLAY(&lent, replaced);
 }
 
 /* Codes are compared in both their words. */
 static void test_high_words(void)
 {
-	static const struct trial_step steps[] = {
+	static const struct lent_step steps[] = {
 		{ "setup 1 1 2", "0 120 0 0 0" }, { "add 0 4294967313 10 1", "0 0 0 0 0" },
 		{ "del 0 17", "13 0 0 0 0" }, { "begin 0", "0 0 0 0 0" },
 		{ "start 0 17", "0 0 0 0 0" }, { "step 0", "0 0 0 0 0" },
@@ -299,14 +299,14 @@ static void test_high_words(void)
 		{ "step 0", "0 1 0 10 1" },
 	};
 
-	trial_start(&trial);
-	TRIAL_PLAY(&trial, steps);
+	lent_start(&lent);
+	LENT_PLAY(&lent, steps);
 }
 
 /* The free queue gives its first slot and takes slots at its end. */
 static void test_free_queue(void)
 {
-	static const struct trial_step steps[] = {
+	static const struct lent_step steps[] = {
 		{ "setup 1 1 3", "0 126 0 0 0" },
 		{ "add 0 1 1 1", "0 0 0 0 0" }, { "add 0 2 1 1", "0 1 0 0 0" },
 		{ "del 0 2", "0 1 0 0 0" }, { "del 0 1", "0 0 0 0 0" },
@@ -318,31 +318,31 @@ static void test_free_queue(void)
 		{ "add 0 5 1 1", "0 0 0 0 0" }, { "add 0 6 1 1", "14 0 0 0 0" },
 	};
 
-	trial_start(&trial);
-	TRIAL_PLAY(&trial, steps);
+	lent_start(&lent);
+	LENT_PLAY(&lent, steps);
 }
 
 /* A count wraps from 4,294,967,295 to 0, and differs then from its snapshot. */
 static void test_count_wraps(uint32_t kind)
 {
-	static const struct trial_step before[] = {
+	static const struct lent_step before[] = {
 		{ "setup 1 2 2", "0 139 0 0 0" }, { "add 0 5 1 1", "0 0 0 0 0" },
 		{ "del 0 5", "0 0 0 0 0" },
 	};
 	struct call pass = { CALL_PASS, { 0, kind, 0, 0 } };
 	uint32_t *lane;
 
-	trial_start(&trial);
-	TRIAL_PLAY(&trial, before);
-	lane = trial_lane(trial.memory, 0);
+	lent_start(&lent);
+	LENT_PLAY(&lent, before);
+	lane = lent_lane(lent.memory, 0);
 	lane[LANE_COUNTS + kind] = 4294967295u;
-	trial_expect(&trial, "clock 0", "0 1 1 1 0");
+	lent_expect(&lent, "clock 0", "0 1 1 1 0");
 	CHECK(lane[LANE_SNAPSHOT + kind] == 4294967295u);
-	trial_expect(&trial, "clock 0", "0 1 1 1 0");
-	trial_expect(&trial, "awaited", "0 2 0 1 1");
-	CHECK(trial_make(&trial, &pass) == 0 && lane[LANE_COUNTS + kind] == 0);
-	trial_expect(&trial, "clock 0", "0 1 1 1 0");
-	trial_expect(&trial, "awaited", "0 1 1 1 1");
+	lent_expect(&lent, "clock 0", "0 1 1 1 0");
+	lent_expect(&lent, "awaited", "0 2 0 1 1");
+	CHECK(lent_make(&lent, &pass) == 0 && lane[LANE_COUNTS + kind] == 0);
+	lent_expect(&lent, "clock 0", "0 1 1 1 0");
+	lent_expect(&lent, "awaited", "0 1 1 1 1");
 	CHECK(lane[LANE_SNAPSHOT + kind] == 0 && !(lane[LANE_FLAGS] & FLAG_SNAPSHOT));
 }
 
@@ -358,17 +358,17 @@ static void test_later(void)
 /* Two grace periods, one before the wrap of the generations and one after it. */
 static void test_generation_wraps(void)
 {
-	static const struct trial_step records[] = {
+	static const struct lent_step records[] = {
 		{ "setup 1 2 4", "0 151 0 0 0" },
 		{ "add 0 1 1 1", "0 0 0 0 0" }, { "add 0 2 1 1", "0 1 0 0 0" },
 		{ "del 0 1", "0 0 0 0 0" },
 	};
-	static const struct trial_step requested[] = {
+	static const struct lent_step requested[] = {
 		{ "clock 0", "0 4294967295 4294967295 1 0" },
 		{ "del 1 2", "0 1 0 0 0" }, { "clock 1", "0 4294967295 0 1 0" },
 		{ "awaited", "0 2 0 2 2" },
 	};
-	static const struct trial_step ended[] = {
+	static const struct lent_step ended[] = {
 		{ "pass 0 0", "0 0 0 0 0" }, { "clock 0", "0 4294967295 0 1 0" },
 		{ "awaited", "0 1 1 2 2" },
 		{ "pass 1 0", "0 0 0 0 0" }, { "clock 1", "0 0 0 1 0" },
@@ -380,48 +380,48 @@ static void test_generation_wraps(void)
 	};
 	uint32_t *global, *lane;
 
-	trial_start(&trial);
-	TRIAL_PLAY(&trial, records);
-	global = trial_global(trial.memory);
+	lent_start(&lent);
+	LENT_PLAY(&lent, records);
+	global = lent_global(lent.memory);
 	global[GLOBAL_CURRENT_GENERATION] = 4294967295u;
 	global[GLOBAL_LARGEST_GENERATION] = 4294967294u;
-	TRIAL_PLAY(&trial, requested);
+	LENT_PLAY(&lent, requested);
 	/* Generation 0 is one like the others: the queue is not empty. */
-	lane = trial_lane(trial.memory, 1);
+	lane = lent_lane(lent.memory, 1);
 	CHECK(lane[LANE_GENERATION] == 0 && lane[LANE_CURRENT + END_FIRST] == 1);
-	TRIAL_PLAY(&trial, ended);
+	LENT_PLAY(&lent, ended);
 }
 
 /* A grace period that ends at the wrap, with no other requested. */
 static void test_generation_wraps_idle(void)
 {
-	static const struct trial_step records[] = {
+	static const struct lent_step records[] = {
 		{ "setup 1 1 2", "0 120 0 0 0" },
 		{ "add 0 1 1 1", "0 0 0 0 0" }, { "del 0 1", "0 0 0 0 0" },
 	};
-	static const struct trial_step steps[] = {
+	static const struct lent_step steps[] = {
 		{ "clock 0", "0 4294967295 4294967295 1 0" }, { "pass 0 0", "0 0 0 0 0" },
 		{ "clock 0", "0 0 4294967295 0 0" }, { "back 0", "0 0 0 0 0" },
 		{ "clock 0", "0 0 4294967295 0 0" }, { "awaited", "0 0 4294967295 2 0" },
 	};
 	uint32_t *global;
 
-	trial_start(&trial);
-	TRIAL_PLAY(&trial, records);
-	global = trial_global(trial.memory);
+	lent_start(&lent);
+	LENT_PLAY(&lent, records);
+	global = lent_global(lent.memory);
 	global[GLOBAL_CURRENT_GENERATION] = 4294967295u;
 	global[GLOBAL_LARGEST_GENERATION] = 4294967294u;
-	TRIAL_PLAY(&trial, steps);
+	LENT_PLAY(&lent, steps);
 }
 
 /* A global queue of generation 0, the current one. */
 static void test_global_generation_zero(void)
 {
-	static const struct trial_step records[] = {
+	static const struct lent_step records[] = {
 		{ "setup 1 2 4", "0 151 0 0 0" },
 		{ "add 0 1 1 1", "0 0 0 0 0" }, { "del 0 1", "0 0 0 0 0" },
 	};
-	static const struct trial_step steps[] = {
+	static const struct lent_step steps[] = {
 		{ "off 0", "0 0 0 0 0" }, { "clock 1", "0 0 0 1 0" },
 		{ "back 1", "16 0 0 0 0" }, { "awaited", "0 1 1 3 1" },
 		{ "pass 1 0", "0 0 0 0 0" }, { "clock 1", "0 1 0 0 0" },
@@ -429,18 +429,18 @@ static void test_global_generation_zero(void)
 	};
 	uint32_t *global;
 
-	trial_start(&trial);
-	TRIAL_PLAY(&trial, records);
-	global = trial_global(trial.memory);
+	lent_start(&lent);
+	LENT_PLAY(&lent, records);
+	global = lent_global(lent.memory);
 	global[GLOBAL_CURRENT_GENERATION] = 0;
 	global[GLOBAL_LARGEST_GENERATION] = 4294967295u;
-	TRIAL_PLAY(&trial, steps);
+	LENT_PLAY(&lent, steps);
 }
 
 /* Pending lanes over two cabinets: their number and the lowest. */
 static void test_pending(void)
 {
-	static const struct trial_step steps[] = {
+	static const struct lent_step steps[] = {
 		{ "setup 2 2 3", "0 184 0 0 0" },
 		{ "add 0 1 1 1", "0 0 0 0 0" }, { "del 3 1", "0 0 0 0 0" },
 		{ "awaited", "0 0 4294967295 2 1" }, { "clock 0", "0 1 0 0 0" },
@@ -465,16 +465,16 @@ static void test_pending(void)
 		{ "back 2", "16 0 0 0 0" }, { "back 3", "0 0 0 0 0" },
 	};
 
-	trial_start(&trial);
-	TRIAL_PLAY(&trial, steps);
-	CHECK(trial_cabinet(trial.memory, 0)[CABINET_PENDING] == 0);
-	CHECK(trial_cabinet(trial.memory, 1)[CABINET_PENDING] == 0);
+	lent_start(&lent);
+	LENT_PLAY(&lent, steps);
+	CHECK(lent_cabinet(lent.memory, 0)[CABINET_PENDING] == 0);
+	CHECK(lent_cabinet(lent.memory, 1)[CABINET_PENDING] == 0);
 }
 
 /* Off: current, then next, go to the global next queue, done to the global done. */
 static void test_off_queues(void)
 {
-	static const struct trial_step retired[] = {
+	static const struct lent_step retired[] = {
 		{ "setup 1 2 6", "0 163 0 0 0" },
 		{ "add 0 1 1 1", "0 0 0 0 0" }, { "add 0 2 1 1", "0 1 0 0 0" },
 		{ "add 0 3 1 1", "0 2 0 0 0" }, { "add 0 4 1 1", "0 3 0 0 0" },
@@ -486,7 +486,7 @@ static void test_off_queues(void)
 		{ "del 0 2", "0 1 0 0 0" }, { "del 0 4", "0 3 0 0 0" }, /* 1 and 3 are next */
 		{ "off 0", "0 0 0 0 0" }, { "awaited", "0 1 1 2 4" },
 	};
-	static const struct trial_step reclaimed[] = {
+	static const struct lent_step reclaimed[] = {
 		{ "back 1", "0 0 0 0 0" }, { "back 1", "16 0 0 0 0" },
 		{ "clock 1", "0 2 3 1 0" }, { "pass 1 0", "0 0 0 0 0" },
 		{ "clock 1", "0 3 3 1 0" }, { "back 1", "16 0 0 0 0" },
@@ -496,21 +496,21 @@ static void test_off_queues(void)
 	};
 	uint32_t *global, *lane;
 
-	trial_start(&trial);
-	TRIAL_PLAY(&trial, retired);
-	global = trial_global(trial.memory);
+	lent_start(&lent);
+	LENT_PLAY(&lent, retired);
+	global = lent_global(lent.memory);
 	CHECK(global[GLOBAL_CURRENT + END_FIRST] == 2 && global[GLOBAL_CURRENT + END_LAST] == 3);
 	CHECK(global[GLOBAL_GENERATION] == 3 && global[GLOBAL_NEXT + END_FIRST] == PT_NONE);
-	lane = trial_lane(trial.memory, 0);
+	lane = lent_lane(lent.memory, 0);
 	CHECK(lane[LANE_FLAGS] == 0 && lane[LANE_GENERATION] == 0);
 	CHECK(lane[LANE_COUNTS] == 1); /* counts are kept */
-	TRIAL_PLAY(&trial, reclaimed);
+	LENT_PLAY(&lent, reclaimed);
 }
 
 /* A current queue whose generation is over still goes to the global next queue. */
 static void test_off_queue_over(void)
 {
-	static const struct trial_step steps[] = {
+	static const struct lent_step steps[] = {
 		{ "setup 1 2 4", "0 151 0 0 0" },
 		{ "add 0 1 1 1", "0 0 0 0 0" }, { "del 0 1", "0 0 0 0 0" },
 		{ "clock 0", "0 1 1 1 0" }, { "pass 0 0", "0 0 0 0 0" },
@@ -522,14 +522,14 @@ static void test_off_queue_over(void)
 		{ "back 1", "0 0 0 0 0" },
 	};
 
-	trial_start(&trial);
-	TRIAL_PLAY(&trial, steps);
+	lent_start(&lent);
+	LENT_PLAY(&lent, steps);
 }
 
 /* Off drops the lane's bit, and ends the grace period only with the last one. */
 static void test_off_last_bit(void)
 {
-	static const struct trial_step steps[] = {
+	static const struct lent_step steps[] = {
 		{ "setup 1 3 6", "0 182 0 0 0" },
 		{ "add 0 1 1 1", "0 0 0 0 0" }, { "del 0 1", "0 0 0 0 0" },
 		{ "clock 0", "0 1 1 1 0" }, { "pass 0 0", "0 0 0 0 0" },
@@ -542,14 +542,14 @@ static void test_off_last_bit(void)
 		{ "clock 0", "0 2 1 0 0" },
 	};
 
-	trial_start(&trial);
-	TRIAL_PLAY(&trial, steps);
+	lent_start(&lent);
+	LENT_PLAY(&lent, steps);
 }
 
 /* Off ends a grace period, and the requested one begins without the lane. */
 static void test_off_next_begun(void)
 {
-	static const struct trial_step steps[] = {
+	static const struct lent_step steps[] = {
 		{ "setup 1 3 6", "0 182 0 0 0" },
 		{ "add 0 1 1 1", "0 0 0 0 0" }, { "add 0 2 1 1", "0 1 0 0 0" },
 		{ "del 0 1", "0 0 0 0 0" }, { "clock 0", "0 1 1 1 0" },
@@ -566,14 +566,14 @@ static void test_off_next_begun(void)
 		{ "back 1", "16 0 0 0 0" },
 	};
 
-	trial_start(&trial);
-	TRIAL_PLAY(&trial, steps);
+	lent_start(&lent);
+	LENT_PLAY(&lent, steps);
 }
 
 /* Its retired slot waits for a grace period after the one that begins. */
 static void test_off_next_begun_with_slot(void)
 {
-	static const struct trial_step steps[] = {
+	static const struct lent_step steps[] = {
 		{ "setup 1 3 6", "0 182 0 0 0" },
 		{ "add 0 1 1 1", "0 0 0 0 0" }, { "add 0 2 1 1", "0 1 0 0 0" },
 		{ "add 0 3 1 1", "0 2 0 0 0" },
@@ -585,15 +585,15 @@ static void test_off_next_begun_with_slot(void)
 		{ "clock 0", "0 2 3 1 0" }, { "awaited", "0 2 0 3 3" },
 	};
 
-	trial_start(&trial);
-	TRIAL_PLAY(&trial, steps);
-	CHECK(trial_global(trial.memory)[GLOBAL_GENERATION] == 3);
+	lent_start(&lent);
+	LENT_PLAY(&lent, steps);
+	CHECK(lent_global(lent.memory)[GLOBAL_GENERATION] == 3);
 }
 
 /* With both waiting the lane's queue gets the current generation, the global one more. */
 static void test_lane_before_global(void)
 {
-	static const struct trial_step steps[] = {
+	static const struct lent_step steps[] = {
 		{ "setup 1 3 8", "0 194 0 0 0" },
 		{ "add 0 1 1 1", "0 0 0 0 0" }, { "add 0 2 1 1", "0 1 0 0 0" },
 		{ "add 0 3 1 1", "0 2 0 0 0" },
@@ -605,16 +605,16 @@ static void test_lane_before_global(void)
 		{ "back 0", "0 0 0 0 0" }, { "back 0", "16 0 0 0 0" },
 	};
 
-	trial_start(&trial);
-	TRIAL_PLAY(&trial, steps);
-	CHECK(trial_lane(trial.memory, 0)[LANE_GENERATION] == 2);
-	CHECK(trial_global(trial.memory)[GLOBAL_GENERATION] == 3);
+	lent_start(&lent);
+	LENT_PLAY(&lent, steps);
+	CHECK(lent_lane(lent.memory, 0)[LANE_GENERATION] == 2);
+	CHECK(lent_global(lent.memory)[GLOBAL_GENERATION] == 3);
 }
 
 /* Hand-back takes from the lane's done queue first, then from the global one. */
 static void test_hand_back_order(void)
 {
-	static const struct trial_step steps[] = {
+	static const struct lent_step steps[] = {
 		{ "setup 1 2 4", "0 151 0 0 0" },
 		{ "add 0 1 1 1", "0 0 0 0 0" }, { "add 0 2 1 1", "0 1 0 0 0" },
 		{ "del 1 1", "0 0 0 0 0" }, { "off 1", "0 0 0 0 0" },
@@ -625,8 +625,8 @@ static void test_hand_back_order(void)
 		{ "back 0", "0 1 0 0 0" }, { "back 0", "0 0 0 0 0" },
 	};
 
-	trial_start(&trial);
-	TRIAL_PLAY(&trial, steps);
+	lent_start(&lent);
+	LENT_PLAY(&lent, steps);
 }
 
 /* With fewer than five answer words nothing is written, whatever else is wrong. */
@@ -636,38 +636,38 @@ static void test_short_answers(void)
 		"setup 1 1 1", "add 0 6 1 1", "rep 0 5 1 1", "del 0 5", "begin 0", "end 1",
 		"start 1 5", "step 1", "pass 0 0", "clock 0", "on 9", "off 0", "back 0", "awaited",
 	};
-	static const uint32_t fill[4] = { TRIAL_FILL, TRIAL_FILL, TRIAL_FILL, TRIAL_FILL };
-	uint32_t before[TRIAL_WORDS];
+	static const uint32_t fill[4] = { LENT_FILL, LENT_FILL, LENT_FILL, LENT_FILL };
+	uint32_t before[LENT_WORDS];
 
-	memcpy(before, trial.memory, sizeof before);
+	memcpy(before, lent.memory, sizeof before);
 	for (int name = 0; name < CALLS; name++)
 		for (size_t length = 0; length < 5; length++) {
-			struct call call = trial_call(lines[name]);
+			struct call call = lent_call(lines[name]);
 			uint32_t *answer = length > 0 ? malloc(length * sizeof *answer) : NULL;
 
 			CHECK(length == 0 || answer != NULL);
 			if (length > 0)
 				memcpy(answer, fill, length * sizeof *answer);
-			CHECK(call_make(&tested, trial.memory, trial.words, answer, length,
+			CHECK(call_make(&tested, lent.memory, lent.words, answer, length,
 					&call) == 4294967295u);
 			CHECK(length == 0 || memcmp(answer, fill, length * sizeof *answer) == 0);
-			CHECK(memcmp(trial.memory, before, sizeof before) == 0);
+			CHECK(memcmp(lent.memory, before, sizeof before) == 0);
 			free(answer);
 		}
 }
 
 static void test_short_answers_first(void)
 {
-	static const struct trial_step steps[] = {
+	static const struct lent_step steps[] = {
 		{ "setup 1 2 3", "0 145 0 0 0" }, { "add 0 5 1 1", "0 0 0 0 0" },
 		{ "begin 1", "0 0 0 0 0" },
 	};
 
-	trial_start(&trial);
+	lent_start(&lent);
 	test_short_answers();
-	TRIAL_PLAY(&trial, steps);
+	LENT_PLAY(&lent, steps);
 	test_short_answers();
-	trial.words = 0;
+	lent.words = 0;
 	test_short_answers();
 }
 
@@ -681,10 +681,10 @@ static void test_no_memory(void)
 	CHECK(tested.clock(NULL, 0, NULL, 0, 0) == 4294967295u);
 }
 
-/* The words past the total change no answer; trial_make sees that they stay. */
+/* The words past the total change no answer; lent_make sees that they stay. */
 static void test_words_past_total(void)
 {
-	static const struct trial_step steps[] = {
+	static const struct lent_step steps[] = {
 		{ "setup 1 2 3", "0 145 0 0 0" }, { "add 0 17 25 1", "0 0 0 0 0" },
 		{ "begin 1", "0 0 0 0 0" }, { "start 1 17", "0 0 0 0 0" },
 		{ "del 0 17", "0 0 0 0 0" }, { "step 1", "0 1 0 25 1" },
@@ -695,11 +695,11 @@ static void test_words_past_total(void)
 
 	for (uint32_t fill = 0; fill < 3; fill++)
 		for (size_t words = 145; words < 150; words++) {
-			trial_start(&trial);
-			for (size_t n = 145; n < TRIAL_WORDS; n++)
-				trial.memory[n] = fill == 0 ? 0 : fill == 1 ? 1 : PT_NONE;
-			trial.words = words;
-			TRIAL_PLAY(&trial, steps);
+			lent_start(&lent);
+			for (size_t n = 145; n < LENT_WORDS; n++)
+				lent.memory[n] = fill == 0 ? 0 : fill == 1 ? 1 : PT_NONE;
+			lent.words = words;
+			LENT_PLAY(&lent, steps);
 		}
 }
 

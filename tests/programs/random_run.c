@@ -10,7 +10,7 @@
 
 #include "draw.h"
 #include "ledger.h"
-#include "trial.h"
+#include "lent.h"
 
 static const struct list lists[] = {
 	{ 1, 1, 1, 2, 1000, 1 },
@@ -26,7 +26,7 @@ static const struct list lists[] = {
 	{ 8, 8, 1024, 400, 1500, 4294967295u },
 };
 
-static struct trial trial;
+static struct lent lent;
 static struct ledger ledger;
 static uint64_t seed;
 static uint32_t *exact; /* the second memory */
@@ -37,7 +37,7 @@ static uint32_t found, absent, periods;
 
 static uint32_t draw(uint32_t below)
 {
-	return trial_random(&seed, below);
+	return draw_below(&seed, below);
 }
 
 static void complain(const struct call *call, const char *fault)
@@ -50,34 +50,34 @@ static void complain(const struct call *call, const char *fault)
 
 static void count_answer(const struct call *call, uint32_t generation)
 {
-	if (trial.answer[0] != PT_OK) {
-		CHECK(trial.answer[0] <= PT_NOTHING_DONE);
-		refused[trial.answer[0]]++;
+	if (lent.answer[0] != PT_OK) {
+		CHECK(lent.answer[0] <= PT_NOTHING_DONE);
+		refused[lent.answer[0]]++;
 		return;
 	}
 	accepted[call->name]++;
-	if (call->name == CALL_STEP && trial.answer[1] == PT_FOUND)
+	if (call->name == CALL_STEP && lent.answer[1] == PT_FOUND)
 		found++;
-	if (call->name == CALL_STEP && trial.answer[1] == PT_ABSENT)
+	if (call->name == CALL_STEP && lent.answer[1] == PT_ABSENT)
 		absent++;
-	if (trial_global(trial.memory)[GLOBAL_CURRENT_GENERATION] == generation + 1)
+	if (lent_global(lent.memory)[GLOBAL_CURRENT_GENERATION] == generation + 1)
 		periods++;
 }
 
-/* Makes the call with all checks; @lent is the length of the second memory. */
-static void make(const struct call *call, size_t lent)
+/* Makes the call with all checks; @length is that of the second memory. */
+static void make(const struct call *call, size_t length)
 {
-	uint32_t generation = trial_global(trial.memory)[GLOBAL_CURRENT_GENERATION];
+	uint32_t generation = lent_global(lent.memory)[GLOBAL_CURRENT_GENERATION];
 	uint32_t answer[PT_ANSWER_WORDS];
 	const char *fault;
 
-	trial_make(&trial, call);
-	call_make(&tested, exact, lent, answer, PT_ANSWER_WORDS, call);
-	CHECK(memcmp(answer, trial.answer, sizeof answer) == 0);
-	CHECK(memcmp(exact, trial.memory, lent * sizeof *exact) == 0);
-	fault = ledger_feed(&ledger, call, trial.answer);
+	lent_make(&lent, call);
+	call_make(&tested, exact, length, answer, PT_ANSWER_WORDS, call);
+	CHECK(memcmp(answer, lent.answer, sizeof answer) == 0);
+	CHECK(memcmp(exact, lent.memory, length * sizeof *exact) == 0);
+	fault = ledger_feed(&ledger, call, lent.answer);
 	if (fault == NULL)
-		fault = ledger_kept(&ledger, trial.memory);
+		fault = ledger_kept(&ledger, lent.memory);
 	if (fault != NULL)
 		complain(call, fault);
 	count_answer(call, generation);
@@ -86,9 +86,9 @@ static void make(const struct call *call, size_t lent)
 /* Makes the call with both memories a word short. */
 static void make_short(const struct call *call, size_t total)
 {
-	trial.words = total - 1;
+	lent.words = total - 1;
 	make(call, total - 1);
-	trial.words = TRIAL_WORDS;
+	lent.words = LENT_WORDS;
 }
 
 /* A lane finishes its lookup and its section, passes, and reclaims a slot. */
@@ -96,7 +96,7 @@ static void let_pass(uint32_t lane, size_t total)
 {
 	do
 		make(&(struct call){ CALL_STEP, { lane } }, total);
-	while (trial.answer[0] == PT_OK && trial.answer[1] == PT_GOING);
+	while (lent.answer[0] == PT_OK && lent.answer[1] == PT_GOING);
 	make(&(struct call){ CALL_END, { lane } }, total);
 	make(&(struct call){ CALL_CLOCK, { lane } }, total);
 	make(&(struct call){ CALL_PASS, { lane, draw(4) } }, total);
@@ -121,19 +121,19 @@ static void set_up(const struct list *list, size_t total)
 	struct call setup = { CALL_SETUP, { list->cabinets, list->lanes, list->slots } };
 	uint32_t *global;
 
-	trial_start(&trial);
-	memcpy(exact, trial.memory, total * sizeof *exact);
+	lent_start(&lent);
+	memcpy(exact, lent.memory, total * sizeof *exact);
 	ledger_reset(&ledger);
-	trial_make(&trial, &setup);
-	CHECK(trial.answer[1] == total);
+	lent_make(&lent, &setup);
+	CHECK(lent.answer[1] == total);
 	/* The list may begin at any generation; the ledger does not see it. */
-	global = trial_global(trial.memory);
+	global = lent_global(lent.memory);
 	global[GLOBAL_CURRENT_GENERATION] = list->generation;
 	global[GLOBAL_LARGEST_GENERATION] = list->generation - 1u;
 	for (uint32_t l = 0; l < list->cabinets * list->lanes; l++)
 		for (int kind = 0; kind < KINDS; kind++)
-			trial_lane(trial.memory, l)[LANE_COUNTS + kind] = PT_NONE - draw(4);
-	memcpy(exact, trial.memory, total * sizeof *exact);
+			lent_lane(lent.memory, l)[LANE_COUNTS + kind] = PT_NONE - draw(4);
+	memcpy(exact, lent.memory, total * sizeof *exact);
 	make_short(&setup, total);
 }
 

@@ -8,7 +8,8 @@
 #include <string.h>
 
 #include "reference.h"
-#include "trial.h"
+#include "draw.h"
+#include "lent.h"
 
 /* Addresses in the tables of this file, which have 2 cabinets, 2 lanes, 16 slots. */
 enum { TABLE_CABINETS = 2, TABLE_LANES = 4, TABLE_SLOTS = 16 };
@@ -34,9 +35,9 @@ struct damage {
 	struct poke poke[POKES];
 };
 
-static struct trial trial;
-static uint32_t fresh[TRIAL_WORDS];
-static uint32_t rich[TRIAL_WORDS];
+static struct lent lent;
+static uint32_t fresh[LENT_WORDS];
+static uint32_t rich[LENT_WORDS];
 
 /*
  * The rich table, generations 3 and 4: lane 0 reads with a lookup on slot 2, is
@@ -60,15 +61,15 @@ static const char *const rich_calls[] = {
 
 static void build(void)
 {
-	trial_start(&trial);
+	lent_start(&lent);
 	for (size_t n = 0; n < sizeof rich_calls / sizeof rich_calls[0]; n++) {
-		struct call call = trial_call(rich_calls[n]);
+		struct call call = lent_call(rich_calls[n]);
 
-		CHECK(trial_make(&trial, &call) == 0);
+		CHECK(lent_make(&lent, &call) == 0);
 		if (n == 0)
-			memcpy(fresh, trial.memory, sizeof fresh);
+			memcpy(fresh, lent.memory, sizeof fresh);
 	}
-	memcpy(rich, trial.memory, sizeof rich);
+	memcpy(rich, lent.memory, sizeof rich);
 	CHECK(rich[GLOBAL(GLOBAL_CURRENT_GENERATION)] == 3);
 	CHECK(rich[GLOBAL(GLOBAL_LARGEST_GENERATION)] == 4);
 	CHECK(rich[LANE(0, LANE_POSITION)] == 2 && rich[LANE(0, LANE_DONE)] == 6);
@@ -293,40 +294,40 @@ static const char *const calls[CALLS] = {
 
 static void damage(const uint32_t *base, const struct damage *damage)
 {
-	memcpy(trial.memory, base, sizeof trial.memory);
+	memcpy(lent.memory, base, sizeof lent.memory);
 	for (int n = 0; n < POKES; n++)
 		if (damage->poke[n].address != 0 || damage->poke[n].value != 0)
-			trial.memory[damage->poke[n].address] = damage->poke[n].value;
+			lent.memory[damage->poke[n].address] = damage->poke[n].value;
 }
 
-/* Every call but set-up refuses the memory; trial_make sees that no word changes. */
+/* Every call but set-up refuses the memory; lent_make sees that no word changes. */
 static void check_refused(const char *sentence)
 {
-	if (ref_legal(trial.memory, trial.words)) {
+	if (ref_legal(lent.memory, lent.words)) {
 		fprintf(stderr, "accepted against: %s\n", sentence);
 		exit(1);
 	}
 	for (int name = CALL_ADD; name < CALLS; name++) {
-		struct call call = trial_call(calls[name]);
+		struct call call = lent_call(calls[name]);
 
-		CHECK(trial_make(&trial, &call) == PT_NOT_LEGAL);
+		CHECK(lent_make(&lent, &call) == PT_NOT_LEGAL);
 	}
-	trial_expect(&trial, calls[CALL_SETUP], "0 262 0 0 0");
-	CHECK(memcmp(trial.memory, fresh, TABLE_WORDS * sizeof fresh[0]) == 0);
+	lent_expect(&lent, calls[CALL_SETUP], "0 262 0 0 0");
+	CHECK(memcmp(lent.memory, fresh, TABLE_WORDS * sizeof fresh[0]) == 0);
 }
 
-/* No call refuses the memory for not being legal; trial_make sees what it leaves. */
+/* No call refuses the memory for not being legal; lent_make sees what it leaves. */
 static void check_accepted(const uint32_t *base, const struct damage *odd)
 {
 	for (int name = CALL_SETUP; name < CALLS; name++) {
-		struct call call = trial_call(calls[name]);
+		struct call call = lent_call(calls[name]);
 
 		damage(base, odd);
-		if (!ref_legal(trial.memory, trial.words)) {
+		if (!ref_legal(lent.memory, lent.words)) {
 			fprintf(stderr, "refused: %s\n", odd->sentence);
 			exit(1);
 		}
-		CHECK(trial_make(&trial, &call) != PT_NOT_LEGAL);
+		CHECK(lent_make(&lent, &call) != PT_NOT_LEGAL);
 	}
 }
 
@@ -359,47 +360,47 @@ static void test_lengths(void)
 		CHECK(ref_legal(exact, words) == (words == TABLE_WORDS));
 		free(exact);
 	}
-	memcpy(trial.memory, rich, sizeof trial.memory);
-	trial.words = TABLE_WORDS - 1;
+	memcpy(lent.memory, rich, sizeof lent.memory);
+	lent.words = TABLE_WORDS - 1;
 	for (int name = CALL_ADD; name < CALLS; name++) {
-		struct call call = trial_call(calls[name]);
+		struct call call = lent_call(calls[name]);
 
-		CHECK(trial_make(&trial, &call) == PT_NOT_LEGAL);
+		CHECK(lent_make(&lent, &call) == PT_NOT_LEGAL);
 	}
-	trial.words = TRIAL_WORDS;
+	lent.words = LENT_WORDS;
 }
 
 /* A lookup goes on from an odd memory by the rule alone. */
 static void test_odd_lookups(void)
 {
 	/* Round and round among retired slots, then out of them by a poke. */
-	memcpy(trial.memory, rich, sizeof trial.memory);
-	trial.memory[SLOT(2, SLOT_CHAIN_LINK)] = 3;
-	trial.memory[SLOT(3, SLOT_CHAIN_LINK)] = 2;
+	memcpy(lent.memory, rich, sizeof lent.memory);
+	lent.memory[SLOT(2, SLOT_CHAIN_LINK)] = 3;
+	lent.memory[SLOT(3, SLOT_CHAIN_LINK)] = 2;
 	for (int n = 0; n < 9; n++)
-		trial_expect(&trial, "step 0", "0 0 0 0 0");
-	CHECK(trial.memory[LANE(0, LANE_POSITION)] == 3);
-	trial.memory[SLOT(3, SLOT_CHAIN_LINK)] = 0;
-	trial_expect(&trial, "step 0", "0 0 0 0 0");
-	trial_expect(&trial, "step 0", "0 1 0 10 1");
+		lent_expect(&lent, "step 0", "0 0 0 0 0");
+	CHECK(lent.memory[LANE(0, LANE_POSITION)] == 3);
+	lent.memory[SLOT(3, SLOT_CHAIN_LINK)] = 0;
+	lent_expect(&lent, "step 0", "0 0 0 0 0");
+	lent_expect(&lent, "step 0", "0 1 0 10 1");
 	/* A free slot holds code 0, and is found as that. */
-	memcpy(trial.memory, rich, sizeof trial.memory);
-	trial.memory[LANE(0, LANE_POSITION)] = 12;
-	trial_expect(&trial, "step 0", "0 1 12 0 0");
+	memcpy(lent.memory, rich, sizeof lent.memory);
+	lent.memory[LANE(0, LANE_POSITION)] = 12;
+	lent_expect(&lent, "step 0", "0 1 12 0 0");
 	/* All lanes offline: a lane goes on, and no call but on finds a lane online. */
 	damage(fresh, &odd_of_fresh[0]);
-	trial_expect(&trial, "clock 0", "5 0 0 0 0");
-	trial_expect(&trial, "off 0", "5 0 0 0 0");
-	trial_expect(&trial, "on 2", "0 0 0 0 0");
-	trial_expect(&trial, "clock 2", "0 1 0 0 0");
-	trial_expect(&trial, "off 2", "15 0 0 0 0");
+	lent_expect(&lent, "clock 0", "5 0 0 0 0");
+	lent_expect(&lent, "off 0", "5 0 0 0 0");
+	lent_expect(&lent, "on 2", "0 0 0 0 0");
+	lent_expect(&lent, "clock 2", "0 1 0 0 0");
+	lent_expect(&lent, "off 2", "15 0 0 0 0");
 }
 
 /* Checks a memory that may be legal or not: refused as a whole, or all is well. */
 static uint32_t check_either(const struct call *call)
 {
-	bool legal = ref_legal(trial.memory, trial.words);
-	uint32_t status = trial_make(&trial, call);
+	bool legal = ref_legal(lent.memory, lent.words);
+	uint32_t status = lent_make(&lent, call);
 
 	CHECK(call->name == CALL_SETUP ? status == PT_OK : (status == PT_NOT_LEGAL) == !legal);
 	return legal ? 1 : 0;
@@ -416,10 +417,10 @@ static void test_every_word(void)
 
 	for (uint32_t address = 0; address < TABLE_WORDS; address++)
 		for (size_t n = 0; n < COUNT(values); n++) {
-			struct call call = trial_call(calls[tried % CALLS]);
+			struct call call = lent_call(calls[tried % CALLS]);
 
-			memcpy(trial.memory, rich, sizeof trial.memory);
-			trial.memory[address] = values[n];
+			memcpy(lent.memory, rich, sizeof lent.memory);
+			lent.memory[address] = values[n];
 			legal += check_either(&call);
 			tried++;
 		}
@@ -434,12 +435,12 @@ static void test_random_words(void)
 	uint32_t legal = 0, tried = 0;
 
 	while (tried < 6000) {
-		struct call call = trial_call(calls[tried % CALLS]);
+		struct call call = lent_call(calls[tried % CALLS]);
 
-		memcpy(trial.memory, tried % 2 ? rich : fresh, sizeof trial.memory);
+		memcpy(lent.memory, tried % 2 ? rich : fresh, sizeof lent.memory);
 		for (int n = 0; n < 3; n++)
-			trial.memory[trial_random(&random, TABLE_WORDS)] =
-				trial_random(&random, 18) - 1u;
+			lent.memory[draw_below(&random, TABLE_WORDS)] =
+				draw_below(&random, 18) - 1u;
 		legal += check_either(&call);
 		tried++;
 	}
@@ -452,13 +453,13 @@ static void test_no_meaning(void)
 	uint64_t random = 11;
 
 	for (uint32_t n = 0; n < 3000; n++) {
-		uint32_t words = trial_random(&random, TABLE_WORDS + 20);
+		uint32_t words = draw_below(&random, TABLE_WORDS + 20);
 		uint32_t below = n % 3 == 0 ? NONE : n % 3 == 1 ? 2 : TABLE_SLOTS + 1;
 		uint32_t *exact = malloc((words > 0 ? words : 1) * sizeof *exact);
 
 		CHECK(exact != NULL);
 		for (uint32_t at = 0; at < words; at++)
-			exact[at] = trial_random(&random, below) - (n % 2);
+			exact[at] = draw_below(&random, below) - (n % 2);
 		if (n % 4 != 0)
 			memcpy(exact, rich, sizeof *exact *
 				(words < CONTENTS_WORDS ? words : CONTENTS_WORDS));

@@ -3,7 +3,6 @@
  * line in, five words or "bad" a line out. It reads the file that its argument
  * names, or the standard input.
  */
-#include <inttypes.h>
 #include <stdbool.h>
 #include <stdio.h>
 
@@ -18,6 +17,7 @@ static uint32_t memory[LISTING_WORDS];
 static void answer_line(const struct line *line)
 {
 	uint32_t answer[PT_ANSWER_WORDS];
+	char text[LINE_TEXT];
 	struct call call;
 
 	if (!line_call(line, &call)) {
@@ -25,8 +25,8 @@ static void answer_line(const struct line *line)
 		return;
 	}
 	call_make(&tested, memory, LISTING_WORDS, answer, PT_ANSWER_WORDS, &call);
-	printf("%" PRIu32 " %" PRIu32 " %" PRIu32 " %" PRIu32 " %" PRIu32 "\n",
-		answer[0], answer[1], answer[2], answer[3], answer[4]);
+	line_answer(answer, text);
+	puts(text);
 }
 
 /* Answers each line; a last line without a newline counts if it has a byte. */

@@ -13,7 +13,7 @@
 #include <stdio.h>
 #include <string.h>
 
-#include "trial.h"
+#include "lent.h"
 
 /* Lane 0's queues: lengths, and the generation of the current one. */
 struct queues {
@@ -114,13 +114,13 @@ static const struct row table_4[] = {
 		{ 0, 0, 0, 0 }, "" },
 };
 
-static struct trial trial;
+static struct lent lent;
 
 static void make(const char *line)
 {
-	struct call call = trial_call(line);
+	struct call call = lent_call(line);
 
-	CHECK(trial_make(&trial, &call) == PT_OK);
+	CHECK(lent_make(&lent, &call) == PT_OK);
 }
 
 /* The lanes from @from to @to each take a snapshot, pass and show it. */
@@ -130,9 +130,9 @@ static void others(uint32_t from, uint32_t to)
 		struct call clock = { CALL_CLOCK, { lane } };
 		struct call pass = { CALL_PASS, { lane, PT_IDLE } };
 
-		CHECK(trial_make(&trial, &clock) == PT_OK);
-		CHECK(trial_make(&trial, &pass) == PT_OK);
-		CHECK(trial_make(&trial, &clock) == PT_OK);
+		CHECK(lent_make(&lent, &clock) == PT_OK);
+		CHECK(lent_make(&lent, &pass) == PT_OK);
+		CHECK(lent_make(&lent, &clock) == PT_OK);
 	}
 }
 
@@ -157,20 +157,20 @@ static void make_all(const char *calls)
 
 static void check_row(const struct row *row)
 {
-	uint32_t *memory = trial.memory;
-	const uint32_t *global = trial_global(memory);
-	const uint32_t *lane = trial_lane(memory, 0);
+	uint32_t *memory = lent.memory;
+	const uint32_t *global = lent_global(memory);
+	const uint32_t *lane = lent_lane(memory, 0);
 
 	CHECK(global[GLOBAL_CURRENT_GENERATION] == row->current);
 	CHECK(global[GLOBAL_LARGEST_GENERATION] == row->largest);
 	CHECK(global[GLOBAL_PENDING] == row->cabinets);
-	CHECK(trial_cabinet(memory, 0)[CABINET_PENDING] == row->lanes);
+	CHECK(lent_cabinet(memory, 0)[CABINET_PENDING] == row->lanes);
 	CHECK(memcmp(lane + LANE_COUNTS, row->counts, sizeof row->counts) == 0);
 	CHECK(((lane[LANE_FLAGS] & FLAG_SNAPSHOT) != 0) == row->held);
 	CHECK(memcmp(lane + LANE_SNAPSHOT, row->snapshot, sizeof row->snapshot) == 0);
-	CHECK(trial_queue_length(memory, lane + LANE_NEXT) == row->queues.next);
-	CHECK(trial_queue_length(memory, lane + LANE_CURRENT) == row->queues.current);
-	CHECK(trial_queue_length(memory, lane + LANE_DONE) == row->queues.done);
+	CHECK(lent_queue_length(memory, lane + LANE_NEXT) == row->queues.next);
+	CHECK(lent_queue_length(memory, lane + LANE_CURRENT) == row->queues.current);
+	CHECK(lent_queue_length(memory, lane + LANE_DONE) == row->queues.done);
 	CHECK(lane[LANE_GENERATION] == row->queues.generation);
 }
 
@@ -199,7 +199,7 @@ static void replay(const char *table, const struct row *rows, size_t count)
  */
 static void replay_three_lanes(void)
 {
-	static const struct trial_step steps[] = {
+	static const struct lent_step steps[] = {
 		{ "setup 1 3 4", "0 170 0 0 0" },
 		{ "add 0 1 1 1", "0 0 0 0 0" }, { "add 0 2 1 1", "0 1 0 0 0" },
 		{ "add 0 3 1 1", "0 2 0 0 0" },
@@ -211,26 +211,26 @@ static void replay_three_lanes(void)
 		{ "pass 2 0", "0 0 0 0 0" }, { "clock 2", "0 2 3 1 0" },
 	};
 
-	trial_start(&trial);
-	TRIAL_PLAY(&trial, steps);
-	CHECK(trial_lane(trial.memory, 2)[LANE_CURRENT + END_FIRST] == 2);
-	CHECK(trial_lane(trial.memory, 2)[LANE_GENERATION] == 3);
+	lent_start(&lent);
+	LENT_PLAY(&lent, steps);
+	CHECK(lent_lane(lent.memory, 2)[LANE_CURRENT + END_FIRST] == 2);
+	CHECK(lent_lane(lent.memory, 2)[LANE_GENERATION] == 3);
 	puts("three lanes: lane 2's queue has generation 3 (the paper's order gives 2)");
 }
 
 int main(void)
 {
-	trial_start(&trial);
+	lent_start(&lent);
 	make("setup 2 4 16");
 	for (uint32_t code = 100; code < 105; code++) {
 		struct call add = { CALL_ADD, { 0, code, 25, 1 } };
 
-		CHECK(trial_make(&trial, &add) == PT_OK);
+		CHECK(lent_make(&lent, &add) == PT_OK);
 	}
 	REPLAY("table 3", table_3);
 	REPLAY("table 4", table_4);
-	trial_expect(&trial, "awaited", "0 0 4294967295 15 1");
-	CHECK(trial_queue_length(trial.memory, trial_lane(trial.memory, 1) + LANE_DONE) == 1);
+	lent_expect(&lent, "awaited", "0 0 4294967295 15 1");
+	CHECK(lent_queue_length(lent.memory, lent_lane(lent.memory, 1) + LANE_DONE) == 1);
 	replay_three_lanes();
 	return 0;
 }

@@ -7,18 +7,18 @@
 #include <string.h>
 
 #include "ledger.h"
-#include "trial.h"
+#include "lent.h"
 
 static struct ledger ledger;
 
 /* Feeds the steps; returns the fault of the last one. The others have none. */
-static const char *feed(const struct trial_step *steps, size_t count)
+static const char *feed(const struct lent_step *steps, size_t count)
 {
 	const char *fault = NULL;
 
 	ledger_reset(&ledger);
 	for (size_t n = 0; n < count; n++) {
-		struct call call = trial_call(steps[n].call);
+		struct call call = lent_call(steps[n].call);
 		uint32_t answer[PT_ANSWER_WORDS];
 		char *text = (char *)steps[n].answer;
 
@@ -34,9 +34,9 @@ static const char *feed(const struct trial_step *steps, size_t count)
 /* The list with another last answer. */
 #define FAULT(steps, last) fault(steps, sizeof(steps) / sizeof((steps)[0]), last)
 
-static const char *fault(const struct trial_step *steps, size_t count, const char *last)
+static const char *fault(const struct lent_step *steps, size_t count, const char *last)
 {
-	struct trial_step changed[32];
+	struct lent_step changed[32];
 
 	CHECK(count <= 32);
 	memcpy(changed, steps, count * sizeof changed[0]);
@@ -51,12 +51,12 @@ static bool says(const char *fault, const char *part)
 
 static void test_whole_search(void)
 {
-	static const struct trial_step present[] = {
+	static const struct lent_step present[] = {
 		{ "setup 1 2 3", "0 145 0 0 0" }, { "add 0 17 25 1", "0 0 0 0 0" },
 		{ "begin 1", "0 0 0 0 0" }, { "start 1 17", "0 0 0 0 0" },
 		{ "step 1", "0 1 0 25 1" },
 	};
-	static const struct trial_step absent[] = {
+	static const struct lent_step absent[] = {
 		{ "setup 1 2 3", "0 145 0 0 0" }, { "add 0 17 25 1", "0 0 0 0 0" },
 		{ "begin 1", "0 0 0 0 0" }, { "start 1 18", "0 0 0 0 0" },
 		{ "step 1", "0 0 0 0 0" }, { "step 1", "0 2 0 0 0" },
@@ -75,18 +75,18 @@ static void test_whole_search(void)
 /* Instants before the start explain nothing, those from it on do. */
 static void test_instants(void)
 {
-	static const struct trial_step during[] = {
+	static const struct lent_step during[] = {
 		{ "setup 1 2 3", "0 145 0 0 0" }, { "add 0 17 25 1", "0 0 0 0 0" },
 		{ "begin 1", "0 0 0 0 0" }, { "start 1 17", "0 0 0 0 0" },
 		{ "rep 0 17 26 2", "0 1 0 0 0" }, { "del 0 17", "0 1 0 0 0" },
 		{ "add 0 17 27 3", "0 2 0 0 0" }, { "step 1", "0 1 1 26 2" },
 	};
-	static const struct trial_step before[] = {
+	static const struct lent_step before[] = {
 		{ "setup 1 2 3", "0 145 0 0 0" }, { "add 0 17 25 1", "0 0 0 0 0" },
 		{ "begin 1", "0 0 0 0 0" }, { "rep 0 17 26 2", "0 1 0 0 0" },
 		{ "start 1 17", "0 0 0 0 0" }, { "step 1", "0 1 1 26 2" },
 	};
-	static const struct trial_step replaced[] = {
+	static const struct lent_step replaced[] = {
 		{ "setup 1 2 3", "0 145 0 0 0" }, { "add 0 17 25 1", "0 0 0 0 0" },
 		{ "begin 1", "0 0 0 0 0" }, { "start 1 17", "0 0 0 0 0" },
 		{ "rep 0 17 26 2", "0 1 0 0 0" }, { "step 1", "0 1 0 25 1" },
@@ -106,23 +106,23 @@ static void test_instants(void)
 
 static void test_hand_back(void)
 {
-	static const struct trial_step open[] = {
+	static const struct lent_step open[] = {
 		{ "setup 1 3 3", "0 164 0 0 0" }, { "add 0 17 25 1", "0 0 0 0 0" },
 		{ "begin 2", "0 0 0 0 0" }, { "del 0 17", "0 0 0 0 0" },
 		{ "begin 1", "0 0 0 0 0" }, { "back 0", "16 0 0 0 0" },
 	};
-	static const struct trial_step ended[] = {
+	static const struct lent_step ended[] = {
 		{ "setup 1 3 3", "0 164 0 0 0" }, { "add 0 17 25 1", "0 0 0 0 0" },
 		{ "begin 2", "0 0 0 0 0" }, { "del 0 17", "0 0 0 0 0" },
 		{ "begin 1", "0 0 0 0 0" }, { "end 2", "0 0 0 0 0" },
 		{ "begin 2", "0 0 0 0 0" }, { "back 0", "0 0 0 0 0" },
 	};
-	static const struct trial_step twice[] = {
+	static const struct lent_step twice[] = {
 		{ "setup 1 3 3", "0 164 0 0 0" }, { "add 0 17 25 1", "0 0 0 0 0" },
 		{ "del 0 17", "0 0 0 0 0" }, { "back 0", "0 0 0 0 0" },
 		{ "back 0", "16 0 0 0 0" },
 	};
-	static const struct trial_step setup_anew[] = {
+	static const struct lent_step setup_anew[] = {
 		{ "setup 1 3 3", "0 164 0 0 0" }, { "add 0 17 25 1", "0 0 0 0 0" },
 		{ "del 0 17", "0 0 0 0 0" }, { "setup 1 3 0", "1 0 0 0 0" },
 		{ "setup 1 3 3", "0 164 0 0 0" }, { "back 0", "16 0 0 0 0" },
@@ -140,11 +140,11 @@ static void test_hand_back(void)
 
 static void test_slots(void)
 {
-	static const struct trial_step adds[] = {
+	static const struct lent_step adds[] = {
 		{ "setup 1 2 3", "0 145 0 0 0" }, { "add 0 17 25 1", "0 0 0 0 0" },
 		{ "add 0 18 25 1", "0 1 0 0 0" },
 	};
-	static const struct trial_step removed[] = {
+	static const struct lent_step removed[] = {
 		{ "setup 1 2 3", "0 145 0 0 0" }, { "add 0 17 25 1", "0 0 0 0 0" },
 		{ "add 0 18 25 1", "0 1 0 0 0" }, { "del 0 17", "0 0 0 0 0" },
 	};
@@ -164,29 +164,29 @@ static void test_kept(void)
 		"setup 1 2 3", "add 0 4294967313 25 1", "begin 1", "start 1 4294967313", "step 1",
 		"del 0 4294967313",
 	};
-	static struct trial trial;
+	static struct lent lent;
 	struct call end = { CALL_END, { 1 } };
 	uint32_t *slot;
 
-	trial_start(&trial);
+	lent_start(&lent);
 	for (size_t n = 0; n < sizeof lines / sizeof lines[0]; n++) {
-		struct call call = trial_call(lines[n]);
+		struct call call = lent_call(lines[n]);
 
-		CHECK(trial_make(&trial, &call) == PT_OK);
-		CHECK(ledger_feed(&ledger, &call, trial.answer) == NULL);
-		CHECK(ledger_kept(&ledger, trial.memory) == NULL);
+		CHECK(lent_make(&lent, &call) == PT_OK);
+		CHECK(ledger_feed(&ledger, &call, lent.answer) == NULL);
+		CHECK(ledger_kept(&ledger, lent.memory) == NULL);
 	}
-	slot = trial_slot(trial.memory, 0);
+	slot = lent_slot(lent.memory, 0);
 	for (int word = SLOT_CODE; word <= SLOT_MATERIAL; word++) {
 		slot[word]++;
-		CHECK(says(ledger_kept(&ledger, trial.memory), "lost its record"));
+		CHECK(says(ledger_kept(&ledger, lent.memory), "lost its record"));
 		slot[word]--;
 	}
-	CHECK(ledger_kept(&ledger, trial.memory) == NULL);
+	CHECK(ledger_kept(&ledger, lent.memory) == NULL);
 	slot[SLOT_DEPOSIT] = 0;
-	CHECK(trial_make(&trial, &end) == PT_OK);
-	CHECK(ledger_feed(&ledger, &end, trial.answer) == NULL);
-	CHECK(ledger_kept(&ledger, trial.memory) == NULL);
+	CHECK(lent_make(&lent, &end) == PT_OK);
+	CHECK(ledger_feed(&ledger, &end, lent.answer) == NULL);
+	CHECK(ledger_kept(&ledger, lent.memory) == NULL);
 }
 
 int main(void)

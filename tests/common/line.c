@@ -3,6 +3,8 @@
  */
 #include "line.h"
 
+#include <inttypes.h>
+#include <stdio.h>
 #include <string.h>
 
 void line_start(struct line *line)
@@ -66,7 +68,7 @@ bool line_call(const struct line *line, struct call *call)
 
 	while (name < CALLS && !command_is(line, call_forms[name].command))
 		name++;
-	if (line->bad || name == CALLS || line->numbers != call_forms[name].arguments)
+	if (line->bad || name == CALLS || line->numbers != call_arguments((enum call_name)name))
 		return false;
 	if (line->numbers > 0 && line->digits == 0)
 		return false;
@@ -77,4 +79,28 @@ bool line_call(const struct line *line, struct call *call)
 		call->argument[n] = line->number[n];
 	}
 	return true;
+}
+
+void line_text(const struct call *call, char text[LINE_TEXT])
+{
+	int at = snprintf(text, LINE_TEXT, "%s", call_forms[call->name].command);
+
+	for (uint32_t n = 0; n < call_arguments(call->name); n++)
+		at += snprintf(text + at, LINE_TEXT - (size_t)at, " %" PRIu64, call->argument[n]);
+}
+
+bool line_read(const char *text, struct call *call)
+{
+	struct line line;
+
+	line_start(&line);
+	for (const char *byte = text; *byte != '\0'; byte++)
+		line_byte(&line, (unsigned char)*byte);
+	return line_call(&line, call);
+}
+
+void line_answer(const uint32_t *answer, char text[LINE_TEXT])
+{
+	snprintf(text, LINE_TEXT, "%" PRIu32 " %" PRIu32 " %" PRIu32 " %" PRIu32 " %" PRIu32,
+		answer[0], answer[1], answer[2], answer[3], answer[4]);
 }
