@@ -7,10 +7,10 @@ use lib.ListN.{length}
 use lib.Dec.{leb, eqb}
 use Rattle.model.specs.Lists.{all, every, from}
 use Rattle.model.specs.State.{State}
-use Rattle.model.specs.Layout.{version, versionAt, bodiesAt, globalBody, globalLength, masksAt, laneLength, slotLength, chainCount, queueWidth, queuesWidth, headsAt, freeAt, globalQueuesAt, depositAt, materialAt, chainLinkAt, queueLinkAt, lookupAt, lanesBody, laneAddress, slotsBody, slotAddress, total}
+use Rattle.model.specs.Layout.{version, versionAt, bodiesAt, globalBody, globalLength, masksAt, laneLength, slotLength, chainCount, queueWidth, headsAt, freeAt, globalQueuesAt, depositAt, materialAt, chainLinkAt, queueLinkAt, lookupAt, lanesBody, laneAddress, slotsBody, slotAddress, total}
 use Rattle.model.specs.Rules.{wrongCode, wrongProduct}
 use Rattle.model.specs.Memory.{at, wide, sizes, slotWord, state}
-use Rattle.model.specs.Legal.{laneNumbers, slotNumbers, slotOrNone, laneLinksInRange, flagsInRange, masksInRange, standsOnce, lastsAgree, onTheirChains, noCodeTwice, snapshotsAtRest, lookupsAtRest, generationsAtRest, queueLinksAtRest, offLanes, lookupsInSections, snapshotsPending, cabinetBits, freeBlank, largestAgrees, laneGenerations, globalGeneration}
+use Rattle.model.specs.Legal.{laneNumbers, slotNumbers, slotOrNone, endsInRange, queuesInRange, laneLinksInRange, flagsInRange, masksInRange, standsOnce, lastsAgree, onTheirChains, noCodeTwice, snapshotsAtRest, lookupsAtRest, generationsAtRest, queueLinksAtRest, offLanes, lookupsInSections, snapshotsPending, cabinetBits, freeBlank, largestAgrees, laneGenerations, globalGeneration}
 use Rattle.slot_places.specs.Steps.{Step, several, chainSteps, queueSteps, laneSteps, freeKind, retiredKind}
 
 -- the sizes are in range, and the memory has the table's words
@@ -47,9 +47,9 @@ pub record Lanes (C P r : ℕ) : Type 0 where
   pub most : r ≤ 64
 
 module _ (m : List ℕ) where
-  -- chain heads and the global ends are in range
+  -- chain heads and the ends of the free and the global queues are in range
   abbrev pub headsInRange : Bool
-  headsInRange = all (λ (a : ℕ). slotOrNone m (at m a)) (from headsAt (chainCount + queueWidth + queuesWidth))
+  headsInRange = all (λ (k : ℕ). slotOrNone m (at m (headsAt + k))) (from 0 chainCount) && endsInRange m (at m) freeAt && queuesInRange m (at m) globalQueuesAt
 
   abbrev pub lookupCodesInRange : Bool
   lookupCodesInRange = all (λ (i : ℕ). not (wrongCode (wide m (laneAddress (sizes m) i + lookupAt)))) (laneNumbers m)
