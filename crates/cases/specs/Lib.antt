@@ -1,5 +1,7 @@
--- Cases of document 01, its traps, and the walk-throughs of document 000, each a table that the definitions of `model` compute.
+-- Cases of document 01, its traps, its ledger, damaged memories, and the walk-throughs of document 000, each a table that the definitions of `model` compute.
 pub mod Scripts
 pub mod Stars
+pub mod Ledgers
 pub mod Traps
+pub mod Damaged
 pub mod Replay

@@ -94,9 +94,9 @@ others = concatMap (λ (l : ℕ). clock l ∷ pass l 0 ∷ clock l ∷ [])
 abbrev pub otherLanes : List Op
 otherLanes = others (1 ∷ 2 ∷ 3 ∷ 4 ∷ 5 ∷ 6 ∷ 7 ∷ [])
 
--- codes 1 to 5
+-- five codes
 abbrev pub fiveAdds : List Op
-fiveAdds = add 0 1 25 1 ∷ add 0 2 25 1 ∷ add 0 3 25 1 ∷ add 0 4 25 1 ∷ add 0 5 25 1 ∷ []
+fiveAdds = add 0 17 25 1 ∷ add 0 24 25 1 ∷ add 0 31 25 1 ∷ add 0 48 25 1 ∷ add 0 55 25 1 ∷ []
 
 -- a single callback while the engine is idle
 abbrev pub table3 : List Stage
@@ -104,7 +104,7 @@ table3 =
     -- 1
     stage fiveAdds 1 0 0x0 0x0 (view 0 false 0 0 0 0 ∷ [])
     -- 2, 3
-    ∷ stage (delete 0 1 ∷ pass 0 0 ∷ []) 1 0 0x0 0x0 (view 0 false 0 1 0 0 ∷ [])
+    ∷ stage (delete 0 17 ∷ pass 0 0 ∷ []) 1 0 0x0 0x0 (view 0 false 0 1 0 0 ∷ [])
     -- 4 to 6
     ∷ stage (clock 0 ∷ []) 1 1 0x3 0xf (view 0 true 1 0 1 0 ∷ [])
     -- 7 to 9
@@ -121,17 +121,17 @@ table3 =
 abbrev pub table4 : List Stage
 table4 =
     -- 2 to 4
-    stage (delete 1 2 ∷ clock 0 ∷ pass 0 1 ∷ []) 2 1 0x0 0x0 (view 0 false 0 0 0 0 ∷ view 1 false 0 1 0 0 ∷ [])
+    stage (delete 1 24 ∷ clock 0 ∷ pass 0 1 ∷ []) 2 1 0x0 0x0 (view 0 false 0 0 0 0 ∷ view 1 false 0 1 0 0 ∷ [])
     -- 5
     ∷ stage (clock 1 ∷ []) 2 2 0x3 0xf (view 0 false 0 0 0 0 ∷ view 1 true 2 0 1 0 ∷ [])
     -- 6, 7
-    ∷ stage (pass 1 2 ∷ delete 0 3 ∷ []) 2 2 0x3 0xf (view 0 false 0 1 0 0 ∷ view 1 true 2 0 1 0 ∷ [])
+    ∷ stage (pass 1 2 ∷ delete 0 31 ∷ []) 2 2 0x3 0xf (view 0 false 0 1 0 0 ∷ view 1 true 2 0 1 0 ∷ [])
     -- 8, 9
-    ∷ stage (clock 1 ∷ delete 0 4 ∷ []) 2 2 0x3 0xd (view 0 false 0 2 0 0 ∷ view 1 false 2 0 1 0 ∷ [])
+    ∷ stage (clock 1 ∷ delete 0 48 ∷ []) 2 2 0x3 0xd (view 0 false 0 2 0 0 ∷ view 1 false 2 0 1 0 ∷ [])
     -- 10
     ∷ stage (clock 0 ∷ []) 2 3 0x3 0xd (view 0 true 3 0 2 0 ∷ [])
     -- 11, 12
-    ∷ stage (pass 0 3 ∷ delete 0 5 ∷ []) 2 3 0x3 0xd (view 0 true 3 1 2 0 ∷ [])
+    ∷ stage (pass 0 3 ∷ delete 0 55 ∷ []) 2 3 0x3 0xd (view 0 true 3 1 2 0 ∷ [])
     -- 13
     ∷ stage (others (2 ∷ 3 ∷ [])) 2 3 0x3 0x1 (view 0 true 3 1 2 0 ∷ [])
     -- 14
@@ -161,9 +161,9 @@ table4 =
 abbrev pub threeLanes : List Stage
 threeLanes =
     stage fiveAdds 1 0 0x0 0x0 (view 0 false 0 0 0 0 ∷ [])
-    ∷ stage (delete 0 1 ∷ delete 1 2 ∷ clock 0 ∷ pass 0 0 ∷ clock 0 ∷ []) 1 1 0x1 0x6 (view 0 false 1 0 1 0 ∷ view 1 false 0 1 0 0 ∷ [])
+    ∷ stage (delete 0 17 ∷ delete 1 24 ∷ clock 0 ∷ pass 0 0 ∷ clock 0 ∷ []) 1 1 0x1 0x6 (view 0 false 1 0 1 0 ∷ view 1 false 0 1 0 0 ∷ [])
     ∷ stage (clock 1 ∷ pass 1 0 ∷ clock 1 ∷ []) 1 2 0x1 0x4 (view 1 false 2 0 1 0 ∷ [])
-    ∷ stage (clock 2 ∷ delete 2 3 ∷ pass 2 0 ∷ clock 2 ∷ []) 2 3 0x1 0x7 (view 2 true 3 0 1 0 ∷ [])
+    ∷ stage (clock 2 ∷ delete 2 31 ∷ pass 2 0 ∷ clock 2 ∷ []) 2 3 0x1 0x7 (view 2 true 3 0 1 0 ∷ [])
     ∷ []
 
 abbrev pub walkthroughs : List Walkthrough

@@ -3,10 +3,10 @@ use Prim.Native.Nat.{ℕ, _<_}
 use mathlib.Core.Path.{_≡_, refl}
 use mathlib.Core.Bool.{true, false}
 use mathlib.Core.List.{List, [], _∷_, map}
-use native.Mathlib.Omega.{arith}
-use Rattle.model.specs.Word.{wordLimit, less, later}
+use Rattle.model.specs.Word.{wordLimit, later}
 use Rattle.model.specs.Rules.{add, replace, delete, begin, end, start, step, pass, clock, hand-back, awaited}
 use Rattle.model.specs.Calls.{set-up}
+use Rattle.laws.specs.Generations.{later-self}
 use Rattle.cases.specs.Scripts.{Line, line, op, Row, script, order, expected, run}
 
 -- the listing
@@ -37,7 +37,7 @@ abbrev pub missingFirst : List Line
 missingFirst =
     line (set-up 1 1 1) 0 114 0 0 0
     ∷ op (add 0 17 25 1) 0 0 0 0 0
-    ∷ op (replace 0 18 25 1) 13 0 0 0 0
+    ∷ op (replace 0 24 25 1) 13 0 0 0 0
     ∷ []
 
 -- a lookup stands on a slot that is then deleted, and goes on to what follows it
@@ -64,23 +64,18 @@ stars =
     ∷ order 0 4294967295 true
     ∷ order 4294967295 0 false
     ∷ order 0 0 false
-    ∷ order 7 7 false
     ∷ order 4294967295 4294967295 false
     ∷ script 16000 missingFirst
     ∷ script 16000 deletedUnderway
     ∷ []
 
--- each comes out
-pub stars-hold : map run stars ≡ map expected stars
+-- all of them
+pub record Stars : Type 0 where
+  -- each row comes out
+  pub table : map run stars ≡ map expected stars
+  -- and no generation at all is later than itself
+  pub notLaterThanItself : (g : ℕ) → g < wordLimit → later g g ≡ false
+
+pub stars-hold : Stars
 unfolding run expected
-stars-hold = refl
-
--- ---- the law for all words
-
-less-self : (g : ℕ) → g < wordLimit → less g g ≡ 0
-less-self g h = omega arith
-
--- no generation is later than itself
-pub later-self : (g : ℕ) → g < wordLimit → later g g ≡ false
-unfolding later
-later-self g h = rw (less-self g h)
+stars-hold = record { table = refl; notLaterThanItself = λ g b. later-self b }

@@ -10,13 +10,13 @@ abbrev pub chainLinkStays : List Line
 chainLinkStays =
     line (set-up 1 2 4) 0 151 0 0 0
     ∷ op (add 0 0 25 1) 0 0 0 0 0
-    ∷ op (add 0 64 30 2) 0 1 0 0 0
-    ∷ op (add 0 128 35 3) 0 2 0 0 0
-    ∷ op (add 0 1 40 4) 0 3 0 0 0
+    ∷ op (add 0 192 30 2) 0 1 0 0 0
+    ∷ op (add 0 512 35 3) 0 2 0 0 0
+    ∷ op (add 0 17 40 4) 0 3 0 0 0
     ∷ op (begin 1) 0 0 0 0 0
     ∷ op (start 1 0) 0 0 0 0 0
-    ∷ op (delete 0 128) 0 2 0 0 0
-    ∷ op (delete 0 1) 0 3 0 0 0
+    ∷ op (delete 0 512) 0 2 0 0 0
+    ∷ op (delete 0 17) 0 3 0 0 0
     ∷ op (step 1) 0 0 0 0 0
     ∷ op (step 1) 0 0 0 0 0
     ∷ op (step 1) 0 1 0 25 1
@@ -27,8 +27,8 @@ abbrev pub replacedInPlace : List Line
 replacedInPlace =
     line (set-up 1 2 4) 0 151 0 0 0
     ∷ op (add 0 0 25 1) 0 0 0 0 0
-    ∷ op (add 0 64 30 2) 0 1 0 0 0
-    ∷ op (add 0 128 35 3) 0 2 0 0 0
+    ∷ op (add 0 192 30 2) 0 1 0 0 0
+    ∷ op (add 0 512 35 3) 0 2 0 0 0
     ∷ op (begin 1) 0 0 0 0 0
     ∷ op (start 1 0) 0 0 0 0 0
     ∷ op (step 1) 0 0 0 0 0
@@ -42,14 +42,14 @@ abbrev pub noBatchJoins : List Line
 noBatchJoins =
     line (set-up 1 2 3) 0 145 0 0 0
     ∷ op (add 0 17 25 1) 0 0 0 0 0
-    ∷ op (add 0 18 25 1) 0 1 0 0 0
+    ∷ op (add 0 24 25 1) 0 1 0 0 0
     ∷ op (delete 0 17) 0 0 0 0 0
     ∷ op (clock 0) 0 1 1 1 0
     ∷ op (clock 1) 0 1 1 1 0
     ∷ op (pass 1 0) 0 0 0 0 0
     ∷ op (clock 1) 0 1 1 1 0
     ∷ op (begin 1) 0 0 0 0 0
-    ∷ op (delete 1 18) 0 1 0 0 0
+    ∷ op (delete 1 24) 0 1 0 0 0
     ∷ op (clock 1) 0 1 2 1 0
     ∷ op (pass 0 0) 0 0 0 0 0
     ∷ op (clock 0) 0 2 2 1 0
@@ -62,10 +62,10 @@ abbrev pub snapshotAnew : List Line
 snapshotAnew =
     line (set-up 1 2 3) 0 145 0 0 0
     ∷ op (add 0 17 25 1) 0 0 0 0 0
-    ∷ op (add 0 18 25 1) 0 1 0 0 0
+    ∷ op (add 0 24 25 1) 0 1 0 0 0
     ∷ op (delete 0 17) 0 0 0 0 0
     ∷ op (clock 0) 0 1 1 1 0
-    ∷ op (delete 1 18) 0 1 0 0 0
+    ∷ op (delete 1 24) 0 1 0 0 0
     ∷ op (clock 1) 0 1 2 1 0
     ∷ op (pass 1 0) 0 0 0 0 0
     ∷ op (clock 1) 0 1 2 1 0
@@ -114,12 +114,78 @@ freeInOrder =
     ∷ op (pass 0 0) 0 0 0 0 0
     ∷ op (clock 0) 0 2 1 0 0
     ∷ op (hand-back 0) 0 0 0 0 0
-    ∷ op (add 0 18 30 2) 0 1 0 0 0
-    ∷ op (add 0 19 35 3) 0 0 0 0 0
+    ∷ op (add 0 24 30 2) 0 1 0 0 0
+    ∷ op (add 0 31 35 3) 0 0 0 0 0
+    ∷ []
+
+-- A lookup stands on a slot whose code is then replaced, and goes on to what follows it: the removed slot keeps its chain link
+abbrev pub replacedUnderway : List Line
+replacedUnderway =
+    line (set-up 1 2 4) 0 151 0 0 0
+    ∷ op (add 0 0 25 1) 0 0 0 0 0
+    ∷ op (add 0 192 30 2) 0 1 0 0 0
+    ∷ op (begin 1) 0 0 0 0 0
+    ∷ op (start 1 0) 0 0 0 0 0
+    ∷ op (replace 0 192 35 3) 0 2 1 0 0
+    ∷ op (step 1) 0 0 0 0 0
+    ∷ op (step 1) 0 1 0 25 1
+    ∷ []
+
+-- A lane goes off with a slot in its current queue and one in its next: the current one's comes first, in the global queues and back
+abbrev pub offInOrder : List Line
+offInOrder =
+    line (set-up 1 2 3) 0 145 0 0 0
+    ∷ op (add 1 17 25 1) 0 0 0 0 0
+    ∷ op (add 1 24 25 1) 0 1 0 0 0
+    ∷ op (delete 1 17) 0 0 0 0 0
+    ∷ op (clock 1) 0 1 1 1 0
+    ∷ op (delete 1 24) 0 1 0 0 0
+    ∷ op (off 1) 0 0 0 0 0
+    ∷ op (clock 0) 0 1 2 1 0
+    ∷ op (pass 0 0) 0 0 0 0 0
+    ∷ op (clock 0) 0 2 2 1 0
+    ∷ op (pass 0 0) 0 0 0 0 0
+    ∷ op (clock 0) 0 3 2 0 0
+    ∷ op (hand-back 0) 0 0 0 0 0
+    ∷ op (hand-back 0) 0 1 0 0 0
+    ∷ []
+
+-- both done queues have a slot: the lane's comes back first, though the global one was done before
+abbrev pub ownFirst : List Line
+ownFirst =
+    line (set-up 1 2 3) 0 145 0 0 0
+    ∷ op (add 1 17 25 1) 0 0 0 0 0
+    ∷ op (add 0 24 25 1) 0 1 0 0 0
+    ∷ op (delete 1 17) 0 0 0 0 0
+    ∷ op (off 1) 0 0 0 0 0
+    ∷ op (delete 0 24) 0 1 0 0 0
+    ∷ op (clock 0) 0 1 2 1 0
+    ∷ op (pass 0 0) 0 0 0 0 0
+    ∷ op (clock 0) 0 2 2 1 0
+    ∷ op (pass 0 0) 0 0 0 0 0
+    ∷ op (clock 0) 0 3 2 0 0
+    ∷ op (hand-back 0) 0 1 0 0 0
+    ∷ op (hand-back 0) 0 0 0 0 0
+    ∷ []
+
+-- a slot that had a chain link comes back without it: the memory is legal, and the call after answers
+abbrev pub clearedLink : List Line
+clearedLink =
+    line (set-up 1 1 2) 0 120 0 0 0
+    ∷ op (add 0 0 25 1) 0 0 0 0 0
+    ∷ op (add 0 192 30 2) 0 1 0 0 0
+    ∷ op (delete 0 192) 0 1 0 0 0
+    ∷ op (clock 0) 0 1 1 1 0
+    ∷ op (pass 0 0) 0 0 0 0 0
+    ∷ op (clock 0) 0 2 1 0 0
+    ∷ op (hand-back 0) 0 1 0 0 0
+    ∷ op awaited 0 0 4294967295 1 0
     ∷ []
 
 abbrev pub traps : List Row
-traps = map (script 16000) (chainLinkStays ∷ replacedInPlace ∷ noBatchJoins ∷ snapshotAnew ∷ offWhileIdle ∷ offWaitsAnew ∷ freeInOrder ∷ [])
+traps =
+    map (script 200)
+    (chainLinkStays ∷ replacedInPlace ∷ noBatchJoins ∷ snapshotAnew ∷ offWhileIdle ∷ offWaitsAnew ∷ freeInOrder ∷ replacedUnderway ∷ offInOrder ∷ ownFirst ∷ clearedLink ∷ [])
 
 -- each script comes out
 pub traps-hold : map run traps ≡ map expected traps

@@ -1,4 +1,5 @@
--- The demands of document 01 over the calls that `table::make_call` answers. Made: a list of calls, each on the memory that the one before it left.
--- Demands: the theorems.
-pub mod Made
+-- Demands: the three demands of document 01 on the calls for C, a statement each. Proved: each holds. Runs: what its proof needs of calls made one
+-- after another.
 pub mod Demands
+pub mod Runs
+pub mod Proved

@@ -1,17 +1,18 @@
 -- The global words, the cabinets and the lanes: the check's three tests are the engine's part of legality. Assumes nothing.
-use Prim.Native.Nat.{ℕ, zero, suc, _+_, _*_, _/_, _%_, _^_, _≤_, _<_}
+use Prim.Native.Nat.{ℕ, zero, suc, _+_, _*_, _-_, _/_, _%_, _^_, _≤_, _<_}
 use mathlib.Core.Bool.{Bool, true, false, not, cond, _&&_, _||_}
 use mathlib.Core.Path.{_≡_, refl, ap, ap₂, sym, _∙_, subst}
 use mathlib.Core.List.{List, [], _∷_, map}
 use native.Mathlib.Omega.{arith}
+use native.Mathlib.Decide.{decLt}
 use native.Mathlib.Nat.{suc-mul, mul-le-mul-right, mul-add-mod-self-right, mul-add-div-right, mod-eq-of-lt, div-eq-of-lt, mul-comm, mul-assoc, mul-add, mod-lt, div-lt-iff-lt-mul, div-add-mod'}
 use lib.Dec.{leb, ltb, eqb}
 use Rattle.model.specs.Lists.{all, every, from, isEmpty}
 use Rattle.model.specs.State.{Lane, isRunning, isHeld}
-use Rattle.model.specs.Layout.{laneAddress, lanesBody}
+use Rattle.model.specs.Layout.{chainCount, lastOffset, queueWidth, queuesWidth, currentOffset, doneOffset, headsAt, freeAt, globalQueuesAt, laneAddress, lanesBody}
 use Rattle.model.specs.Memory.{at, flag, sizes, maskWord, state, readLane, readQueues}
-use Rattle.model.specs.Legal.{implies, flagsInRange, masksInRange, laneLinksInRange, snapshotsAtRest, lookupsAtRest, generationAtRest, generationsAtRest, noneQueued, offLanes, lookupsInSections, snapshotsPending, cabinetBits, largestFits, laneGenerationFits, globalGenerationFits, periodRuns, largestAgrees, laneGenerations, globalGeneration}
-use Rattle.laws.specs.Tests.{Every, every-true, every-intro, and-true, and-intro, all-below, all-below-intro, bool-cases, clash}
+use Rattle.model.specs.Legal.{implies, slotOrNone, flagsInRange, masksInRange, laneLinksInRange, snapshotsAtRest, lookupsAtRest, generationAtRest, generationsAtRest, noneQueued, offLanes, lookupsInSections, snapshotsPending, cabinetBits, largestFits, laneGenerationFits, globalGenerationFits, periodRuns, largestAgrees, laneGenerations, globalGeneration}
+use Rattle.laws.specs.Tests.{Every, every-true, every-intro, and-true, and-intro, all-from, all-from-intro, all-below, all-below-intro, bool-cases, clash}
 use Rattle.engine_legality.specs.Lanes.{laneFits, cabinetLanes, allLanes, cabinetFits, allCabinets, headsFit, globalFits, globalWordsFit}
 use Rattle.engine_legality.specs.Sentences.{headsInRange, lookupCodesInRange, engineLegal}
 use Rattle.engine_legality.proofs.LaneLaws.{laneSentences, empty-queue, lane-said, said-lane}
@@ -103,6 +104,55 @@ cabinet-split P mask bit h = and-true _ _ h
 cabinets-each : (m : List ℕ) (C P c : ℕ) → allCabinets m C P ≡ true → c < C → cabinetFits P (maskWord m c) (flag c (at m 14)) ≡ true
 unfolding allCabinets
 cabinets-each m C P c h = all-below (λ (c : ℕ). cabinetFits P (maskWord m c) (flag c (at m 14))) C c h
+
+-- ---- chain heads, and the ends of the free and the global queues: the run of words that the check tests
+
+module _ (m : List ℕ) where
+  abbrev link : ℕ → Bool
+  link a = slotOrNone m (at m a)
+
+  heads-said : headsFit m (at m 3) ≡ true → headsInRange m ≡ true
+  unfolding headsFit
+  heads-said h =
+      let word : (k : ℕ) → k < chainCount + queueWidth + queuesWidth → link (headsAt + k) ≡ true = λ k b. all-from link headsAt _ k h b in
+      let queue : (k : ℕ) → k + lastOffset < chainCount + queueWidth + queuesWidth → (link (headsAt + k) && link (headsAt + (k + lastOffset))) ≡ true =
+      λ k b. and-intro _ _ (word k (omega arith)) (word (k + lastOffset) b) in
+      let owner = chainCount + queueWidth in
+      and-intro _ _
+      (and-intro _ _ (all-below-intro _ _ (λ k b. word k (omega arith))) (queue chainCount (omega arith)))
+      (and-intro _ _ (and-intro _ _ (queue owner (omega arith)) (queue (owner + currentOffset) (omega arith))) (queue (owner + doneOffset) (omega arith)))
+
+  said-heads : headsInRange m ≡ true → headsFit m (at m 3) ≡ true
+  unfolding headsFit
+  said-heads h =
+      let (front, owners) = and-true _ _ h in
+      let (heads, free) = and-true _ _ front in
+      let (waiting, done) = and-true _ _ owners in
+      let (next, current) = and-true _ _ waiting in
+      all-from-intro link headsAt _ (λ k b. word heads (and-true _ _ free) (and-true _ _ next) (and-true _ _ current) (and-true _ _ done) k b)
+    where
+      word : all (λ (k : ℕ). link (headsAt + k)) (from 0 chainCount) ≡ true
+          → (link freeAt ≡ true) × (link (freeAt + lastOffset) ≡ true)
+          → (link globalQueuesAt ≡ true) × (link (globalQueuesAt + lastOffset) ≡ true)
+          → (link (globalQueuesAt + currentOffset) ≡ true) × (link (globalQueuesAt + currentOffset + lastOffset) ≡ true)
+          → (link (globalQueuesAt + doneOffset) ≡ true) × (link (globalQueuesAt + doneOffset + lastOffset) ≡ true)
+          → (k : ℕ) → k < chainCount + queueWidth + queuesWidth → link (headsAt + k) ≡ true
+      word heads free next current done k b =
+          elim (decLt k chainCount) [
+            | yes p ↦ all-below _ _ k heads p
+            | no p ↦ let e : headsAt + k ≡ freeAt + (k - chainCount) = omega arith in ap link e ∙ end (k - chainCount) (omega arith)
+          ]
+        where
+          end : (k : ℕ) → k < queueWidth + queuesWidth → link (freeAt + k) ≡ true
+          end zero b = free .0
+          end (suc zero) b = free .1
+          end (suc (suc zero)) b = next .0
+          end (suc (suc (suc zero))) b = next .1
+          end (suc (suc (suc (suc zero)))) b = current .0
+          end (suc (suc (suc (suc (suc zero))))) b = current .1
+          end (suc (suc (suc (suc (suc (suc zero)))))) b = done .0
+          end (suc (suc (suc (suc (suc (suc (suc zero))))))) b = done .1
+          end (suc (suc (suc (suc (suc (suc (suc (suc k)))))))) b = absurd (omega arith)
 
 -- ---- what the engine's sentences say
 
@@ -219,14 +269,14 @@ module _ (m : List ℕ) where
   tests = globalWordsFit m (at m 1) (at m 3) && (allCabinets m (at m 1) (at m 2) && allLanes m (at m 3) (at m 1) (at m 2) (lanesBody (sizes m)))
 
   said-tests : EngineSaid m → tests ≡ true
-  unfolding globalWordsFit allCabinets headsFit
+  unfolding globalWordsFit allCabinets
   said-tests s =
       and-intro _ _
-      (and-intro _ _ (and-intro _ _ (and-intro _ _ (s .mask) (s .largest)) (global-eq ∙ and-intro _ _ (s .rest) (s .generation))) (s .heads))
+      (and-intro _ _ (and-intro _ _ (and-intro _ _ (s .mask) (s .largest)) (global-eq ∙ and-intro _ _ (s .rest) (s .generation))) (said-heads m (s .heads)))
       (and-intro _ _ (all-below-intro _ _ (s .cabinets)) (each-lanes m (λ i b. said-lane m i (s .lanes i b))))
 
   tests-said : tests ≡ true → EngineSaid m
-  unfolding globalWordsFit headsFit
+  unfolding globalWordsFit
   tests-said h =
       let t = and-true _ _ h in
       let u = and-true _ _ (t .1) in
@@ -238,7 +288,7 @@ module _ (m : List ℕ) where
         lanes = λ i b. lane-said m i (lanes-each m (u .1) i b);
         mask = g₂ .0;
         cabinets = λ c b. cabinets-each m _ _ c (u .0) b;
-        heads = g .1;
+        heads = heads-said m (g .1);
         rest = q .0;
         largest = g₂ .1;
         generation = q .1;

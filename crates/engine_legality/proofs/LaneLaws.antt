@@ -12,8 +12,8 @@ use Rattle.model.specs.State.{isRunning, isHeld}
 use Rattle.model.specs.Layout.{flagsAt, snapshotAt, kinds, generationAt, queuesAt, currentOffset, doneOffset, lookupAt, positionAt, laneAddress}
 use Rattle.model.specs.Rules.{wrongCode}
 use Rattle.model.specs.Memory.{at, wide, flag, sizes, maskWord, laneWord, slotField, walk, readQueue, readLookup, readSnapshot, readLane}
-use Rattle.model.specs.Legal.{implies, laneLinksInRange, generationAtRest, noneQueued, laneGenerationFits, periodRuns}
-use Rattle.laws.specs.Tests.{Every, and-true, and-intro}
+use Rattle.model.specs.Legal.{implies, slotOrNone, laneLinksInRange, generationAtRest, noneQueued, laneGenerationFits, periodRuns}
+use Rattle.laws.specs.Tests.{Every, and-true, and-intro, and-true-right}
 use Rattle.laws.specs.Lists.{length-map-from}
 use Rattle.engine_legality.specs.Lanes.{laneFits, emptyFirst}
 
@@ -39,6 +39,15 @@ held-flag : (m : List ℕ) (a : ℕ) (b : Bool) → isHeld (readSnapshot m a b) 
 unfolding isHeld
 held-flag m a true = refl
 held-flag m a false = refl
+
+-- six tests one after another, and by queues of two
+by-queues : (a b c d e f : Bool) → (a && (b && (c && (d && (e && (f && true)))))) ≡ ((a && b) && (c && d) && (e && f))
+by-queues false b c d e f = refl
+by-queues true false c d e f = refl
+by-queues true true false d e f = refl
+by-queues true true true false e f = refl
+by-queues true true true true false f = refl
+by-queues true true true true true f = and-true-right f
 
 -- ---- the sentences of lane i
 
@@ -100,8 +109,10 @@ module _ (m : List ℕ) (i : ℕ) where
       && ((ltb (at m (b + 14)) S || eqb (at m (b + 14)) none) && ((ltb (at m (b + 15)) S || eqb (at m (b + 15)) none) && true))))))
       && (ltb (at m (b + 18)) S || eqb (at m (b + 18)) none)
       ≡ laneLinksInRange m i
-  unfolding all from
-  links-eq = refl
+  links-eq = ap (λ (x : Bool). x && slotOrNone m (laneWord m i positionAt)) (by-queues (end 0) (end 1) (end 2) (end 3) (end 4) (end 5))
+    where
+      end : ℕ → Bool
+      end k = slotOrNone m (laneWord m i (queuesAt + k))
 
   snapshot-eq : (flag 3 (at m b) || (eqb (at m (b + 5)) 0 && (eqb (at m (b + 6)) 0 && (eqb (at m (b + 7)) 0 && (eqb (at m (b + 8)) 0 && true))))) ≡ snapshotRestSaid
   unfolding all from

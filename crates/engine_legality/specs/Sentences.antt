@@ -1,17 +1,17 @@
 -- Legality's sentences about the global words, the cabinets and the lanes: all that speak of no slot.
 use Prim.Native.Nat.{ℕ, _+_}
-use mathlib.Core.Bool.{Bool, not}
+use mathlib.Core.Bool.{Bool, not, _&&_}
 use mathlib.Core.List.{List, [], _∷_}
 use Rattle.model.specs.Lists.{all, every, from}
-use Rattle.model.specs.Layout.{chainCount, queueWidth, queuesWidth, headsAt, lookupAt, laneAddress}
+use Rattle.model.specs.Layout.{chainCount, headsAt, freeAt, globalQueuesAt, lookupAt, laneAddress}
 use Rattle.model.specs.Rules.{wrongCode}
 use Rattle.model.specs.Memory.{at, wide, sizes, state}
-use Rattle.model.specs.Legal.{laneNumbers, slotOrNone, laneLinksInRange, flagsInRange, masksInRange, snapshotsAtRest, lookupsAtRest, generationsAtRest, offLanes, lookupsInSections, snapshotsPending, cabinetBits, largestAgrees, laneGenerations, globalGeneration}
+use Rattle.model.specs.Legal.{laneNumbers, slotOrNone, endsInRange, queuesInRange, laneLinksInRange, flagsInRange, masksInRange, snapshotsAtRest, lookupsAtRest, generationsAtRest, offLanes, lookupsInSections, snapshotsPending, cabinetBits, largestAgrees, laneGenerations, globalGeneration}
 
 module _ (m : List ℕ) where
-  -- chain heads and the global ends are in range
+  -- chain heads and the ends of the free and the global queues are in range
   abbrev pub headsInRange : Bool
-  headsInRange = all (λ (a : ℕ). slotOrNone m (at m a)) (from headsAt (chainCount + queueWidth + queuesWidth))
+  headsInRange = all (λ (k : ℕ). slotOrNone m (at m (headsAt + k))) (from 0 chainCount) && endsInRange m (at m) freeAt && queuesInRange m (at m) globalQueuesAt
 
   abbrev pub lookupCodesInRange : Bool
   lookupCodesInRange = all (λ (i : ℕ). not (wrongCode (wide m (laneAddress (sizes m) i + lookupAt)))) (laneNumbers m)

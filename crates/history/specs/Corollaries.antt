@@ -4,7 +4,7 @@ use Prim.Native.Nat.{ℕ, _≤_}
 use mathlib.Core.Path.{_≡_, refl, sym, ap, subst, _∙_}
 use mathlib.Core.Logic.{_≢_}
 use mathlib.Core.Bool.{true}
-use mathlib.Core.List.{List, [], List·Memᴰ, List·Memᴰ·not-nil}
+use mathlib.Core.List.{List, [], append-nil, List·Memᴰ, List·Memᴰ·not-nil}
 use native.Mathlib.Omega.{arith}
 use lib.ListN.{length, length-append}
 use Rattle.model.specs.Lists.{first}
@@ -55,15 +55,16 @@ SameTwice h m =
 
 -- ---- what was found is no other product's
 
--- The slot that the answer r found, while the finder's section has not ended: it holds no other code than the one looked for, and the next add or
+-- The slot that the answer r found, while the finder's section, x, has not ended: it holds no other code than the one looked for, and the next add or
 -- replace does not answer it
 pub record NotAnother (h : List Event) (m : List ℕ) (i : ℕ) (r : Answer) (before : List Event) : Type 0 where
   pub finder : Section
   pub isOpen : List·Memᴰ finder (ledger before .sections)
   pub ofLane : finder .lane ≡ i
-  pub sameCode : List·Memᴰ finder (ledger h .sections) → (q : Search) → List·Memᴰ q (ledger before .searches) → q .lane ≡ i
-      → (c d k : ℕ) → Holds m (r .b) c d k → c ≡ q .code
-  pub notGiven : List·Memᴰ finder (ledger h .sections) → (o : Op) → Enters o → reply m (on-state o) .status ≡ 0 → reply m (on-state o) .a ≢ r .b
+  pub sameCode : (x : Section) → List·Memᴰ x (ledger before .sections) → x .lane ≡ i → List·Memᴰ x (ledger h .sections)
+      → (q : Search) → List·Memᴰ q (ledger before .searches) → q .lane ≡ i → (c d k : ℕ) → Holds m (r .b) c d k → c ≡ q .code
+  pub notGiven : (x : Section) → List·Memᴰ x (ledger before .sections) → x .lane ≡ i → List·Memᴰ x (ledger h .sections)
+      → (o : Op) → Enters o → reply m (on-state o) .status ≡ 0 → reply m (on-state o) .a ≢ r .b
 
 abbrev pub NeverAnother : List Event → List ℕ → Type 0
 NeverAnother h m = (i : ℕ) (r : Answer) (c : Came h (stepEvent i r)) → r .status ≡ 0 → r .a ≡ 1 → NotAnother h m i r (c .before)
@@ -132,8 +133,8 @@ never-another m c p n ok ks s i r a b w = go (found-end m₀ ks (fresh (sized c 
       finder = f .finder;
       isOpen = f .isOpen;
       ofLane = f .ofLane;
-      sameCode = λ z q j e b d k o. sym (o .code) ∙ found-holds m₀ ks (fresh (sized c p n)) i r (a .before) f z q j e .code;
-      notGiven = λ z o w t e. other z (rw e at (reply-unused (f .invariant) (f .stands) o w t));
+      sameCode = λ x u l z q j e b d k o. sym (o .code) ∙ found-holds m₀ ks (fresh (sized c p n)) i r (a .before) f (rw (f .onlyFinder x u l) at z) q j e .code;
+      notGiven = λ x u l z o w t e. other (rw (f .onlyFinder x u l) at z) (rw e at (reply-unused (f .invariant) (f .stands) o w t));
     }
       where
         other : List·Memᴰ (f .finder) (ledger h .sections) → Unused (f .state) (ledger h) (r .b) → ⊥
@@ -144,7 +145,10 @@ never-another m c p n ok ks s i r a b w = go (found-end m₀ ks (fresh (sized c 
 pub sections-one : EveryList (λ (h : List Event) (m : List ℕ). OneSection (ledger h))
 unfolding ledgerFrom
 sections-one m c p n ok ks r =
-    one-section (events m₀ ks) ks [] (fresh (sized c p n)) m₀ (at-set-up m c p n ok ks r) (λ a b l k e. absurd (List·Memᴰ·not-nil l))
+    one-section h ks [] (fresh (sized c p n)) m₀ (at-set-up m c p n ok ks r) (λ a b l k e. absurd (List·Memᴰ·not-nil l)) h [] (sym (append-nil h))
   where
     m₀ : List ℕ
     m₀ = left m (set-up c p n)
+
+    h : List Event
+    h = events m₀ ks

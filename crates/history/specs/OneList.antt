@@ -2,7 +2,7 @@
 use Prim.Native.Nat.{ℕ, _<_}
 use mathlib.Core.Path.{_≡_, sym, ap, subst, _∙_}
 use mathlib.Core.Bool.{true}
-use mathlib.Core.List.{List, [], _∷_, List·Memᴰ}
+use mathlib.Core.List.{List, [], _∷_, List·Memᴰ, List·Memᴰ·not-nil}
 use native.Mathlib.Omega.{arith}
 use lib.ListN.{length}
 use Rattle.model.specs.State.{Product, State}
@@ -10,13 +10,14 @@ use Rattle.model.specs.Table.{blank, product, productAt}
 use Rattle.model.specs.Rules.{Op, step, hand-back, Answer, answer}
 use Rattle.model.specs.Memory.{at, wide, sizes, readProduct, state}
 use Rattle.model.specs.Calls.{Call, on-state, reply, leftAll}
-use Rattle.model.specs.Ledger.{Section, Search, Event, ledger, isAnswer, events, Came, Explained, Holds, Kept, Returned, stepEvent, handBackEvent}
+use Rattle.model.specs.Ledger.{Section, Search, Event, ledgerFrom, ledger, isAnswer, events, Came, Explained, Holds, Kept, Returned, stepEvent, handBackEvent}
 use Rattle.laws.specs.Lists.{getD-map-below}
 use Rattle.history.specs.Invariant.{Invariant, Held}
 use Rattle.history.specs.Answers.{Answered, Found, Ended, step-answered, step-found, anchored-inside, handBack-ended}
 use Rattle.history.specs.Stands.{Stands, reply-on}
 use Rattle.history.specs.Lists.{At, Point, point, End, to-end}
 use Rattle.history.specs.Instants.{past}
+use Rattle.history.specs.OneSection.{OneSection, one-section}
 
 -- ---- what a slot's words hold
 
@@ -88,6 +89,7 @@ module _ (m : List ℕ) (ks : List Call) (s : State) where
     pub finder : Section
     pub isOpen : List·Memᴰ finder (ledger before .sections)
     pub ofLane : finder .lane ≡ i
+    pub onlyFinder : (x : Section) → List·Memᴰ x (ledger before .sections) → x .lane ≡ i → x ≡ finder
     pub state : State
     pub stands : Stands state (leftAll m ks)
     pub invariant : Invariant (past h) (length h) state (ledger h)
@@ -96,14 +98,19 @@ module _ (m : List ℕ) (ks : List Call) (s : State) where
     pub held : Held (length h) (state .table) (ledger h) finder (r .b) (product code (r .c) (r .d))
 
   pub found-end : At h [] s m ks → (i : ℕ) (r : Answer) (c : Came h (stepEvent i r)) → r .status ≡ 0 → r .a ≡ 1 → FoundEnd i r (c .before)
+  unfolding ledgerFrom
   found-end a i r c b w = go (moment a (step i) r c)
     where
+      one : OneSection (ledger (c .before))
+      one = one-section h ks [] s m a (λ a b l k e. absurd (List·Memᴰ·not-nil l)) (c .before) (stepEvent i r ∷ c .rest) (c .all)
+
       ends : (p : Moment (step i) r (c .before)) → Found (length (c .before)) (p .state) (ledger (c .before)) i r
           → End h (c .before) (p .state) (leftAll (p .memory) (on-state (step i) ∷ p .calls)) → FoundEnd i r (c .before)
       ends p f n = record {
         finder = f .finder;
         isOpen = f .isOpen;
         ofLane = f .ofLane;
+        onlyFinder = λ x o l. one x (f .finder) o (f .isOpen) (l ∙ sym (f .ofLane));
         state = n .state;
         stands = rw (p .ends) at (n .stands);
         invariant = n .invariant;
@@ -129,7 +136,7 @@ module _ (m : List ℕ) (ks : List Call) (s : State) where
   kept-list a i r c b w = go (found-end a i r c b w)
     where
       go : FoundEnd i r (c .before) → Kept h (leftAll m ks) i r (c .before)
-      go f = record { finder = f .finder; isOpen = f .isOpen; ofLane = f .ofLane; holds = λ q j e z. found-holds i r (c .before) f z q j e }
+      go f = record { finder = f .finder; isOpen = f .isOpen; ofLane = f .ofLane; holds = λ x o l q j e z. found-holds i r (c .before) f (rw (f .onlyFinder x o l) at z) q j e }
 
   pub returned-list : At h [] s m ks → (i : ℕ) (r : Answer) (c : Came h (handBackEvent i r)) → r .status ≡ 0 → Returned r (c .before)
   returned-list a i r c b = go (moment a (hand-back i) r c)

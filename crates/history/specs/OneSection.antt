@@ -3,7 +3,8 @@ use Prim.Native.Nat.{ℕ, suc}
 use mathlib.Core.Path.{_≡_, sym, ap, subst, _∙_}
 use mathlib.Core.Logic.{_⊎_, inl, inr}
 use mathlib.Core.Bool.{false}
-use mathlib.Core.List.{List, [], _∷_, _++_, append-nil, List·Memᴰ, List·Memᴰ·cases-cons}
+use mathlib.Core.List.{List, [], _∷_, _++_, append-nil, nil≢cons, head-eq-of-cons-eq, tail-eq-of-cons-eq, List·Memᴰ, List·Memᴰ·cases-cons}
+use lib.Seq.{append-snoc}
 use native.Mathlib.Omega.{arith}
 use Rattle.model.specs.State.{State}
 use Rattle.model.specs.Rules.{Op, add, replace, delete, begin, end, start, step, pass, clock, on, off, hand-back, awaited}
@@ -71,11 +72,15 @@ module _ (h : List Event) where
   one-later done s m (on-state o) ks a v =
       rw (ledger-snoc done (event m (on-state o)), reply-on (a .stands) o) (one-next (a .invariant) v o)
 
-  -- at the end of the list
+  -- at any instant of the list
   pub one-section : (ks : List Call) (done : List Event) (s : State) (m : List ℕ) → At h done s m ks → OneSection (ledger done)
-      → OneSection (ledger h)
+      → (before rest : List Event) → events m ks ≡ before ++ rest → OneSection (ledger (done ++ before))
   unfolding events
-  one-section [] done s m a v = subst (λ (d : List Event). OneSection (ledger d)) (sym (a .all ∙ append-nil done)) v
-  one-section (k ∷ ks) done s m a v =
+  one-section ks done s m a v [] rest p = rw append-nil v
+  one-section [] done s m a v (b ∷ before) rest p = absurd (nil≢cons p)
+  one-section (k ∷ ks) done s m a v (b ∷ before) rest p =
       let l = later h done s m k ks a in
-      one-section ks (done ++ (event m k ∷ [])) (l .state) (left m k) (l .at) (one-later done s m k ks a v)
+      regroup (head-eq-of-cons-eq p) (one-section ks (done ++ (event m k ∷ [])) (l .state) (left m k) (l .at) (one-later done s m k ks a v) before rest (tail-eq-of-cons-eq p))
+    where
+      regroup : {x : Event} → x ≡ b → OneSection (ledger ((done ++ (x ∷ [])) ++ before)) → OneSection (ledger (done ++ (b ∷ before)))
+      regroup q o = rw (← q, ← append-snoc) o

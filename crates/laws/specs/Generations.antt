@@ -36,6 +36,11 @@ module _ {c : ℕ} (h : c < wordLimit) where
 
 -- ---- the order
 
+-- the generation after the largest word is 0, and it is later
+pub wrapped-later : later 0 4294967295 ≡ true
+unfolding later
+wrapped-later = refl
+
 module _ {c : ℕ} (h : c < wordLimit) where
   -- none is later than itself
   pub later-self : later c c ≡ false

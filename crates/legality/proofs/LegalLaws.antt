@@ -23,8 +23,8 @@ module _ (m : List ℕ) where
       let e₈ = e₄ .1 .1 .1 .1 in
       let e₁₂ = e₈ .1 .1 .1 .1 in
       and-intro _ _
-      (every-intro _ (e .0, (e .1 .0, (links .0, (links .1 .0, (fields .1, (e₈ .0, (e₈ .1 .0, (e₈ .1 .1 .0, (e₁₂ .0, (e₁₂ .1 .0, (e₁₂ .1 .1 .0, (e₁₂ .1 .1 .1 .0, (e₁₂ .1 .1 .1 .1 .1 .0, (e₁₂ .1 .1 .1 .1 .1 .1 .0, (e₁₂ .1 .1 .1 .1 .1 .1 .1 .0, tt))))))))))))))))
-      (every-intro _ (links .1 .1 .0, (links .1 .1 .1 .0, (fields .0, (e₄ .0, (e₄ .1 .0, (e₄ .1 .1 .0, (e₄ .1 .1 .1 .0, (e₈ .1 .1 .1 .0, (e₁₂ .1 .1 .1 .1 .0, tt))))))))))
+      (every-intro _ (e .0, (e .1 .0, (and-intro _ _ (and-intro _ _ (links .0) (links .1 .0)) (links .1 .1 .0), (links .1 .1 .1 .0, (fields .1, (e₈ .0, (e₈ .1 .0, (e₈ .1 .1 .0, (e₁₂ .0, (e₁₂ .1 .0, (e₁₂ .1 .1 .0, (e₁₂ .1 .1 .1 .0, (e₁₂ .1 .1 .1 .1 .1 .0, (e₁₂ .1 .1 .1 .1 .1 .1 .0, (e₁₂ .1 .1 .1 .1 .1 .1 .1 .0, tt))))))))))))))))
+      (every-intro _ (links .1 .1 .1 .1 .0, (links .1 .1 .1 .1 .1 .0, (fields .0, (e₄ .0, (e₄ .1 .0, (e₄ .1 .1 .0, (e₄ .1 .1 .1 .0, (e₈ .1 .1 .1 .0, (e₁₂ .1 .1 .1 .1 .0, tt))))))))))
 
   join : (engineLegal m && tableLegal m) ≡ true → every (sentences m (state m)) ≡ true
   unfolding engineLegal tableLegal linksInRange fieldsInRange
@@ -32,6 +32,8 @@ module _ (m : List ℕ) where
       let b = and-true (engineLegal m) (tableLegal m) h in
       let e = every-true _ (b .0) in
       let t = every-true _ (b .1) in
+      let ends = and-true _ _ (e .1 .1 .0) in
+      let front = and-true _ _ (ends .0) in
       let e₅ = e .1 .1 .1 .1 .1 in
       let e₈ = e₅ .1 .1 .1 in
       let e₁₂ = e₈ .1 .1 .1 .1 in
@@ -41,7 +43,7 @@ module _ (m : List ℕ) where
         (
           e .1 .0,
           (
-            every-intro _ (e .1 .1 .0, (e .1 .1 .1 .0, (t .0, (t .1 .0, tt)))),
+            every-intro _ (front .0, (front .1, (ends .1, (e .1 .1 .1 .0, (t .0, (t .1 .0, tt)))))),
             (
               and-intro _ _ (t .1 .1 .0) (e .1 .1 .1 .1 .0),
               (

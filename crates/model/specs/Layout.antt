@@ -114,9 +114,25 @@ globalLength = globalGenerationAt + 1 - globalBody
 abbrev pub masksAt : ℕ
 masksAt = globalBody + globalLength
 
+-- ---- a lane's flags: bit 0 on, 1 section open, 2 lookup running, 3 snapshot held
+
+abbrev pub onlineBit : ℕ
+onlineBit = 0
+
+abbrev pub readingBit : ℕ
+readingBit = onlineBit + 1
+
+abbrev pub lookupBit : ℕ
+lookupBit = readingBit + 1
+
+abbrev pub snapshotBit : ℕ
+snapshotBit = lookupBit + 1
+
+abbrev pub flagCount : ℕ
+flagCount = snapshotBit + 1
+
 -- ---- a lane's record, 19 words: offsets
 
--- bit 0 on, 1 section open, 2 lookup running, 3 snapshot held
 abbrev pub flagsAt : ℕ
 flagsAt = 0
 

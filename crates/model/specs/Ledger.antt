@@ -170,12 +170,15 @@ pub record Holds (m : List ℕ) (x c d k : ℕ) : Type 0 where
   pub deposit : at m (slotAddress (sizes m) x + depositAt) ≡ d
   pub material : at m (slotAddress (sizes m) x + materialAt) ≡ k
 
--- while the finder's section has not ended, the found slot holds the code looked for, and the deposit and material answered; m is the memory after h
+-- a section is open on lane i at the answer, and whichever is (the finder's): while it has not ended, the found slot holds the code looked for, and the
+-- deposit and material answered; m is the memory after h
 pub record Kept (h : List Event) (m : List ℕ) (i : ℕ) (r : Answer) (before : List Event) : Type 0 where
   pub finder : Section
   pub isOpen : List·Memᴰ finder (ledger before .sections)
   pub ofLane : finder .lane ≡ i
-  pub holds : (q : Search) → List·Memᴰ q (ledger before .searches) → q .lane ≡ i → List·Memᴰ finder (ledger h .sections) → Holds m (r .b) (q .code) (r .c) (r .d)
+  pub holds : (x : Section) → List·Memᴰ x (ledger before .sections) → x .lane ≡ i
+      → (q : Search) → List·Memᴰ q (ledger before .searches) → q .lane ≡ i
+      → List·Memᴰ x (ledger h .sections) → Holds m (r .b) (q .code) (r .c) (r .d)
 
 -- the slot handed back was out, and each section open at its removal had ended
 pub record Returned (r : Answer) (before : List Event) : Type 0 where

@@ -8,7 +8,7 @@ use lib.Dec.{leb, ltb, eqb}
 use Rattle.model.specs.Word.{none, up, down, later}
 use Rattle.model.specs.Lists.{all, every, isEmpty, from, last, concat, count, member, same, distinct}
 use Rattle.model.specs.State.{Sizes, laneCount, isRunning, isHeld, Queues, Lane, State}
-use Rattle.model.specs.Layout.{maxCabinets, maxPlaces, maxSlots, kinds, chainCount, contentsLength, lastOffset, queueWidth, queuesWidth, currentOffset, doneOffset, cabinetMaskAt, headsAt, freeAt, globalQueuesAt, flagsAt, snapshotAt, queuesAt, lookupAt, positionAt, depositAt, materialAt, chainLinkAt, queueLinkAt, laneAddress, slotAddress, total}
+use Rattle.model.specs.Layout.{maxCabinets, maxPlaces, maxSlots, kinds, chainCount, contentsLength, lastOffset, currentOffset, doneOffset, cabinetMaskAt, headsAt, freeAt, globalQueuesAt, lookupBit, snapshotBit, flagCount, flagsAt, snapshotAt, queuesAt, lookupAt, positionAt, depositAt, materialAt, chainLinkAt, queueLinkAt, laneAddress, slotAddress, total}
 use Rattle.model.specs.Engine.{laneAt}
 use Rattle.model.specs.Table.{productAt, chainNumber}
 use Rattle.model.specs.Rules.{wrongCode, wrongProduct}
@@ -48,7 +48,7 @@ module _ (m : List ℕ) where
 
   -- flags are in range
   unfoldable pub flagsInRange : Bool
-  flagsInRange = all (λ (i : ℕ). ltb (laneWord m i flagsAt) 16) laneNumbers
+  flagsInRange = all (λ (i : ℕ). ltb (laneWord m i flagsAt) (2 ^ flagCount)) laneNumbers
 
   -- masks are in range
   unfoldable pub masksInRange : Bool
@@ -58,13 +58,23 @@ module _ (m : List ℕ) where
   abbrev pub slotOrNone : ℕ → Bool
   slotOrNone x = ltb x (sizes m .slots) || eqb x none
 
-  abbrev pub laneLinksInRange : ℕ → Bool
-  laneLinksInRange i = all (λ (k : ℕ). slotOrNone (laneWord m i k)) (from queuesAt queuesWidth) && slotOrNone (laneWord m i positionAt)
+  -- first and last of a queue, which stand at k among these words
+  abbrev pub endsInRange : (ℕ → ℕ) → ℕ → Bool
+  endsInRange word k = slotOrNone (word k) && slotOrNone (word (k + lastOffset))
 
-  -- links are in range: chain heads and the global ends; the lanes' ends and lookup positions; the slots' links
+  -- of the next, current and done queues, whose ends stand from k on
+  abbrev pub queuesInRange : (ℕ → ℕ) → ℕ → Bool
+  queuesInRange word k = endsInRange word k && endsInRange word (k + currentOffset) && endsInRange word (k + doneOffset)
+
+  abbrev pub laneLinksInRange : ℕ → Bool
+  laneLinksInRange i = queuesInRange (laneWord m i) queuesAt && slotOrNone (laneWord m i positionAt)
+
+  -- links are in range: chain heads and the ends of the free and the global queues; the lanes' ends and lookup positions; the slots' links
   abbrev pub linkSentences : List Bool
   linkSentences =
-      all (λ (a : ℕ). slotOrNone (at m a)) (from headsAt (chainCount + queueWidth + queuesWidth))
+      all (λ (k : ℕ). slotOrNone (at m (headsAt + k))) (from 0 chainCount)
+      ∷ endsInRange (at m) freeAt
+      ∷ queuesInRange (at m) globalQueuesAt
       ∷ all laneLinksInRange laneNumbers
       ∷ all (λ (i : ℕ). slotOrNone (slotWord m chainLinkAt i)) slotNumbers
       ∷ all (λ (i : ℕ). slotOrNone (slotWord m queueLinkAt i)) slotNumbers
@@ -122,13 +132,13 @@ noCodeTwice s = distinct (map (codeOf s) (concat (s .table .chains)))
 module _ (m : List ℕ) where
   -- snapshot counts without a snapshot: 0
   unfoldable pub snapshotsAtRest : Bool
-  snapshotsAtRest = all (λ (i : ℕ). flag 3 (laneWord m i flagsAt) || all (λ (k : ℕ). eqb (laneWord m i k) 0) (from snapshotAt kinds)) (laneNumbers m)
+  snapshotsAtRest = all (λ (i : ℕ). flag snapshotBit (laneWord m i flagsAt) || all (λ (k : ℕ). eqb (laneWord m i k) 0) (from snapshotAt kinds)) (laneNumbers m)
 
   -- lookup words without a lookup: 0, and none for the position
   unfoldable pub lookupsAtRest : Bool
   lookupsAtRest =
       all
-      (λ (i : ℕ). flag 2 (laneWord m i flagsAt)
+      (λ (i : ℕ). flag lookupBit (laneWord m i flagsAt)
       || every (eqb (laneWord m i lookupAt) 0 ∷ eqb (laneWord m i (lookupAt + 1)) 0 ∷ eqb (laneWord m i positionAt) none ∷ []))
       (laneNumbers m)
 

@@ -7,7 +7,7 @@ use lib.Dec.{leb, eqb}
 use Rattle.model.specs.Word.{wordLimit, none}
 use Rattle.model.specs.Lists.{first, last, from, concat, concatMap, successorIn, member, bit, mask}
 use Rattle.model.specs.State.{Sizes, laneCount, Lookup, idle, running, isRunning, Snapshot, unheld, held, isHeld, Queues, Lane, Product, Table, State}
-use Rattle.model.specs.Layout.{chainCount, version, cabinetsAt, placesAt, slotsAt, currentOffset, doneOffset, globalBody, currentGenerationAt, largestGenerationAt, headsAt, freeAt, globalQueuesAt, globalGenerationAt, globalLength, masksAt, quiescentAt, snapshotAt, generationAt, queuesAt, lookupAt, laneLength, depositAt, materialAt, chainLinkAt, queueLinkAt, slotLength, lanesBody, laneAddress, slotsBody, slotAddress}
+use Rattle.model.specs.Layout.{chainCount, version, cabinetsAt, placesAt, slotsAt, currentOffset, doneOffset, globalBody, currentGenerationAt, largestGenerationAt, headsAt, freeAt, globalQueuesAt, globalGenerationAt, globalLength, masksAt, onlineBit, readingBit, lookupBit, snapshotBit, quiescentAt, snapshotAt, generationAt, queuesAt, lookupAt, laneLength, depositAt, materialAt, chainLinkAt, queueLinkAt, slotLength, lanesBody, laneAddress, slotsBody, slotAddress}
 use Rattle.model.specs.Engine.{laneAt}
 use Rattle.model.specs.Table.{product, productAt, linkOf}
 
@@ -39,7 +39,7 @@ ends xs = first xs ∷ last xs ∷ []
 abbrev pub queueEnds : Queues → List ℕ
 queueEnds q = ends (q .next) ++ ends (q .current) ++ ends (q .done)
 
--- bit 0 on, 1 section open, 2 lookup running, 3 snapshot held
+-- the flags as a word, in the order of their bits
 unfoldable pub flags : Lane → ℕ
 flags l = mask (l .online ∷ l .reading ∷ isRunning (l .lookup) ∷ isHeld (l .snapshot) ∷ [])
 
@@ -204,11 +204,11 @@ module _ (m : List ℕ) where
       let b = laneAddress sizes i in
       let f = at m b in
       record {
-        online = flag 0 f;
-        reading = flag 1 f;
-        lookup = readLookup (b + lookupAt) (flag 2 f);
+        online = flag onlineBit f;
+        reading = flag readingBit f;
+        lookup = readLookup (b + lookupAt) (flag lookupBit f);
         quiescent = readCounts (b + quiescentAt);
-        snapshot = readSnapshot (b + snapshotAt) (flag 3 f);
+        snapshot = readSnapshot (b + snapshotAt) (flag snapshotBit f);
         pending = flag (i % sizes .places) (maskWord (i / sizes .places));
         queues = readQueues (b + generationAt) (b + queuesAt);
       }

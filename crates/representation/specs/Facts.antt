@@ -8,7 +8,7 @@ use lib.ListN.{length, getD, take}
 use Rattle.model.specs.Word.{none, up, down, later}
 use Rattle.model.specs.Lists.{isEmpty, last, concat, count, distinct}
 use Rattle.model.specs.State.{Sizes, laneCount, isRunning, isHeld, Queues, Lane, State}
-use Rattle.model.specs.Layout.{maxCabinets, maxPlaces, maxSlots, kinds, chainCount, contentsLength, lastOffset, queueWidth, queuesWidth, currentOffset, doneOffset, cabinetMaskAt, headsAt, freeAt, globalQueuesAt, flagsAt, snapshotAt, queuesAt, lookupAt, positionAt, depositAt, materialAt, chainLinkAt, queueLinkAt, laneAddress, slotAddress, total}
+use Rattle.model.specs.Layout.{maxCabinets, maxPlaces, maxSlots, kinds, chainCount, contentsLength, lastOffset, currentOffset, doneOffset, cabinetMaskAt, headsAt, freeAt, globalQueuesAt, lookupBit, snapshotBit, flagCount, flagsAt, snapshotAt, queuesAt, lookupAt, positionAt, depositAt, materialAt, chainLinkAt, queueLinkAt, laneAddress, slotAddress, total}
 use Rattle.model.specs.Engine.{laneAt}
 use Rattle.model.specs.Table.{chainNumber}
 use Rattle.model.specs.Rules.{wrongCode, wrongProduct}
@@ -34,6 +34,17 @@ pub record ContentsFit (m : List ℕ) : Type 0 where
   pub long : total (sizes m) ≤ length m
 
 -- ---- the facts of a memory m that reads as the state s
+
+-- first and last of a queue, which stand at k among these words, are slots or none
+pub record EndsInRange (slots : ℕ) (word : ℕ → ℕ) (k : ℕ) : Type 0 where
+  pub first : SlotOrNone slots (word k)
+  pub last : SlotOrNone slots (word (k + lastOffset))
+
+-- of the queues of one owner, whose ends stand from k on
+pub record QueuesInRange (slots : ℕ) (word : ℕ → ℕ) (k : ℕ) : Type 0 where
+  pub next : EndsInRange slots word k
+  pub current : EndsInRange slots word (k + currentOffset)
+  pub done : EndsInRange slots word (k + doneOffset)
 
 -- queues whose ends stand from a on
 pub record Lasts (m : List ℕ) (a : ℕ) (q : Queues) : Type 0 where
@@ -75,11 +86,13 @@ pub record NearGlobal (current largest : ℕ) (q : Queues) : Type 0 where
 module _ (m : List ℕ) (s : State) where
   pub record Facts : Type 0 where
     -- flags, masks, links and fields are in range
-    pub flags : (i : ℕ) → i < laneCount (sizes m) → laneWord m i flagsAt < 16
+    pub flags : (i : ℕ) → i < laneCount (sizes m) → laneWord m i flagsAt < 2 ^ flagCount
     pub cabinetMask : at m cabinetMaskAt < 2 ^ sizes m .cabinets
     pub laneMasks : (c : ℕ) → c < sizes m .cabinets → maskWord m c < 2 ^ sizes m .places
-    pub globalLinks : (k : ℕ) → k < chainCount + queueWidth + queuesWidth → SlotOrNone (sizes m .slots) (at m (headsAt + k))
-    pub laneEnds : (i : ℕ) → i < laneCount (sizes m) → (k : ℕ) → k < queuesWidth → SlotOrNone (sizes m .slots) (laneWord m i (queuesAt + k))
+    pub heads : (k : ℕ) → k < chainCount → SlotOrNone (sizes m .slots) (at m (headsAt + k))
+    pub freeEnds : EndsInRange (sizes m .slots) (at m) freeAt
+    pub globalEnds : QueuesInRange (sizes m .slots) (at m) globalQueuesAt
+    pub laneEnds : (i : ℕ) → i < laneCount (sizes m) → QueuesInRange (sizes m .slots) (laneWord m i) queuesAt
     pub positions : (i : ℕ) → i < laneCount (sizes m) → SlotOrNone (sizes m .slots) (laneWord m i positionAt)
     pub chainLinks : (i : ℕ) → i < sizes m .slots → SlotOrNone (sizes m .slots) (slotWord m chainLinkAt i)
     pub queueLinks : (i : ℕ) → i < sizes m .slots → SlotOrNone (sizes m .slots) (slotWord m queueLinkAt i)
@@ -96,8 +109,8 @@ module _ (m : List ℕ) (s : State) where
     pub onChain : (k : ℕ) → k < chainCount → (x : ℕ) → 0 < count x (getD (s .table .chains) k []) → chainNumber (codeOf s x) ≡ k
     pub codes : distinct (map (codeOf s) (concat (s .table .chains))) ≡ true
     -- unused words hold their rest value
-    pub snapshotsRest : (i : ℕ) → i < laneCount (sizes m) → flag 3 (laneWord m i flagsAt) ≡ false → (k : ℕ) → k < kinds → laneWord m i (snapshotAt + k) ≡ 0
-    pub lookupsRest : (i : ℕ) → i < laneCount (sizes m) → flag 2 (laneWord m i flagsAt) ≡ false → LookupRest m i
+    pub snapshotsRest : (i : ℕ) → i < laneCount (sizes m) → flag snapshotBit (laneWord m i flagsAt) ≡ false → (k : ℕ) → k < kinds → laneWord m i (snapshotAt + k) ≡ 0
+    pub lookupsRest : (i : ℕ) → i < laneCount (sizes m) → flag lookupBit (laneWord m i flagsAt) ≡ false → LookupRest m i
     pub globalRest : isEmpty (s .engine .global .current) ≡ true → s .engine .global .generation ≡ 0
     pub lanesRest : (i : ℕ) → isEmpty (laneAt (s .engine) i .queues .current) ≡ true → laneAt (s .engine) i .queues .generation ≡ 0
     pub queueLinksRest : (i : ℕ) → i < sizes m .slots → count i (concat (allQueues s)) ≡ 0 → slotWord m queueLinkAt i ≡ none

@@ -11,16 +11,16 @@ use borrow.Author.Tests.{eq-eqb, eqb-true, ne-eqb, ltb-true, not-true}
 use Rattle.model.specs.Word.{none, up, down, later}
 use Rattle.model.specs.Lists.{all, every, isEmpty, from, concat, member}
 use Rattle.model.specs.State.{laneCount, isRunning, isHeld, Queues, Lane, State}
-use Rattle.model.specs.Layout.{queuesWidth, cabinetMaskAt, headsAt, globalQueuesAt, flagsAt, snapshotAt, queuesAt, lookupAt, positionAt, depositAt, materialAt, chainLinkAt, queueLinkAt, laneAddress, slotAddress}
+use Rattle.model.specs.Layout.{lastOffset, currentOffset, doneOffset, cabinetMaskAt, headsAt, freeAt, globalQueuesAt, lookupBit, snapshotBit, flagCount, flagsAt, snapshotAt, queuesAt, lookupAt, positionAt, depositAt, materialAt, chainLinkAt, queueLinkAt, laneAddress, slotAddress}
 use Rattle.model.specs.Engine.{freshLane, laneAt}
 use Rattle.model.specs.Rules.{wrongCode, wrongProduct}
 use Rattle.model.specs.Memory.{at, wide, sizes, laneWord, slotWord, maskWord, allQueues, flag, isNotZero}
-use Rattle.model.specs.Legal.{implies, laneNumbers, slotNumbers, cabinetNumbers, slotOrNone, flagsInRange, masksInRange, linkSentences, linksInRange, fieldsInRange, standsOnce, lastsAt, lastsAgree, onTheirChains, noCodeTwice, snapshotsAtRest, lookupsAtRest, generationAtRest, generationsAtRest, queueLinksAtRest, noneQueued, offLanes, lookupsInSections, snapshotsPending, cabinetBits, freeBlank, laneGenerationFits, globalGenerationFits, periodRuns, largestAgrees, laneGenerations, globalGeneration, sentences}
+use Rattle.model.specs.Legal.{implies, laneNumbers, slotNumbers, cabinetNumbers, slotOrNone, endsInRange, queuesInRange, flagsInRange, masksInRange, linkSentences, linksInRange, fieldsInRange, standsOnce, lastsAt, lastsAgree, onTheirChains, noCodeTwice, snapshotsAtRest, lookupsAtRest, generationAtRest, generationsAtRest, queueLinksAtRest, noneQueued, offLanes, lookupsInSections, snapshotsPending, cabinetBits, freeBlank, laneGenerationFits, globalGenerationFits, periodRuns, largestAgrees, laneGenerations, globalGeneration, sentences}
 use Rattle.laws.specs.Tests.{_&_, clash, and-true, and-intro, or-cases, or-else, Every, every-true, every-intro, all-from, all-below, all-getD}
 use Rattle.laws.specs.Elements.{isEmpty-true}
 use Rattle.laws.specs.Counts.{all-count, member-false}
 use Rattle.representation.specs.Ranges.{slotOrNone-true}
-use Rattle.representation.specs.Facts.{Lasts, LookupRest, Bare, Blank, Near, NearGlobal, Facts}
+use Rattle.representation.specs.Facts.{EndsInRange, QueuesInRange, Lasts, LookupRest, Bare, Blank, Near, NearGlobal, Facts}
 
 implies-true : (a b : Bool) → implies a b ≡ true → a ≡ true → b ≡ true
 implies-true true b h q = h
@@ -29,6 +29,18 @@ implies-true false b h q = clash q refl
 pub implies-intro : (a b : Bool) → (a ≡ true → b ≡ true) → implies a b ≡ true
 implies-intro true b f = f refl
 implies-intro false b f = refl
+
+module _ (m : List ℕ) (word : ℕ → ℕ) where
+  ends-true : (k : ℕ) → endsInRange m word k ≡ true → EndsInRange (sizes m .slots) word k
+  ends-true k h =
+      let (first, last) = and-true (slotOrNone m (word k)) (slotOrNone m (word (k + lastOffset))) h in
+      record { first = slotOrNone-true (sizes m .slots) (word k) first; last = slotOrNone-true (sizes m .slots) (word (k + lastOffset)) last }
+
+  queues-true : (k : ℕ) → queuesInRange m word k ≡ true → QueuesInRange (sizes m .slots) word k
+  queues-true k h =
+      let (first, done) = and-true (endsInRange m word k && endsInRange m word (k + currentOffset)) (endsInRange m word (k + doneOffset)) h in
+      let (next, current) = and-true (endsInRange m word k) (endsInRange m word (k + currentOffset)) first in
+      record { next = ends-true k next; current = ends-true (k + currentOffset) current; done = ends-true (k + doneOffset) done }
 
 module _ (m : List ℕ) (s : State) where
   lasts-true : (a : ℕ) (q : Queues) → lastsAt m a q ≡ true → Lasts m a q
@@ -102,18 +114,20 @@ module _ (m : List ℕ) (s : State) where
   unfolding flagsInRange masksInRange linksInRange fieldsInRange standsOnce lastsAgree onTheirChains noCodeTwice snapshotsAtRest lookupsAtRest generationsAtRest queueLinksAtRest offLanes lookupsInSections snapshotsPending cabinetBits freeBlank largestAgrees laneGenerations globalGeneration isEmpty isRunning isHeld
   facts (flagged, (masked, (linked, (fielded, (once, (lasts, (chains, (codes, (snapshots, (lookups, (rests, (lines, (off, (sections, (helds, (bits, (free, (largest, (lanes, (global, end)))))))))))))))))))) =
       let masks = and-true (ltb (at m cabinetMaskAt) (2 ^ sizes m .cabinets)) (all (λ (c : ℕ). ltb (maskWord m c) (2 ^ sizes m .places)) (cabinetNumbers m)) masked in
-      let (globalLinks, (laneLinks, (chainLinks, (queueLinks, rest)))) = every-true (linkSentences m) linked in
+      let (heads, (freeEnds, (globalEnds, (laneLinks, (chainLinks, (queueLinks, rest)))))) = every-true (linkSentences m) linked in
       let fields = and-true (all (λ (i : ℕ). let b = slotAddress (sizes m) i in not (wrongProduct (wide m b) (at m (b + depositAt)) (at m (b + materialAt)))) (slotNumbers m)) (all (λ (i : ℕ). not (wrongCode (wide m (laneAddress (sizes m) i + lookupAt)))) (laneNumbers m)) fielded in
       let (freeLast, (globalLasts, (laneLasts, rest))) = every-true _ lasts in
       let resting = and-true (generationAtRest (s .engine .global)) (all (λ (l : Lane). generationAtRest (l .queues)) (s .engine .lanes)) rests in
-      let ofLane : (i : ℕ) → i < laneCount (sizes m) → (all (λ (k : ℕ). slotOrNone m (laneWord m i k)) (from queuesAt queuesWidth) ≡ true) × (slotOrNone m (laneWord m i positionAt) ≡ true) =
-      λ i b. and-true (all (λ (k : ℕ). slotOrNone m (laneWord m i k)) (from queuesAt queuesWidth)) (slotOrNone m (laneWord m i positionAt)) (all-below _ _ i laneLinks b) in
+      let ofLane : (i : ℕ) → i < laneCount (sizes m) → (queuesInRange m (laneWord m i) queuesAt ≡ true) × (slotOrNone m (laneWord m i positionAt) ≡ true) =
+      λ i b. and-true (queuesInRange m (laneWord m i) queuesAt) (slotOrNone m (laneWord m i positionAt)) (all-below _ _ i laneLinks b) in
       record {
-        flags = λ i b. ltb-true (laneWord m i flagsAt) 16 (all-below _ _ i flagged b);
+        flags = λ i b. ltb-true (laneWord m i flagsAt) (2 ^ flagCount) (all-below _ _ i flagged b);
         cabinetMask = ltb-true (at m cabinetMaskAt) (2 ^ sizes m .cabinets) (masks .0);
         laneMasks = λ c b. ltb-true (maskWord m c) (2 ^ sizes m .places) (all-below _ _ c (masks .1) b);
-        globalLinks = λ k b. slotOrNone-true (sizes m .slots) (at m (headsAt + k)) (all-from _ headsAt _ k globalLinks b);
-        laneEnds = λ i b k l. slotOrNone-true (sizes m .slots) (laneWord m i (queuesAt + k)) (all-from _ queuesAt _ k (ofLane i b .0) l);
+        heads = λ k b. slotOrNone-true (sizes m .slots) (at m (headsAt + k)) (all-below _ _ k heads b);
+        freeEnds = ends-true m (at m) freeAt freeEnds;
+        globalEnds = queues-true m (at m) globalQueuesAt globalEnds;
+        laneEnds = λ i b. queues-true m (laneWord m i) queuesAt (ofLane i b .0);
         positions = λ i b. slotOrNone-true (sizes m .slots) (laneWord m i positionAt) (ofLane i b .1);
         chainLinks = λ i b. slotOrNone-true (sizes m .slots) (slotWord m chainLinkAt i) (all-below _ _ i chainLinks b);
         queueLinks = λ i b. slotOrNone-true (sizes m .slots) (slotWord m queueLinkAt i) (all-below _ _ i queueLinks b);
@@ -125,8 +139,8 @@ module _ (m : List ℕ) (s : State) where
         laneLasts = λ i b. lasts-true (laneAddress (sizes m) i + queuesAt) (laneAt (s .engine) i .queues) (all-below _ _ i laneLasts b);
         onChain = λ k b x c. eqb-true _ k (all-count _ (getD (s .table .chains) k []) (all-below _ _ k chains b) x c);
         codes = codes;
-        snapshotsRest = λ i b e k l. eqb-true _ 0 (all-from _ snapshotAt _ k (or-else (flag 3 (laneWord m i flagsAt)) _ (all-below _ _ i snapshots b) e) l);
-        lookupsRest = λ i b e. lookupRest-true i (or-else (flag 2 (laneWord m i flagsAt)) _ (all-below _ _ i lookups b) e);
+        snapshotsRest = λ i b e k l. eqb-true _ 0 (all-from _ snapshotAt _ k (or-else (flag snapshotBit (laneWord m i flagsAt)) _ (all-below _ _ i snapshots b) e) l);
+        lookupsRest = λ i b e. lookupRest-true i (or-else (flag lookupBit (laneWord m i flagsAt)) _ (all-below _ _ i lookups b) e);
         globalRest = rest-true (s .engine .global) (resting .0);
         lanesRest = λ i. rest-true (laneAt (s .engine) i .queues) (all-getD freshLane _ (s .engine .lanes) refl (resting .1) i);
         queueLinksRest = λ i b e. eqb-true _ none (or-else (member i (concat (allQueues s))) _ (all-below _ _ i lines b) (member-false i (concat (allQueues s)) e));

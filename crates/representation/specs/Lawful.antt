@@ -9,7 +9,7 @@ use lib.Dec.{eqb}
 use Rattle.model.specs.Word.{none}
 use Rattle.model.specs.Lists.{concat, count}
 use Rattle.model.specs.State.{Sizes, isRunning, isHeld, Engine, Product, Table, State}
-use Rattle.model.specs.Layout.{depositAt, materialAt, lastOffset, currentOffset, doneOffset, cabinetMaskAt, flagsAt, queuesAt, positionAt, chainLinkAt, queueLinkAt, slotAddress, total}
+use Rattle.model.specs.Layout.{depositAt, materialAt, lastOffset, queueWidth, currentOffset, doneOffset, cabinetMaskAt, lookupBit, snapshotBit, flagsAt, queuesAt, positionAt, chainLinkAt, queueLinkAt, slotAddress, total}
 use Rattle.model.specs.Engine.{laneAt, runs}
 use Rattle.model.specs.Table.{productAt}
 use Rattle.model.specs.Memory.{at, sizes, wide, flag, flags, contents, lookupCode, cabinetMask, pendingAt, isNotZero, laneWords, slotWords, slotWord, allQueues, readProduct}
@@ -31,7 +31,7 @@ use Rattle.representation.specs.Periods.{cabinetMask-from, flag-cabinetM
 use Rattle.representation.specs.RereadQueues.{sized}
 use Rattle.representation.specs.Reread.{product-is, reread-sized, at-sizes}
 use Rattle.representation.specs.LawfulGenerations.{largest-fits, lane-near, global-near, at-rest}
-use Rattle.representation.specs.LawfulLanes.{contents-fit, global-links, word, lane-end, lookup-code, code-fits, flag-word, snapshot-rest, lookup-rest, bare, in-section, with-bit}
+use Rattle.representation.specs.LawfulLanes.{contents-fit, heads, freeEnds, globalEnds, word, laneEnds, lookup-code, code-fits, flag-word, snapshot-rest, lookup-rest, bare, in-section, with-bit}
 
 module _ (e : Engine) (t : Table) (m : List ℕ) (w : WellFormed (sized e t m)) (holds : Image (sizes m) m (value (sized e t m))) (long : total (sizes m) ≤ length m) where
   abbrev z : Sizes
@@ -84,16 +84,22 @@ module _ (e : Engine) (t : Table) (m : List ℕ) (w : WellFormed (sized e t m)) 
     flags = λ i b. omega (arith, word e t m w holds long i b flagsAt (omega arith), mask-lt (laneAt e i .online ∷ laneAt e i .reading ∷ isRunning (laneAt e i .lookup) ∷ isHeld (laneAt e i .snapshot) ∷ []));
     cabinetMask = subst (λ (x : ℕ). x < 2 ^ z .cabinets) (sym (mask-word ∙ cabinetMask-from s)) (mask-from-lt _ (z .cabinets));
     laneMasks = λ c b. subst (λ (x : ℕ). x < 2 ^ z .places) (sym (holds (mask c) b)) (mask-from-lt (pendingAt s c) (z .places));
-    globalLinks = global-links e t m w holds long;
-    laneEnds = lane-end e t m w holds long;
+    heads = heads e t m w holds long;
+    freeEnds = freeEnds e t m w holds long;
+    globalEnds = globalEnds e t m w holds long;
+    laneEnds = laneEnds e t m w holds long;
     positions = λ i b. subst (SlotOrNone (z .slots)) (sym (word e t m w holds long i b positionAt (omega arith))) (position-range s w i);
     chainLinks = chainLink-word;
     queueLinks = queueLink-word;
     products = product-right-at;
     lookupCodes = λ i b. ap wrongCode (lookup-code e t m w holds long i b) ∙ code-right (lookupCode (laneAt e i .lookup)) (code-fits e t m w holds long i b);
     once = λ i b. omega (arith, count-append i (concat (t .chains)) (concat (allQueues s)), stands s w i, w .once i b);
-    freeLast = sym (holds (end 1) (omega arith));
-    globalLasts = record { next = sym (holds (end 3) (omega arith)); current = sym (holds (end 5) (omega arith)); done = sym (holds (end 7) (omega arith)) };
+    freeLast = sym (holds (end lastOffset) (omega arith));
+    globalLasts = record {
+      next = sym (holds (end (queueWidth + lastOffset)) (omega arith));
+      current = sym (holds (end (queueWidth + currentOffset + lastOffset)) (omega arith));
+      done = sym (holds (end (queueWidth + doneOffset + lastOffset)) (omega arith));
+    };
     laneLasts = λ i b. record {
       next = sym (ap (at m) (omega arith) ∙ word e t m w holds long i b (queuesAt + lastOffset) (omega arith));
       current = sym (ap (at m) (omega arith) ∙ word e t m w holds long i b (queuesAt + currentOffset + lastOffset) (omega arith));
@@ -101,8 +107,8 @@ module _ (e : Engine) (t : Table) (m : List ℕ) (w : WellFormed (sized e t m)) 
     };
     onChain = λ k b. w .table .onChain k;
     codes = distinct-map-intro (codeOf s) (concat (t .chains)) (chain-once s w) (λ x y a b. w .table .distinct x y (omega (arith, stands s w x)) (omega (arith, stands s w y)));
-    snapshotsRest = λ i b h. snapshot-rest e t m w holds long i b (sym (flag-word e t m w holds long i b 3) ∙ h);
-    lookupsRest = λ i b h. lookup-rest e t m w holds long i b (sym (flag-word e t m w holds long i b 2) ∙ h);
+    snapshotsRest = λ i b h. snapshot-rest e t m w holds long i b (sym (flag-word e t m w holds long i b snapshotBit) ∙ h);
+    lookupsRest = λ i b h. lookup-rest e t m w holds long i b (sym (flag-word e t m w holds long i b lookupBit) ∙ h);
     globalRest = at-rest e _ _ (e .global) (w .generations .global);
     lanesRest = λ i. at-rest e _ _ (laneAt e i .queues) (w .generations .lanes i);
     queueLinksRest = λ i b h. holds (slot i queueLinkAt) (b, omega arith) ∙ successorIn-out (allQueues s) i none h;

@@ -7,14 +7,14 @@ use native.Mathlib.Omega.{arith}
 use native.Mathlib.Decide.{decLt}
 use lib.ListN.{length, getD, List·getD-append}
 use Rattle.model.specs.State.{Sizes, laneCount, Lookup, idle, running, isRunning, Snapshot, unheld, held, isHeld, Queues, Lane, Engine, Table, State}
-use Rattle.model.specs.Layout.{maxCode, kinds, chainCount, contentsLength, queueWidth, queuesWidth, headsAt, freeAt, flagsAt, snapshotAt, queuesAt, lookupAt, positionAt, laneLength, laneAddress, total}
+use Rattle.model.specs.Layout.{maxCode, kinds, chainCount, contentsLength, lastOffset, currentOffset, doneOffset, queueWidth, headsAt, freeAt, globalQueuesAt, flagsAt, snapshotAt, queuesAt, lookupAt, positionAt, laneLength, laneAddress, total}
 use Rattle.model.specs.Engine.{laneAt}
 use Rattle.model.specs.Memory.{at, low as lowWord, high as highWord, sizes, wide, wholeOf, flag, contents, lookupCode, lookupPosition, snapshotCount, cabinetMask, laneWords, laneWord}
 use Rattle.laws.specs.Tests.{clash}
 use Rattle.laws.specs.Lists.{take-map-from, map-from-getD}
 use Rattle.representation.specs.WellFormed.{WellFormed, LookupFits, SnapshotFits, SlotOrNone}
-use Rattle.representation.specs.Facts.{ContentsFit, LookupRest, Bare}
-use Rattle.representation.specs.Fields.{top, head, end, lane, value, endWords}
+use Rattle.representation.specs.Facts.{ContentsFit, EndsInRange, QueuesInRange, LookupRest, Bare}
+use Rattle.representation.specs.Fields.{top, head, end, lane, value, endsLength, endWords}
 use Rattle.representation.specs.Writes.{Image}
 use Rattle.representation.specs.Standing.{head-range, free-ends, global-ends, lane-ends}
 use Rattle.representation.specs.RereadQueues.{sized}
@@ -39,25 +39,30 @@ module _ (e : Engine) (t : Table) (m : List ℕ) (w : WellFormed (sized e t m)) 
 
   -- ---- ranges
 
-  end-range : (k : ℕ) → k < queueWidth + queuesWidth → SlotOrNone (z .slots) (getD (endWords s) k 0)
-  end-range zero h = free-ends s w .first
-  end-range (suc zero) h = free-ends s w .last
-  end-range (suc (suc zero)) h = global-ends s w .next .first
-  end-range (suc (suc (suc zero))) h = global-ends s w .next .last
-  end-range (suc (suc (suc (suc zero)))) h = global-ends s w .current .first
-  end-range (suc (suc (suc (suc (suc zero))))) h = global-ends s w .current .last
-  end-range (suc (suc (suc (suc (suc (suc zero)))))) h = global-ends s w .done .first
-  end-range (suc (suc (suc (suc (suc (suc (suc zero))))))) h = global-ends s w .done .last
-  end-range (suc (suc (suc (suc (suc (suc (suc (suc k)))))))) h = absurd (omega arith)
+  -- word k of the ends of the free and the global queues
+  end-range : (k : ℕ) → k < endsLength → SlotOrNone (z .slots) (getD (endWords s) k 0) → SlotOrNone (z .slots) (at m (freeAt + k))
+  end-range k b h = subst (SlotOrNone (z .slots)) (sym (holds (end k) b)) h
 
-  pub global-links : (k : ℕ) → k < chainCount + queueWidth + queuesWidth → SlotOrNone (z .slots) (at m (headsAt + k))
-  global-links k b =
-      elim (decLt k chainCount) [
-        | yes p ↦ subst (SlotOrNone (z .slots)) (sym (holds (head k) p)) (head-range s w k)
-        | no p ↦
-            let e : headsAt + k ≡ freeAt + (k - chainCount) = omega arith in
-            subst (SlotOrNone (z .slots)) (sym (ap (at m) e ∙ holds (end (k - chainCount)) (omega arith))) (end-range (k - chainCount) (omega arith))
-      ]
+  pub heads : (k : ℕ) → k < chainCount → SlotOrNone (z .slots) (at m (headsAt + k))
+  heads k b = subst (SlotOrNone (z .slots)) (sym (holds (head k) b)) (head-range s w k)
+
+  pub freeEnds : EndsInRange (z .slots) (at m) freeAt
+  freeEnds = record { first = end-range 0 (omega arith) (free-ends s w .first); last = end-range lastOffset (omega arith) (free-ends s w .last) }
+
+  pub globalEnds : QueuesInRange (z .slots) (at m) globalQueuesAt
+  globalEnds =
+      let q = global-ends s w in
+      record {
+        next = record { first = end-range queueWidth (omega arith) (q .next .first); last = end-range (queueWidth + lastOffset) (omega arith) (q .next .last) };
+        current = record {
+          first = end-range (queueWidth + currentOffset) (omega arith) (q .current .first);
+          last = end-range (queueWidth + currentOffset + lastOffset) (omega arith) (q .current .last);
+        };
+        done = record {
+          first = end-range (queueWidth + doneOffset) (omega arith) (q .done .first);
+          last = end-range (queueWidth + doneOffset + lastOffset) (omega arith) (q .done .last);
+        };
+      }
 
   module _ (i : ℕ) (b : i < laneCount z) where
     abbrev l : Lane
@@ -66,18 +71,24 @@ module _ (e : Engine) (t : Table) (m : List ℕ) (w : WellFormed (sized e t m)) 
     pub word : (k : ℕ) → k < laneLength → laneWord m i k ≡ getD (laneWords l) k 0
     word k h = holds (lane i k) (b, h)
 
-    pub lane-end : (k : ℕ) → k < queuesWidth → SlotOrNone (z .slots) (laneWord m i (queuesAt + k))
+    end-word : (k : ℕ) → k < laneLength → SlotOrNone (z .slots) (getD (laneWords l) k 0) → SlotOrNone (z .slots) (laneWord m i k)
+    end-word k h r = subst (SlotOrNone (z .slots)) (sym (word k h)) r
+
+    pub laneEnds : QueuesInRange (z .slots) (laneWord m i) queuesAt
     unfolding laneWords
-    lane-end k h = subst (SlotOrNone (z .slots)) (sym (word (queuesAt + k) (omega arith))) (go k h)
-      where
-        go : (k : ℕ) → k < queuesWidth → SlotOrNone (z .slots) (getD (laneWords l) (queuesAt + k) 0)
-        go zero h = lane-ends s w i .next .first
-        go (suc zero) h = lane-ends s w i .next .last
-        go (suc (suc zero)) h = lane-ends s w i .current .first
-        go (suc (suc (suc zero))) h = lane-ends s w i .current .last
-        go (suc (suc (suc (suc zero)))) h = lane-ends s w i .done .first
-        go (suc (suc (suc (suc (suc zero))))) h = lane-ends s w i .done .last
-        go (suc (suc (suc (suc (suc (suc k)))))) h = absurd (omega arith)
+    laneEnds =
+        let q = lane-ends s w i in
+        record {
+          next = record { first = end-word queuesAt (omega arith) (q .next .first); last = end-word (queuesAt + lastOffset) (omega arith) (q .next .last) };
+          current = record {
+            first = end-word (queuesAt + currentOffset) (omega arith) (q .current .first);
+            last = end-word (queuesAt + currentOffset + lastOffset) (omega arith) (q .current .last);
+          };
+          done = record {
+            first = end-word (queuesAt + doneOffset) (omega arith) (q .done .first);
+            last = end-word (queuesAt + doneOffset + lastOffset) (omega arith) (q .done .last);
+          };
+        }
 
     pub lookup-code : wide m (laneAddress z i + lookupAt) ≡ lookupCode (l .lookup)
     unfolding laneWords

@@ -8,7 +8,7 @@ use native.Mathlib.Decide.{decLt}
 use lib.ListN.{getD, List·getD-eq-default}
 use Rattle.model.specs.Lists.{isEmpty}
 use Rattle.model.specs.State.{Sizes, laneCount, isRunning, isHeld, Lane, Engine, Table, State}
-use Rattle.model.specs.Layout.{quiescentAt, snapshotAt, lookupAt, positionAt, countLimit, laneAddress}
+use Rattle.model.specs.Layout.{lookupBit, snapshotBit, quiescentAt, snapshotAt, lookupAt, positionAt, countLimit, laneAddress}
 use Rattle.model.specs.Engine.{freshLane, laneAt}
 use Rattle.model.specs.Memory.{Words, at, wide, flag, sizes, readLane, readLookup, readSnapshot, readCounts, state}
 use Rattle.representation.specs.WellFormed.{LaneFits, Counts, LookupFits, SnapshotFits, Off}
@@ -55,7 +55,7 @@ module _ (m : List ℕ) (l : Legal m) (word : Words m) where
   lookup-fits : (i : ℕ) → LookupFits (z .slots) (laneAt e i .reading) (laneAt e i .lookup)
   unfolding readLane isRunning
   lookup-fits = over-lanes (λ (l : Lane). LookupFits (z .slots) (l .reading) (l .lookup)) tt (λ i b q.
-      go i b (flag 2 (at m (laneAddress z i))) (readLane m i .reading)
+      go i b (flag lookupBit (at m (laneAddress z i))) (readLane m i .reading)
       (λ h. sym (ap (λ (l : Lane). l .reading) q) ∙ f .sections i (ap (λ (l : Lane). isRunning (l .lookup)) q ∙ h)))
     where
       go : (i : ℕ) → i < laneCount z → (c r : Bool) → (isRunning (readLookup m (laneAddress z i + lookupAt) c) ≡ true → r ≡ true) → LookupFits (z .slots) r (readLookup m (laneAddress z i + lookupAt) c)
@@ -69,7 +69,7 @@ module _ (m : List ℕ) (l : Legal m) (word : Words m) where
   snapshot-fits : (i : ℕ) → SnapshotFits (laneAt e i .pending) (laneAt e i .snapshot)
   unfolding readLane isHeld
   snapshot-fits = over-lanes (λ (l : Lane). SnapshotFits (l .pending) (l .snapshot)) tt (λ i b q.
-      go i (flag 3 (at m (laneAddress z i))) (readLane m i .pending)
+      go i (flag snapshotBit (at m (laneAddress z i))) (readLane m i .pending)
       (λ h. sym (ap (λ (l : Lane). l .pending) q) ∙ f .snapshots i (ap (λ (l : Lane). isHeld (l .snapshot)) q ∙ h)))
     where
       go : (i : ℕ) (c p : Bool) → (isHeld (readSnapshot m (laneAddress z i + snapshotAt) c) ≡ true → p ≡ true) → SnapshotFits p (readSnapshot m (laneAddress z i + snapshotAt) c)

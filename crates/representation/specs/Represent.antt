@@ -8,7 +8,7 @@ use lib.ListN.{getD}
 use lib.Arith.{digits-lt, digits-div, digits-mod}
 use Rattle.model.specs.Lists.{first, last, from, mask as maskOf}
 use Rattle.model.specs.State.{Sizes, State, Product, Lane, laneCount}
-use Rattle.model.specs.Layout.{chainCount, kinds, queueWidth, queuesWidth, currentOffset, doneOffset, lastOffset, contentsLength, headsAt, freeAt, currentGenerationAt, largestGenerationAt, cabinetMaskAt, flagsAt, quiescentAt, snapshotAt, generationAt, queuesAt, lookupAt, positionAt, chainLinkAt, queueLinkAt, laneLength, slotLength, slotAddress, laneAddress}
+use Rattle.model.specs.Layout.{chainCount, kinds, queueWidth, currentOffset, doneOffset, lastOffset, contentsLength, headsAt, freeAt, globalQueuesAt, currentGenerationAt, largestGenerationAt, cabinetMaskAt, onlineBit, readingBit, lookupBit, snapshotBit, flagCount, flagsAt, quiescentAt, snapshotAt, generationAt, queuesAt, lookupAt, positionAt, chainLinkAt, queueLinkAt, laneLength, slotLength, slotAddress, laneAddress}
 use Rattle.model.specs.Memory.{Words, at, wide, flag, flags, pendingAt, isNotZero, maskWord, laneMask, laneMasks, cabinetMask, laneWords, laneWord, slotWords, slotWord, low, high, headOf, readLookup, readSnapshot, snapshotCount, lookupCode, lookupPosition, state, sizes, contents, readProduct, readQueue, readLane}
 use Rattle.laws.specs.Lists.{map-from-alike, map-map-from, getD-map-below, take-map-from}
 use Rattle.laws.specs.Masks.{mask-flags}
@@ -35,24 +35,21 @@ module _ (m : List ℕ) (l : Legal m) (w : Words m) where
   -- ---- the global body
 
   head-is : (k : ℕ) → k < chainCount → headOf (s .table) k ≡ at m (headsAt + k)
-  head-is k b = ap first (state-chain m k b) ∙ slotWalk-first m chainLinkAt (at m (headsAt + k)) _ (omega arith) (f .globalLinks k (omega arith))
+  head-is k b = ap first (state-chain m k b) ∙ slotWalk-first m chainLinkAt (at m (headsAt + k)) _ (omega arith) (f .heads k b)
 
-  first-is : (k : ℕ) → k < queueWidth + queuesWidth → first (readQueue m (freeAt + k)) ≡ at m (freeAt + k)
-  first-is k b = slotWalk-first m queueLinkAt (at m (freeAt + k)) _ (omega arith) (ends k b)
-    where
-      ends : (k : ℕ) → k < queueWidth + queuesWidth → SlotOrNone (z .slots) (at m (freeAt + k))
-      ends k b = let e : headsAt + (chainCount + k) ≡ freeAt + k = omega arith in let h = f .globalLinks (chainCount + k) (omega arith) in rw e at h
+  first-is : (a : ℕ) → SlotOrNone (z .slots) (at m a) → first (readQueue m a) ≡ at m a
+  first-is a h = slotWalk-first m queueLinkAt (at m a) _ (omega arith) h
 
   ends-are : endWords s ≡ map (λ (k : ℕ). at m (freeAt + k)) (from 0 endsLength)
   unfolding state from
   ends-are =
-      cons (first-is 0 (omega arith))
+      cons (first-is freeAt (f .freeEnds .first))
       (cons (f .freeLast)
-      (cons (first-is 2 (omega arith))
+      (cons (first-is globalQueuesAt (f .globalEnds .next .first))
       (cons (f .globalLasts .next)
-      (cons (first-is 4 (omega arith))
+      (cons (first-is (globalQueuesAt + currentOffset) (f .globalEnds .current .first))
       (cons (f .globalLasts .current)
-      (cons (first-is 6 (omega arith))
+      (cons (first-is (globalQueuesAt + doneOffset) (f .globalEnds .done .first))
       (cons (f .globalLasts .done) refl)))))))
 
   -- ---- masks
@@ -101,57 +98,58 @@ module _ (m : List ℕ) (l : Legal m) (w : Words m) where
     unfolding flags readLane from
     flags-are =
         let v = at m a in
-        ap₂ (λ (x y : Bool). maskOf (flag 0 v ∷ flag 1 v ∷ x ∷ y ∷ [])) (isRunning-readLookup m (a + lookupAt) (flag 2 v)) (isHeld-readSnapshot m (a + snapshotAt) (flag 3 v))
-        ∙ mask-flags v 4 (omega (arith, word a 0 (omega arith), f .flags i b))
+        ap₂ (λ (x y : Bool). maskOf (flag onlineBit v ∷ flag readingBit v ∷ x ∷ y ∷ [])) (isRunning-readLookup m (a + lookupAt) (flag lookupBit v)) (isHeld-readSnapshot m (a + snapshotAt) (flag snapshotBit v))
+        ∙ mask-flags v flagCount (omega (arith, word a 0 (omega arith), f .flags i b))
         ∙ word a 0 (omega arith)
 
     flag-clear : (k : ℕ) → flag k (at m a) ≡ false → flag k (laneWord m i flagsAt) ≡ false
     flag-clear k e = ap (flag k) (sym (word a 0 (omega arith))) ∙ e
 
-    snapshot-is : (c : Bool) → flag 3 (at m a) ≡ c → (k : ℕ) → k < kinds → snapshotCount (readSnapshot m (a + snapshotAt) c) k ≡ laneWord m i (snapshotAt + k)
+    snapshot-is : (c : Bool) → flag snapshotBit (at m a) ≡ c → (k : ℕ) → k < kinds → snapshotCount (readSnapshot m (a + snapshotAt) c) k ≡ laneWord m i (snapshotAt + k)
     unfolding snapshotCount
     snapshot-is true e zero h = word (a + snapshotAt) snapshotAt (omega arith)
     snapshot-is true e (suc zero) h = word (a + snapshotAt + 1) (snapshotAt + 1) (omega arith)
     snapshot-is true e (suc (suc zero)) h = word (a + snapshotAt + 2) (snapshotAt + 2) (omega arith)
     snapshot-is true e (suc (suc (suc zero))) h = word (a + snapshotAt + 3) (snapshotAt + 3) (omega arith)
     snapshot-is true e (suc (suc (suc (suc k)))) h = absurd (omega arith)
-    snapshot-is false e k h = sym (f .snapshotsRest i b (flag-clear 3 e) k h)
+    snapshot-is false e k h = sym (f .snapshotsRest i b (flag-clear snapshotBit e) k h)
 
     record LookupIs (c : Bool) : Type 0 where
       low : low (lookupCode (readLookup m (a + lookupAt) c)) ≡ laneWord m i lookupAt
       high : high (lookupCode (readLookup m (a + lookupAt) c)) ≡ laneWord m i (lookupAt + 1)
       position : lookupPosition (readLookup m (a + lookupAt) c) ≡ laneWord m i positionAt
 
-    lookup-is : (c : Bool) → flag 2 (at m a) ≡ c → LookupIs c
+    lookup-is : (c : Bool) → flag lookupBit (at m a) ≡ c → LookupIs c
     unfolding lookupCode lookupPosition
     lookup-is true e = record { low = low-wide _; high = high-wide _ ∙ word _ (lookupAt + 1) (omega arith); position = word _ positionAt (omega arith) }
-    lookup-is false e = let r = f .lookupsRest i b (flag-clear 2 e) in record { low = sym (r .low); high = sym (r .high); position = sym (r .position) }
+    lookup-is false e = let r = f .lookupsRest i b (flag-clear lookupBit e) in record { low = sym (r .low); high = sym (r .high); position = sym (r .position) }
 
-    end-is : (k : ℕ) → k < queuesWidth → (x : ℕ) → x ≡ a + (queuesAt + k) → first (readQueue m x) ≡ laneWord m i (queuesAt + k)
-    end-is k h x e = ap (λ (y : ℕ). first (readQueue m y)) e ∙ slotWalk-first m queueLinkAt (laneWord m i (queuesAt + k)) _ (omega arith) (f .laneEnds i b k h)
+    end-is : (k : ℕ) → SlotOrNone (z .slots) (laneWord m i k) → (x : ℕ) → x ≡ a + k → first (readQueue m x) ≡ laneWord m i k
+    end-is k h x e = ap (λ (y : ℕ). first (readQueue m y)) e ∙ first-is (a + k) h
 
     lane-words : laneWords (readLane m i) ≡ map (laneWord m i) (from 0 laneLength)
     unfolding laneWords readLane from
     lane-words =
         let v = at m a in
         let q = f .laneLasts i b in
+        let r = f .laneEnds i b in
         let e = state-lane m i b in
-        let k = lookup-is (flag 2 v) refl in
+        let k = lookup-is (flag lookupBit v) refl in
         cons flags-are
         (cons (word _ quiescentAt (omega arith))
         (cons (word _ (quiescentAt + 1) (omega arith))
         (cons (word _ (quiescentAt + 2) (omega arith))
         (cons (word _ (quiescentAt + 3) (omega arith))
-        (cons (snapshot-is (flag 3 v) refl 0 (omega arith))
-        (cons (snapshot-is (flag 3 v) refl 1 (omega arith))
-        (cons (snapshot-is (flag 3 v) refl 2 (omega arith))
-        (cons (snapshot-is (flag 3 v) refl 3 (omega arith))
+        (cons (snapshot-is (flag snapshotBit v) refl 0 (omega arith))
+        (cons (snapshot-is (flag snapshotBit v) refl 1 (omega arith))
+        (cons (snapshot-is (flag snapshotBit v) refl 2 (omega arith))
+        (cons (snapshot-is (flag snapshotBit v) refl 3 (omega arith))
         (cons (word _ generationAt (omega arith))
-        (cons (end-is 0 (omega arith) _ (omega arith))
+        (cons (end-is queuesAt (r .next .first) _ (omega arith))
         (cons (sym (ap (λ (l : Lane). last (l .queues .next)) e) ∙ q .next ∙ word _ (queuesAt + lastOffset) (omega arith))
-        (cons (end-is currentOffset (omega arith) _ (omega arith))
+        (cons (end-is (queuesAt + currentOffset) (r .current .first) _ (omega arith))
         (cons (sym (ap (λ (l : Lane). last (l .queues .current)) e) ∙ q .current ∙ word _ (queuesAt + currentOffset + lastOffset) (omega arith))
-        (cons (end-is doneOffset (omega arith) _ (omega arith))
+        (cons (end-is (queuesAt + doneOffset) (r .done .first) _ (omega arith))
         (cons (sym (ap (λ (l : Lane). last (l .queues .done)) e) ∙ q .done ∙ word _ (queuesAt + doneOffset + lastOffset) (omega arith))
         (cons (k .low)
         (cons (k .high)

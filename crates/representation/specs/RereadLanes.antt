@@ -7,7 +7,7 @@ use native.Mathlib.Omega.{arith}
 use lib.ListN.{length, getD}
 use Rattle.model.specs.Lists.{first, from, concatMap}
 use Rattle.model.specs.State.{Sizes, laneCount, Lookup, idle, running, Snapshot, unheld, held, Lane, Engine, Table, isHeld, isRunning}
-use Rattle.model.specs.Layout.{kinds, currentOffset, doneOffset, quiescentAt, snapshotAt, generationAt, queuesAt, lookupAt, positionAt, laneLength, laneAddress}
+use Rattle.model.specs.Layout.{kinds, currentOffset, doneOffset, onlineBit, readingBit, lookupBit, snapshotBit, quiescentAt, snapshotAt, generationAt, queuesAt, lookupAt, positionAt, laneLength, laneAddress}
 use Rattle.model.specs.Engine.{laneAt, freshLane}
 use Rattle.model.specs.Memory.{at, sizes, wholeOf, low, high, flag, flags, lookupCode, lookupPosition, snapshotCount, laneWords, laneQueues, maskWord, readQueues, readLane, readLookup, readCounts, readSnapshot}
 use Rattle.laws.specs.Lists.{map-from-getD}
@@ -109,11 +109,11 @@ module _ (e : Engine) (t : Table) (m : List ℕ) where
       lane-is : readLane m i ≡ l
       unfolding readLane
       lane-is = λ j. record {
-        online = flag-is 0 j;
-        reading = flag-is 1 j;
-        lookup = (ap (readLookup m (a + lookupAt)) (flag-is 2) ∙ lookup-is (l .lookup) refl) j;
+        online = flag-is onlineBit j;
+        reading = flag-is readingBit j;
+        lookup = (ap (readLookup m (a + lookupAt)) (flag-is lookupBit) ∙ lookup-is (l .lookup) refl) j;
         quiescent = counts-are j;
-        snapshot = (ap (readSnapshot m (a + snapshotAt)) (flag-is 3) ∙ snapshot-is (l .snapshot) refl (w .fits i .snapshot)) j;
+        snapshot = (ap (readSnapshot m (a + snapshotAt)) (flag-is snapshotBit) ∙ snapshot-is (l .snapshot) refl (w .fits i .snapshot)) j;
         pending = pending-is j;
         queues = queues-are j;
       }

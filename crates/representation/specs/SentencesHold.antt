@@ -12,14 +12,14 @@ use borrow.Author.Tests.{eq-eqb, eqb-true, lt-ltb, not-false}
 use Rattle.model.specs.Word.{none, up, down, later}
 use Rattle.model.specs.Lists.{every, isEmpty, concat, count, member}
 use Rattle.model.specs.State.{isRunning, isHeld, Queues, Lane, State}
-use Rattle.model.specs.Layout.{cabinetMaskAt, headsAt, globalQueuesAt, flagsAt, snapshotAt, queuesAt, lookupAt, positionAt, chainLinkAt, queueLinkAt, laneAddress}
+use Rattle.model.specs.Layout.{lastOffset, currentOffset, doneOffset, cabinetMaskAt, headsAt, freeAt, globalQueuesAt, lookupBit, snapshotBit, flagCount, flagsAt, snapshotAt, queuesAt, lookupAt, positionAt, chainLinkAt, queueLinkAt, laneAddress}
 use Rattle.model.specs.Engine.{freshLane, laneAt}
 use Rattle.model.specs.Memory.{at, sizes, laneWord, slotWord, maskWord, allQueues, flag, isNotZero}
-use Rattle.model.specs.Legal.{implies, flagsInRange, masksInRange, linkSentences, linksInRange, fieldsInRange, standsOnce, lastsAgree, onTheirChains, noCodeTwice, snapshotsAtRest, lookupsAtRest, generationAtRest, generationsAtRest, queueLinksAtRest, noneQueued, offLanes, lookupsInSections, snapshotsPending, cabinetBits, freeBlank, laneGenerationFits, globalGenerationFits, periodRuns, largestAgrees, laneGenerations, globalGeneration, sentences}
+use Rattle.model.specs.Legal.{implies, endsInRange, queuesInRange, flagsInRange, masksInRange, linkSentences, linksInRange, fieldsInRange, standsOnce, lastsAgree, onTheirChains, noCodeTwice, snapshotsAtRest, lookupsAtRest, generationAtRest, generationsAtRest, queueLinksAtRest, noneQueued, offLanes, lookupsInSections, snapshotsPending, cabinetBits, freeBlank, laneGenerationFits, globalGenerationFits, periodRuns, largestAgrees, laneGenerations, globalGeneration, sentences}
 use Rattle.laws.specs.Tests.{_&_, and-true, and-intro, or-left, or-right, or-else-intro, Every, every-intro, all-from-intro, all-below-intro, all-getD-intro, same, other, decide}
 use Rattle.laws.specs.Counts.{all-count-intro, member-true}
 use Rattle.representation.specs.Ranges.{slotOrNone-intro}
-use Rattle.representation.specs.Facts.{LookupRest, Bare, Near, NearGlobal, Facts}
+use Rattle.representation.specs.Facts.{EndsInRange, QueuesInRange, LookupRest, Bare, Near, NearGlobal, Facts}
 use Rattle.representation.specs.FactsSaid.{implies-intro, lasts-intro}
 
 module _ (m : List ℕ) (s : State) where
@@ -73,13 +73,23 @@ module _ (m : List ℕ) (s : State) where
   lookupRest-intro : (i : ℕ) → LookupRest m i → every (eqb (laneWord m i lookupAt) 0 ∷ eqb (laneWord m i (lookupAt + 1)) 0 ∷ eqb (laneWord m i positionAt) none ∷ []) ≡ true
   lookupRest-intro i r = every-intro _ (eq-eqb _ 0 (r .low) & eq-eqb _ 0 (r .high) & eq-eqb _ none (r .position) & tt)
 
+  ends-intro : (word : ℕ → ℕ) (k : ℕ) → EndsInRange (sizes m .slots) word k → endsInRange m word k ≡ true
+  ends-intro word k e =
+      and-intro _ _ (slotOrNone-intro (sizes m .slots) (word k) (e .first)) (slotOrNone-intro (sizes m .slots) (word (k + lastOffset)) (e .last))
+
+  queues-intro : (word : ℕ → ℕ) (k : ℕ) → QueuesInRange (sizes m .slots) word k → queuesInRange m word k ≡ true
+  queues-intro word k q =
+      and-intro _ _ (and-intro _ _ (ends-intro word k (q .next)) (ends-intro word (k + currentOffset) (q .current))) (ends-intro word (k + doneOffset) (q .done))
+
   links-hold : Facts m s → linksInRange m ≡ true
   unfolding linksInRange
   links-hold f =
       every-intro (linkSentences m)
-      (all-from-intro _ headsAt _ (λ k b. slotOrNone-intro (sizes m .slots) (at m (headsAt + k)) (f .globalLinks k b))
+      (all-below-intro _ _ (λ k b. slotOrNone-intro (sizes m .slots) (at m (headsAt + k)) (f .heads k b))
+      & ends-intro (at m) freeAt (f .freeEnds)
+      & queues-intro (at m) globalQueuesAt (f .globalEnds)
       & all-below-intro _ _ (λ i b. and-intro _ _
-      (all-from-intro _ queuesAt _ (λ k l. slotOrNone-intro (sizes m .slots) (laneWord m i (queuesAt + k)) (f .laneEnds i b k l)))
+      (queues-intro (laneWord m i) queuesAt (f .laneEnds i b))
       (slotOrNone-intro (sizes m .slots) (laneWord m i positionAt) (f .positions i b)))
       & all-below-intro _ _ (λ i b. slotOrNone-intro (sizes m .slots) (slotWord m chainLinkAt i) (f .chainLinks i b))
       & all-below-intro _ _ (λ i b. slotOrNone-intro (sizes m .slots) (slotWord m queueLinkAt i) (f .queueLinks i b))
@@ -97,7 +107,7 @@ module _ (m : List ℕ) (s : State) where
   pub sentences-hold : Facts m s → Every (sentences m s)
   unfolding flagsInRange masksInRange fieldsInRange standsOnce onTheirChains noCodeTwice snapshotsAtRest lookupsAtRest generationsAtRest queueLinksAtRest offLanes lookupsInSections snapshotsPending cabinetBits freeBlank largestAgrees laneGenerations globalGeneration
   sentences-hold f =
-      all-below-intro _ _ (λ i b. lt-ltb (laneWord m i flagsAt) 16 (f .flags i b))
+      all-below-intro _ _ (λ i b. lt-ltb (laneWord m i flagsAt) (2 ^ flagCount) (f .flags i b))
       & and-intro _ _ (lt-ltb (at m cabinetMaskAt) (2 ^ sizes m .cabinets) (f .cabinetMask)) (all-below-intro _ _ (λ c b. lt-ltb (maskWord m c) (2 ^ sizes m .places) (f .laneMasks c b)))
       & links-hold f
       & and-intro _ _ (all-below-intro _ _ (λ i b. ap not (f .products i b))) (all-below-intro _ _ (λ i b. ap not (f .lookupCodes i b)))
@@ -105,8 +115,8 @@ module _ (m : List ℕ) (s : State) where
       & lasts-hold f
       & all-below-intro _ _ (λ k b. all-count-intro _ (getD (s .table .chains) k []) (λ x c. eq-eqb _ k (f .onChain k b x c)))
       & f .codes
-      & all-below-intro _ _ (λ i b. or-else-intro (flag 3 (laneWord m i flagsAt)) _ (λ e. all-from-intro _ snapshotAt _ (λ k l. eq-eqb _ 0 (f .snapshotsRest i b e k l))))
-      & all-below-intro _ _ (λ i b. or-else-intro (flag 2 (laneWord m i flagsAt)) _ (λ e. lookupRest-intro i (f .lookupsRest i b e)))
+      & all-below-intro _ _ (λ i b. or-else-intro (flag snapshotBit (laneWord m i flagsAt)) _ (λ e. all-from-intro _ snapshotAt _ (λ k l. eq-eqb _ 0 (f .snapshotsRest i b e k l))))
+      & all-below-intro _ _ (λ i b. or-else-intro (flag lookupBit (laneWord m i flagsAt)) _ (λ e. lookupRest-intro i (f .lookupsRest i b e)))
       & and-intro _ _ (rest-intro (s .engine .global) (f .globalRest)) (all-getD-intro freshLane _ (s .engine .lanes) (λ i. rest-intro (laneAt (s .engine) i .queues) (f .lanesRest i)))
       & all-below-intro _ _ (λ i b. member-rest i (concat (allQueues s)) (slotWord m queueLinkAt i) (f .queueLinksRest i b))
       & all-getD-intro freshLane _ (s .engine .lanes) (λ i. or-else-intro (laneAt (s .engine) i .online) _ (λ e. bare-intro (laneAt (s .engine) i) (f .off i e)))

@@ -1,0 +1,55 @@
+-- Damaged memories that one sentence of legality alone refuses: what calls have made, with a word changed.
+use Prim.Native.Nat.{ℕ, _+_}
+use mathlib.Core.Path.{_≡_, refl}
+use mathlib.Core.Bool.{Bool, true, false}
+use mathlib.Core.List.{List, [], _∷_, map}
+use lib.ListN.{set}
+use Rattle.model.specs.Layout.{lastOffset, currentOffset, cabinetMaskAt, globalQueuesAt, masksAt, queueLinkAt, slotAddress}
+use Rattle.model.specs.Rules.{add, delete, off}
+use Rattle.model.specs.Legal.{legal}
+use Rattle.model.specs.Calls.{Call, set-up, on-state, sized, leftAll}
+use Rattle.cases.specs.Scripts.{answered, lentWords}
+
+-- the calls that made the memory, the word put at an address of it, and whether it is still legal
+pub data Damage : Type 0 where
+  damage : (calls : List Call) (address word : ℕ) (isLegal : Bool) → Damage
+
+unfoldable pub found : Damage → Bool
+unfolding answered leftAll
+found (damage ks a w b) = legal (set (leftAll (lentWords 200) ks) a w)
+
+abbrev pub owed : Damage → Bool
+owed (damage ks a w b) = b
+
+-- a new table
+abbrev pub new : List Call
+new = set-up 1 2 3 ∷ []
+
+-- slot 0 is chained
+abbrev pub oneChained : List Call
+oneChained = set-up 1 2 3 ∷ on-state (add 1 17 25 1) ∷ []
+
+-- slot 0 is in the global current queue, and a period runs, for lane 0 alone, which has no snapshot yet
+abbrev pub oneWaiting : List Call
+oneWaiting = set-up 1 2 3 ∷ on-state (add 1 17 25 1) ∷ on-state (delete 1 17) ∷ on-state (off 1) ∷ []
+
+abbrev pub damages : List Damage
+damages =
+    -- the words that stand there
+    damage new masksAt 0 true
+    ∷ damage oneWaiting masksAt 1 true
+    ∷ damage oneWaiting cabinetMaskAt 1 true
+    ∷ damage oneWaiting (globalQueuesAt + currentOffset + lastOffset) 0 true
+    -- a cabinet's bit is set exactly when its lane mask is not 0
+    ∷ damage new masksAt 1 false
+    ∷ damage oneWaiting masksAt 0 false
+    -- lines agree with first and last
+    ∷ damage oneWaiting (globalQueuesAt + currentOffset + lastOffset) 1 false
+    -- a slot outside every line has line link none
+    ∷ damage oneChained (slotAddress (sized 1 2 3) 0 + queueLinkAt) 1 false
+    ∷ []
+
+-- each is found
+pub damages-found : map found damages ≡ map owed damages
+unfolding found
+damages-found = refl

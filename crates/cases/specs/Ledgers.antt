@@ -1,0 +1,113 @@
+-- The ledger of demand 3, computed: what it holds at instants of document 01's listing, and of a list with an absent code, a replace and a refused call.
+-- The ledger in C holds the same at these instants of the listing (tests/replay/listing-ledger.c).
+use Prim.Native.Nat.{ℕ}
+use mathlib.Core.Path.{_≡_, refl}
+use mathlib.Core.List.{List, [], _∷_, map}
+use lib.ListN.{take}
+use Rattle.model.specs.Lists.{drops, tail}
+use Rattle.model.specs.Rules.{add, replace, delete, begin, end, start, step}
+use Rattle.model.specs.Calls.{set-up, left}
+use Rattle.model.specs.Ledger.{Section, Entry, Search, Out, Ledger, fed, fedCall, ledgerFrom, ledger, events, searchIn}
+use Rattle.cases.specs.Scripts.{Line, line, op, callOf, answered, lentWords}
+use Rattle.cases.specs.Stars.{listing}
+
+-- what the ledger holds at an instant
+pub data Book : Type 0 where
+  book : (instant : ℕ) (entries : List Entry) (sections : List Section) (searches : List Search) (outs : List Out) → Book
+
+-- a list of calls, the set-up first, and the ledger at some of its instants
+pub data Account : Type 0 where
+  account : (lines : List Line) (books : List Book) → Account
+
+abbrev pub owedAt : Book → Ledger
+owedAt (book k es ss qs os) = record { entries = es; sections = ss; searches = qs; outs = os }
+
+unfoldable pub owed : Account → List Ledger
+owed (account ls bs) = map owedAt bs
+
+-- the ledger fed with the first calls of the list, up to that instant
+unfoldable pub heldAt : List Line → Book → Ledger
+unfolding answered events fed fedCall ledgerFrom drops searchIn tail
+heldAt ls (book k es ss qs os) = ledger (take k (events (left (lentWords 200) (set-up 1 2 3)) (tail (map callOf ls))))
+
+unfoldable pub held : Account → List Ledger
+unfolding heldAt
+held (account ls bs) = map (heldAt ls) bs
+
+-- ---- the listing
+
+abbrev pub entry : Entry
+entry = record { code = 17; slot = 0; deposit = 25; material = 1 }
+
+abbrev pub reader : Section
+reader = record { lane = 1; opened = 2 }
+
+abbrev pub search : Search
+search = record { lane = 1; code = 17; started = 3 }
+
+-- the removed slot, with the section open at its removal
+abbrev pub removed : Out
+removed = record { slot = 0; sections = reader ∷ [] }
+
+abbrev pub listed : List Book
+listed =
+    book 0 [] [] [] []
+    ∷ book 1 (entry ∷ []) [] [] []
+    ∷ book 2 (entry ∷ []) (reader ∷ []) [] []
+    ∷ book 3 (entry ∷ []) (reader ∷ []) (search ∷ []) []
+    ∷ book 4 [] (reader ∷ []) (search ∷ []) (removed ∷ [])
+    ∷ book 5 [] (reader ∷ []) [] (removed ∷ [])
+    ∷ book 10 [] (reader ∷ []) [] (removed ∷ [])
+    ∷ book 11 [] [] [] (removed ∷ [])
+    ∷ book 15 [] [] [] (removed ∷ [])
+    ∷ book 16 [] [] [] []
+    ∷ book 17 [] [] [] []
+    ∷ []
+
+-- ---- absent is an answer too; a replace makes its entry in place of the old one; a refused call changes nothing
+
+abbrev pub edges : List Line
+edges =
+    line (set-up 1 2 3) 0 145 0 0 0
+    ∷ op (add 0 17 25 1) 0 0 0 0 0
+    ∷ op (begin 0) 0 0 0 0 0
+    ∷ op (start 0 24) 0 0 0 0 0
+    ∷ op (step 0) 0 2 0 0 0
+    ∷ op (begin 1) 0 0 0 0 0
+    ∷ op (replace 1 17 30 2) 0 1 0 0 0
+    ∷ op (end 0) 0 0 0 0 0
+    ∷ op (delete 0 24) 13 0 0 0 0
+    ∷ []
+
+abbrev pub first : Section
+first = record { lane = 0; opened = 2 }
+
+abbrev pub second : Section
+second = record { lane = 1; opened = 5 }
+
+abbrev pub unanswered : Search
+unanswered = record { lane = 0; code = 24; started = 3 }
+
+abbrev pub new : Entry
+new = record { code = 17; slot = 1; deposit = 30; material = 2 }
+
+-- with the sections of both lanes
+abbrev pub replaced : Out
+replaced = record { slot = 0; sections = second ∷ first ∷ [] }
+
+abbrev pub edged : List Book
+edged =
+    book 3 (entry ∷ []) (first ∷ []) (unanswered ∷ []) []
+    ∷ book 4 (entry ∷ []) (first ∷ []) [] []
+    ∷ book 6 (new ∷ []) (second ∷ first ∷ []) [] (replaced ∷ [])
+    ∷ book 7 (new ∷ []) (second ∷ []) [] (replaced ∷ [])
+    ∷ book 8 (new ∷ []) (second ∷ []) [] (replaced ∷ [])
+    ∷ []
+
+abbrev pub accounts : List Account
+accounts = account listing listed ∷ account edges edged ∷ []
+
+-- the ledger holds each
+pub ledgers-hold : map held accounts ≡ map owed accounts
+unfolding held owed
+ledgers-hold = refl

@@ -1,0 +1,90 @@
+-- A call that met its contract, by whether five words were lent for its answer; and calls made one after another are the events of the model, those that
+-- were not made left out.
+use Prim.Native.Nat.{ℕ}
+use mathlib.Core.Path.{_≡_, refl, ap, subst, _∙_}
+use mathlib.Core.Bool.{true, false}
+use mathlib.Core.List.{List, [], _∷_, _++_, map}
+use lib.ListN.{length, drop}
+use lib.Dec.{ltb}
+use Rattle.laws.specs.Tests.{cond-cases}
+use Rattle.model.specs.Lists.{drops}
+use Rattle.model.specs.State.{State}
+use Rattle.model.specs.Rules.{Answer, next}
+use Rattle.model.specs.Memory.{state}
+use Rattle.model.specs.Calls.{Call, set-up, on-state, reply, left, leftAll}
+use Rattle.model.specs.Ledger.{Event, events, RefusesSetUps}
+use Rattle.representation.specs.MemoryCalls.{refused-keeps, left-state}
+use Rattle.representation.specs.Memories.{Sound, left-sound}
+use Rattle.product_table.specs.Called.{answerLength, shortAnswer, answerWords, Outcome, outcomeOf, Called}
+use Rattle.demands.specs.Demands.{NotMade, Answered, Run, Ran, lastMemory, NoSetUp, NoSetUps, isShort, callOf, callsOf, stateAfter}
+use Rattle.demands.specs.Demands.{answerIn, eventOf, eventsOf}
+
+-- ---- one call
+
+module _ (k : Call) (m a n b : List ℕ) (s : ℕ) (h : Called k m a n b s) where
+  pub short-run : ltb (length a) answerLength ≡ true → NotMade m a n b s
+  unfolding outcomeOf
+  short-run e = record {
+    status = ap (λ (o : Outcome). o .status) (rw e at h);
+    memory = ap (λ (o : Outcome). o .memory) (rw e at h);
+    answer = ap (λ (o : Outcome). o .answer) (rw e at h);
+  }
+
+  module _ (e : ltb (length a) answerLength ≡ false) where
+    pub long-memory : n ≡ left m k
+    unfolding outcomeOf
+    long-memory = ap (λ (o : Outcome). o .memory) (rw e at h)
+
+    pub long-answer : Answered (reply m k) a b s
+    unfolding outcomeOf
+    long-answer = record { status = ap (λ (o : Outcome). o .status) (rw e at h); answer = ap (λ (o : Outcome). o .answer) (rw e at h) }
+
+-- ---- the calls of a list
+
+-- what holds of the calls that were made, by what holds of the later ones: of a call on m, whose contract is met
+module _ (P : List ℕ → List Run → Type 0) (m : List ℕ) (x : Run) (xs : List Run) where
+  on-run : Called (x .call) m (x .lent) (x .memory) (x .answer) (x .status) → P (x .memory) (drops isShort xs)
+      → (isShort x ≡ false → P (left m (x .call)) (drops isShort xs) → P m (x ∷ drops isShort xs)) → P m (drops isShort (x ∷ xs))
+  unfolding drops
+  on-run d h f =
+      cond-cases (P m) (isShort x) (λ e. later m (short-run _ _ _ _ _ _ d e .memory)) (λ e. f e (later (left m (x .call)) (long-memory _ _ _ _ _ _ d e)))
+    where
+      later : (n : List ℕ) → x .memory ≡ n → P n (drops isShort xs)
+      later n e = subst (λ (n : List ℕ). P n (drops isShort xs)) e h
+
+pub ran-events : (m : List ℕ) (xs : List Run) → Ran m xs → eventsOf xs ≡ events m (callsOf xs)
+unfolding Ran events drops
+ran-events m [] h = refl
+ran-events m (x ∷ xs) (d, h) =
+    on-run (λ (n : List ℕ) (ys : List Run). map eventOf ys ≡ events n (map callOf ys)) m x xs d (ran-events (x .memory) xs h)
+    (λ e i. let r : answerIn (x .answer) ≡ reply m (x .call) = ap answerIn (long-answer _ _ _ _ _ _ d e .answer) in rw (r, i))
+
+pub ran-left : (m : List ℕ) (xs : List Run) → Ran m xs → lastMemory m xs ≡ leftAll m (callsOf xs)
+unfolding Ran lastMemory leftAll drops
+ran-left m [] h = refl
+ran-left m (x ∷ xs) (d, h) =
+    on-run (λ (n : List ℕ) (ys : List Run). lastMemory (x .memory) xs ≡ leftAll n (map callOf ys)) m x xs d (ran-left (x .memory) xs h) (λ e i. i)
+
+pub ran-set-ups : (m : List ℕ) (xs : List Run) → Ran m xs → NoSetUps xs → RefusesSetUps m (callsOf xs)
+unfolding Ran NoSetUps RefusesSetUps drops
+ran-set-ups m [] h r = tt
+ran-set-ups m (x ∷ xs) (d, h) (r, rs) =
+    on-run (λ (n : List ℕ) (ys : List Run). RefusesSetUps n (map callOf ys)) m x xs d (ran-set-ups (x .memory) xs h rs)
+    (λ e i. go (x .call) (long-answer _ _ _ _ _ _ d e .status) r i)
+  where
+    go : (k : Call) → x .status ≡ reply m k .status → NoSetUp k (x .status) → RefusesSetUps (left m k) (callsOf xs) → RefusesSetUps m (k ∷ callsOf xs)
+    go (set-up c p n) e f g = ((λ z. f (e ∙ z)), g)
+    go (on-state k) e f g = g
+
+-- ---- the state after a list
+
+pub leftAll-state : (ks : List Call) (m : List ℕ) → Sound m → RefusesSetUps m ks
+    → Sound (leftAll m ks) × (state (leftAll m ks) ≡ stateAfter (state m) ks)
+unfolding leftAll stateAfter RefusesSetUps
+leftAll-state [] m v r = (v, refl)
+leftAll-state (set-up c p n ∷ ks) m v r =
+    let same = refused-keeps m (set-up c p n) (r .0) in
+    rw same (leftAll-state ks m v (rw same at (r .1)))
+leftAll-state (on-state k ∷ ks) m v r =
+    let (w, e) = leftAll-state ks (left m (on-state k)) (left-sound m (on-state k) v) r in
+    (w, e ∙ ap (λ (s : State). stateAfter s ks) (left-state m k (v .lawful) (v .words)))

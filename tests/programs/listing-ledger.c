@@ -1,0 +1,103 @@
+/*
+ * listing-ledger.c - document 01's listing, fed to the ledger of demand 3: what the
+ * ledger holds at eleven instants, those of the definitions' computed ledger (crate
+ * cases, Ledgers). The ledger keeps of a removed slot's sections those still open.
+ */
+#include <stdio.h>
+
+#include "ledger.h"
+#include "trial.h"
+
+/* The calls after the set-up; instant k is the end of call k. */
+static const struct trial_step listing[] = {
+	{ "add 0 17 25 1", "0 0 0 0 0" }, { "begin 1", "0 0 0 0 0" },
+	{ "start 1 17", "0 0 0 0 0" }, { "del 0 17", "0 0 0 0 0" },
+	{ "step 1", "0 1 0 25 1" }, { "clock 0", "0 1 1 1 0" },
+	{ "clock 1", "0 1 1 1 0" }, { "pass 0 0", "0 0 0 0 0" },
+	{ "clock 0", "0 1 1 1 0" }, { "pass 1 0", "7 0 0 0 0" },
+	{ "end 1", "0 0 0 0 0" }, { "pass 1 0", "0 0 0 0 0" },
+	{ "clock 1", "0 2 1 0 0" }, { "back 0", "16 0 0 0 0" },
+	{ "clock 0", "0 2 1 0 0" }, { "back 0", "0 0 0 0 0" },
+	{ "awaited", "0 0 4294967295 3 0" },
+};
+
+enum { CALLS_LISTED = sizeof(listing) / sizeof(listing[0]) };
+
+/* What the ledger holds of slot 0 and of lane 1; it holds nothing else. */
+struct book {
+	size_t instant;
+	bool entered;  /* 17 with deposit 25 and material 1, in slot 0 */
+	bool reading;  /* lane 1's section */
+	bool searches; /* lane 1's lookup of 17 */
+	bool out;      /* slot 0 */
+	uint64_t sections; /* open still, of those of its removal: bit 1 is lane 1's */
+};
+
+static const struct book books[] = {
+	{ 0, false, false, false, false, 0 },
+	{ 1, true, false, false, false, 0 },
+	{ 2, true, true, false, false, 0 },
+	{ 3, true, true, true, false, 0 },
+	{ 4, false, true, true, true, 2 },
+	{ 5, false, true, false, true, 2 },
+	{ 10, false, true, false, true, 2 },
+	{ 11, false, false, false, true, 0 },
+	{ 15, false, false, false, true, 0 },
+	{ 16, false, false, false, false, 0 },
+	{ 17, false, false, false, false, 0 },
+};
+
+enum { BOOKS = sizeof(books) / sizeof(books[0]) };
+
+static struct trial trial;
+static struct ledger ledger;
+
+static void check_slots(const struct book *book)
+{
+	for (size_t slot = 0; slot < LEDGER_SLOTS; slot++) {
+		const struct ledger_slot *held = &ledger.slot[slot];
+		bool first = slot == 0;
+
+		CHECK((held->entered != 0) == (first && book->entered));
+		CHECK((held->out != 0) == (first && book->out));
+		CHECK(held->sections == (first ? book->sections : 0));
+		if (held->entered)
+			CHECK(held->code == 17 && held->deposit == 25 && held->material == 1);
+	}
+}
+
+static void check_lanes(const struct book *book)
+{
+	for (size_t lane = 0; lane < LEDGER_LANES; lane++) {
+		const struct ledger_lane *held = &ledger.lane[lane];
+		bool second = lane == 1;
+
+		CHECK((held->reading != 0) == (second && book->reading));
+		CHECK((held->lookup != 0) == (second && book->searches));
+		if (held->lookup)
+			CHECK(held->code == 17);
+	}
+}
+
+int main(void)
+{
+	size_t made = 0;
+
+	trial_start(&trial);
+	trial_expect(&trial, "setup 1 2 3", "0 145 0 0 0");
+	ledger_reset(&ledger);
+	for (size_t n = 0; n < BOOKS; n++) {
+		for (; made < books[n].instant; made++) {
+			struct call call = trial_call(listing[made].call);
+
+			trial_expect(&trial, listing[made].call, listing[made].answer);
+			CHECK(ledger_feed(&ledger, &call, trial.answer) == NULL);
+			CHECK(ledger_kept(&ledger, trial.memory) == NULL);
+		}
+		check_slots(&books[n]);
+		check_lanes(&books[n]);
+	}
+	CHECK(made == CALLS_LISTED);
+	printf("the listing's ledger at %d instants\n", (int)BOOKS);
+	return 0;
+}
