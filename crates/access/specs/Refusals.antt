@@ -1,16 +1,42 @@
--- Causes tested one after another: the number that the code answers is the first that applies.
+-- Causes tested one after another: the number that the code answers is the first that applies. `refusals` is the set of laws by which `search` reads a
+-- function's tests off a call's list of causes, whatever that list is: each step passes by the list's first cause, or stops there.
 use Prim.Native.Nat.{ℕ, _≤_, _<_}
-use mathlib.Core.Path.{_≡_, refl, sym, _∙_}
-use mathlib.Core.Bool.{Bool, true, false, cond}
+use mathlib.Core.Path.{_≡_, refl, ap, sym, _∙_}
+use mathlib.Core.Bool.{Bool, true, false, not, cond}
 use mathlib.Core.List.{List, [], _∷_, _++_}
 use native.Mathlib.Omega.{arith}
-use Rattle.model.specs.Rules.{Cause, cause, firstOf}
-use Rattle.representation.specs.Passed.{Numbered, Clear, clear}
+use Rattle.model.specs.State.{State}
+use Rattle.model.specs.Rules.{Cause, cause, firstOf, ofLane}
+use Rattle.representation.specs.Passed.{Clear, clear}
 
--- ---- lists of causes
+-- ---- the first cause of a list, by the code's test b of it
+
+module _ (b x : Bool) (e : b ≡ x) (n : ℕ) (cs : List Cause) where
+  pub stops : b ≡ true → n ≡ firstOf (cause n x ∷ cs)
+  unfolding firstOf
+  stops q = rw (sym e ∙ q)
+
+  pub goes-by : (k : ℕ) → b ≡ false → n ≡ firstOf cs → n ≡ firstOf (cause k x ∷ cs)
+  unfolding firstOf
+  goes-by k q h = rw (sym e ∙ q) h
+
+  -- the cause is that x is not so
+  pub stops-not : not b ≡ true → n ≡ firstOf (cause n (not x) ∷ cs)
+  unfolding firstOf
+  stops-not q = rw (ap not (sym e) ∙ q)
+
+  pub goes-by-not : (k : ℕ) → not b ≡ false → n ≡ firstOf cs → n ≡ firstOf (cause k (not x) ∷ cs)
+  unfolding firstOf
+  goes-by-not k q h = rw (ap not (sym e) ∙ q) h
+
+pub none-left : 0 ≡ firstOf []
+unfolding firstOf
+none-left = refl
+
+-- ---- the causes of a lane, tested together
 
 -- the first of some refuses
-pub first-of-some : (cs ds : List Cause) (x : ℕ) → x ≡ firstOf cs → 0 < x → x ≡ firstOf (cs ++ ds)
+first-of-some : (cs ds : List Cause) (x : ℕ) → x ≡ firstOf cs → 0 < x → x ≡ firstOf (cs ++ ds)
 unfolding firstOf
 first-of-some [] ds x e h = absurd (omega arith)
 first-of-some (c ∷ cs) ds x e h = go (c .applies) (λ q. first-of-some cs ds x q h) e
@@ -19,33 +45,19 @@ first-of-some (c ∷ cs) ds x e h = go (c .applies) (λ q. first-of-some cs ds x
     go true ih q = q
     go false ih q = ih q
 
+-- none of them does
 skipped : (cs ds : List Cause) → Clear cs → firstOf (cs ++ ds) ≡ firstOf ds
 unfolding firstOf
 skipped [] ds h = refl
 skipped (c ∷ cs) ds h = rw (h .0) (skipped cs ds (h .1))
 
--- none of them does
-pub first-of-rest : (cs ds : List Cause) (x : ℕ) → Numbered cs → x ≡ firstOf cs → x ≤ 0 → firstOf (cs ++ ds) ≡ firstOf ds
-first-of-rest cs ds x n e h = let z : x ≡ 0 = omega arith in skipped cs ds (clear cs n (sym e ∙ z))
+module _ (s : State) (i : ℕ) (cs : List Cause) (x : ℕ) (e : x ≡ firstOf (ofLane s i [])) where
+  -- one of them refuses every call of the lane
+  pub lane-stops : 0 < x → x ≡ firstOf (ofLane s i cs)
+  lane-stops h = first-of-some (ofLane s i []) cs x e h
 
-pub applies : (n : ℕ) (b : Bool) (cs : List Cause) → b ≡ true → n ≡ firstOf (cause n b ∷ cs)
-unfolding firstOf
-applies n b cs e = rw e
+  -- none does, and the call's other causes decide
+  pub lane-goes-by : (n : ℕ) → x ≤ 0 → n ≡ firstOf cs → n ≡ firstOf (ofLane s i cs)
+  lane-goes-by n h q = let z : x ≡ 0 = omega arith in q ∙ sym (skipped (ofLane s i []) cs (clear (ofLane s i []) (omega arith) (sym e ∙ z)))
 
-pub lacks : (n : ℕ) (b : Bool) (cs : List Cause) → b ≡ false → firstOf (cause n b ∷ cs) ≡ firstOf cs
-unfolding firstOf
-lacks n b cs e = rw e
-
--- ---- one cause more, where those before it do not refuse
-
-module _ (cs : List Cause) (numbered : Numbered cs) (x : ℕ) (e : x ≡ firstOf cs) (h : x ≤ 0) (n : ℕ) (b : Bool) (ds : List Cause) where
-  pub more-applies : b ≡ true → n ≡ firstOf (cs ++ (cause n b ∷ ds))
-  more-applies q = applies n b ds q ∙ sym (first-of-rest cs (cause n b ∷ ds) x numbered e h)
-
-  pub more-lacks : b ≡ false → firstOf ds ≡ firstOf (cs ++ (cause n b ∷ ds))
-  more-lacks q = sym (first-of-rest cs (cause n b ∷ ds) x numbered e h ∙ lacks n b ds q)
-
--- and none after it
-pub more-passes : (cs : List Cause) → Numbered cs → (x : ℕ) → x ≡ firstOf cs → x ≤ 0 → (n : ℕ) (b : Bool) → b ≡ false → 0 ≡ firstOf (cs ++ (cause n b ∷ []))
-unfolding firstOf
-more-passes cs numbered x e h n b q = more-lacks cs numbered x e h n b [] q
+pub ruleset refusals = (stops, goes-by, stops-not, goes-by-not, none-left, lane-stops, lane-goes-by)

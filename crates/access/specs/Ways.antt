@@ -16,6 +16,7 @@ use Rattle.representation.specs.Standing.{fit}
 use Rattle.representation.specs.Round.{ready, stored-state}
 use Rattle.representation.specs.MemoryCalls.{reply-illegal, left-illegal, reply-legal, left-legal}
 use Rattle.representation.specs.Memories.{Sound}
+use Rattle.representation.specs.Accepted.{Accepted, accepted}
 use Rattle.changes.specs.Shows.{Shows, shows-state}
 use Rattle.access.specs.declared.Answer.{Answer}
 use Rattle.access.specs.Contract.{five, Does}
@@ -41,6 +42,10 @@ module _ (m : List ℕ) (k : Op) where
       answer = f ∙ sym (reply-legal m k (v .lawful) ∙ ap (λ (y : ℕ). answerOf (state m) y k) (sym e));
       memory = g ∙ sym (left-legal m k (v .lawful) (v .words) ∙ ap (λ (y : ℕ). stored (nextOf (state m) y k) m) (sym e));
     }
+
+-- what is known of a call that no cause refuses
+pub passed : (m : List ℕ) (k : Op) (x : ℕ) → x ≡ refusal (state m) k → x ≤ 0 → Accepted (state m) k
+passed m k x e h = let z : x ≡ 0 = omega arith in accepted (state m) k (sym e ∙ z)
 
 -- ---- what a legal memory has
 

@@ -1,5 +1,7 @@
-// What every call starts from on a legal memory: the five words of its answer, a lane's record and flags, the causes 4, 5 and 7,
-// and where the chains and the slots stand.
+// What every call starts from on a legal memory: the five words of its answer, a lane's record and flags, the causes of every
+// call of a lane, and where the chains and the slots stand.
+pub mod causes;
+
 ghost use mathlib.Core.Path.{_≡_};
 ghost use mathlib.Core.List.{[]};
 ghost use Prim.Native.Nat.{_/_, _%_, _<_};
@@ -7,12 +9,13 @@ ghost use Rattle.model.specs.State.{laneCount, isRunning};
 ghost use Rattle.model.specs.Layout.{laneAddress, slotsBody};
 ghost use Rattle.model.specs.Lists.{first};
 ghost use Rattle.model.specs.Table.{chainOf};
-ghost use Rattle.model.specs.Rules.{refused as refusedWords, accepted as acceptedWords, firstOf, ofLane, laneOf, refusal, begin as beginning};
+ghost use Rattle.model.specs.Rules.{refused as refusedWords, accepted as acceptedWords, firstOf, noSuchLane, ofLane, laneOf, wrongCode};
 ghost use Rattle.model.specs.Memory.{at, flag, sizes, state};
 ghost use Rattle.representation.specs.Memories.{Sound};
 ghost use Rattle.masks.specs.Bits.{width};
 ghost use Rattle.access.specs.Contract.{five};
-ghost use Rattle.access.specs.Lanes.{LaneIn, flagSet, flagCleared};
+ghost use Rattle.access.specs.Flags.{withFlag, flagPut};
+ghost use Rattle.access.specs.Lanes.{LaneIn};
 
 // the bits of a lane's flags
 pub const ONLINE: u32 = 0;
@@ -101,6 +104,17 @@ pub fn lane_flag(m: &[u32], lane: u32, p: u32) -> bool
     masks::test(m[a], p)
 }
 
+// Flags whose bit p is `on`.
+pub fn with_flag(flags: u32, p: u32, on: bool) -> u32
+    requires { ⌜ p < width ⌝ }
+    ensures { λ r. ⌜ r ≡ withFlag p on flags ⌝ }
+{
+    if on {
+        return masks::set_bit(flags, p);
+    }
+    masks::clear_bit(flags, p)
+}
+
 // Whether a lane is on.
 pub fn is_online(m: &[u32], lane: u32) -> bool
     requires { ⌜ LaneIn (now m) lane ⌝ }
@@ -125,51 +139,42 @@ pub fn is_running(m: &[u32], lane: u32) -> bool
     lane_flag(m, lane, LOOKUP)
 }
 
-// Sets bit p of a lane's flags. All other words stay.
-pub fn set_flag(m: &mut [u32], lane: u32, p: u32)
+// Bit p of a lane's flags becomes `on`. All other words stay.
+pub fn put_flag(m: &mut [u32], lane: u32, p: u32, on: bool)
     requires { ⌜ LaneIn (now m) lane × (p < width) ⌝ }
-    ensures { λ _. ⌜ now (m .exit) ≡ flagSet (now (m .entry)) (laneAddress (sizes (now (m .entry))) lane) p ⌝ }
+    ensures { λ _. ⌜ now (m .exit) ≡ flagPut (now (m .entry)) (laneAddress (sizes (now (m .entry))) lane) p on ⌝ }
 {
     let a = lane_address(m, lane);
-    m[a] = masks::set_bit(m[a], p);
-}
-
-// Clears bit p of a lane's flags. All other words stay.
-pub fn clear_flag(m: &mut [u32], lane: u32, p: u32)
-    requires { ⌜ LaneIn (now m) lane × (p < width) ⌝ }
-    ensures { λ _. ⌜ now (m .exit) ≡ flagCleared (now (m .entry)) (laneAddress (sizes (now (m .entry))) lane) p ⌝ }
-{
-    let a = lane_address(m, lane);
-    m[a] = masks::clear_bit(m[a], p);
+    m[a] = with_flag(m[a], p, on);
 }
 
 // ---- causes
 
-// Causes 4 and 5: the number of the first that applies, 0 where none does.
+// Whether there is no such lane.
+pub fn is_unknown(m: &[u32], lane: u32) -> bool
+    requires { ⌜ Sound (now m) ⌝ }
+    ensures { λ r. ⌜ r ≡ noSuchLane (state (now (m .entry))) lane .applies ⌝ }
+{
+    lane >= lane_count(m)
+}
+
+// Whether a code is out of range.
+pub fn wrong_code(code: u64) -> bool
+    ensures { λ r. ⌜ r ≡ wrongCode code ⌝ }
+{
+    code > words::MAX_CODE
+}
+
+// The causes of every call of a lane that has to be on: the number of the first that applies, 0 where none does.
 pub fn lane_refusal(m: &[u32], lane: u32) -> u32
     requires { ⌜ Sound (now m) ⌝ }
     ensures { λ r. ⌜ r ≡ firstOf (ofLane (state (now (m .entry))) lane []) ⌝ }
 {
-    if lane >= lane_count(m) {
-        return 4;
+    if is_unknown(m, lane) {
+        return causes::NO_LANE;
     }
     if !is_online(m, lane) {
-        return 5;
-    }
-    0
-}
-
-// The number of the cause that refuses it, 0 where none does.
-pub fn begin_refusal(m: &[u32], lane: u32) -> u32
-    requires { ⌜ Sound (now m) ⌝ }
-    ensures { λ r. ⌜ r ≡ refusal (state (now (m .entry))) (beginning lane) ⌝ }
-{
-    let n = lane_refusal(m, lane);
-    if n > 0 {
-        return n;
-    }
-    if is_reading(m, lane) {
-        return 7;
+        return causes::OFFLINE;
     }
     0
 }

@@ -13,7 +13,6 @@ use Rattle.model.specs.Table.{product, chainNumber, chainOf, slotOf, present}
 use Rattle.model.specs.Rules.{add, replace, performed}
 use Rattle.model.specs.Memory.{at}
 use Rattle.model.specs.Calls.{stored}
-use Rattle.representation.specs.Passed.{within}
 use Rattle.queues.specs.Queue.{lessFirst}
 use Rattle.chains.specs.declared.Found.{Found}
 use Rattle.chains.specs.Chain.{foundAt, putInPlace}

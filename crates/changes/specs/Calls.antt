@@ -3,15 +3,13 @@ use Prim.Native.Nat.{ℕ}
 use mathlib.Core.Bool.{true, false}
 use mathlib.Core.Path.{_≡_}
 use mathlib.Core.List.{List}
-use native.Mathlib.Omega.{arith}
-use borrow.Author.Tests.{not-false}
 use Rattle.model.specs.Lists.{isEmpty}
 use Rattle.model.specs.State.{Sizes, State}
 use Rattle.model.specs.Layout.{freeAt}
-use Rattle.model.specs.Rules.{add, replace, delete, hand-back, causes, refusal, laneOf, performed}
+use Rattle.model.specs.Rules.{add, replace, delete, hand-back, laneOf, performed}
 use Rattle.model.specs.Memory.{at}
 use Rattle.model.specs.Calls.{stored}
-use Rattle.representation.specs.Passed.{clear, within}
+use Rattle.representation.specs.Accepted.{AddAccepted, ReplaceAccepted, DeleteAccepted, HandBackAccepted}
 use Rattle.representation.specs.WellFormed.{WellFormed}
 use Rattle.chains.specs.declared.Found.{Found}
 use Rattle.changes.specs.Shows.{Shows}
@@ -30,38 +28,25 @@ module _ (s : State) (m : List ℕ) (shows : Shows m s) (w : WellFormed s) where
   shaped : Shape s
   shaped = wellFormed-shape s w
 
-  pub add-stored : (i c d t n : ℕ) → refusal s (add i c d t) ≡ 0 → n ≡ at m freeAt → addedWords sized m n c d t ≡ stored (performed s (add i c d t)) m
-  unfolding causes
-  add-stored i c d t n h e =
-      let (known, (online, (inRange, (missing, (some, rest))))) = clear (causes s (add i c d t)) (omega arith) h in
-      add-words s m shows shaped c d t some i n e
+  pub add-stored : (i c d t n : ℕ) → AddAccepted s i c d t → n ≡ at m freeAt → addedWords sized m n c d t ≡ stored (performed s (add i c d t)) m
+  add-stored i c d t n h e = add-words s m shows shaped c d t (h .free) i n e
 
-  pub replace-stored : (i c d t n : ℕ) (f : Found) → refusal s (replace i c d t) ≡ 0 → n ≡ at m freeAt → f ≡ searchWords sized m c
+  pub replace-stored : (i c d t n : ℕ) (f : Found) → ReplaceAccepted s i c d t → n ≡ at m freeAt → f ≡ searchWords sized m c
       → replacedWords sized m i n c d t f ≡ stored (performed s (replace i c d t)) m
-  unfolding causes
-  replace-stored i c d t n f h e g =
-      let (known, (online, (inRange, (here, (some, rest))))) = clear (causes s (replace i c d t)) (omega arith) h in
-      replace-words s m shows shaped c d t some i (within s i known) (not-false _ here) n f e g
+  replace-stored i c d t n f h e g = replace-words s m shows shaped c d t (h .free) i (h .lane .known) (h .present) n f e g
 
-  pub delete-stored : (i c : ℕ) (f : Found) → refusal s (delete i c) ≡ 0 → f ≡ searchWords sized m c
+  pub delete-stored : (i c : ℕ) (f : Found) → DeleteAccepted s i c → f ≡ searchWords sized m c
       → deletedWords sized m i c f ≡ stored (performed s (delete i c)) m
-  unfolding causes
-  delete-stored i c f h e =
-      let (known, (online, (inRange, (here, rest)))) = clear (causes s (delete i c)) (omega arith) h in
-      delete-words s m shows shaped i c (within s i known) (not-false _ here) f e
+  delete-stored i c f h e = delete-words s m shows shaped i c (h .lane .known) (h .present) f e
 
   -- from the lane's done queue, where it is not empty
-  pub hand-back-lane-stored : (i n : ℕ) → refusal s (hand-back i) ≡ 0 → isEmpty (laneOf s i .queues .done) ≡ false → n ≡ at m (endsAt sized (lane i done))
+  pub hand-back-lane-stored : (i n : ℕ) → HandBackAccepted s i → isEmpty (laneOf s i .queues .done) ≡ false → n ≡ at m (endsAt sized (lane i done))
       → reclaimedWords sized m (lane i done) n ≡ stored (performed s (hand-back i)) m
-  unfolding causes
-  hand-back-lane-stored i n h some e =
-      let (known, (online, (either, rest))) = clear (causes s (hand-back i)) (omega arith) h in
-      hand-back-words s m shows shaped i n (within s i known) some e
+  hand-back-lane-stored i n h some e = hand-back-words s m shows shaped i n (h .lane .known) some e
 
   -- else from the global one
-  pub hand-back-global-stored : (i n : ℕ) → refusal s (hand-back i) ≡ 0 → isEmpty (laneOf s i .queues .done) ≡ true → n ≡ at m (endsAt sized (global done))
+  pub hand-back-global-stored : (i n : ℕ) → HandBackAccepted s i → isEmpty (laneOf s i .queues .done) ≡ true → n ≡ at m (endsAt sized (global done))
       → reclaimedWords sized m (global done) n ≡ stored (performed s (hand-back i)) m
-  unfolding causes
   hand-back-global-stored i n h empty e =
-      let (known, (online, (either, rest))) = clear (causes s (hand-back i)) (omega arith) h in
+      let either = h .done in
       hand-back-global-words s m shows shaped i n empty (rw empty at either) e

@@ -13,7 +13,6 @@ use Rattle.model.specs.Table.{chainNumber, chainOf, slotOf, present}
 use Rattle.model.specs.Rules.{delete, hand-back, laneOf, performed}
 use Rattle.model.specs.Memory.{at}
 use Rattle.model.specs.Calls.{stored}
-use Rattle.representation.specs.Passed.{clear, within}
 use Rattle.queues.specs.Queue.{lessFirst}
 use Rattle.chains.specs.declared.Found.{Found}
 use Rattle.chains.specs.Chain.{recordAddress, foundAt, unlinked, cleared}

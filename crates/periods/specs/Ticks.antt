@@ -2,12 +2,11 @@
 use Prim.Native.Nat.{ℕ, _/_, _%_, _≤_}
 use mathlib.Core.Path.{_≡_, refl, ap, sym, _∙_}
 use mathlib.Core.Bool.{cond}
-use mathlib.Core.List.{List, [], _∷_}
-use native.Mathlib.Omega.{arith}
+use mathlib.Core.List.{List, []}
 use lib.Dec.{eqb}
 use Rattle.model.specs.Layout.{currentGenerationAt, largestGenerationAt, cabinetMaskAt, slotsBody}
 use Rattle.model.specs.State.{Sizes, State}
-use Rattle.model.specs.Rules.{off, clock, zeros, accepted, firstOf, ofLane, sectionOpen, onlyOnline, causes, refusal, result, performed}
+use Rattle.model.specs.Rules.{off, clock, zeros, accepted, firstOf, ofLane, causes, refusal, result, performed}
 use Rattle.model.specs.Memory.{at, sizes, state}
 use Rattle.model.specs.Calls.{on-state, stored}
 use Rattle.representation.specs.Memories.{Sound}
@@ -18,8 +17,8 @@ use Rattle.snapshots.specs.Clock.{ClockLent, clockWords}
 use Rattle.snapshots.specs.ClockLaws.{clock-lent, clock-stored, clock-answer}
 use Rattle.access.specs.declared.Answer.{Answer}
 use Rattle.access.specs.Contract.{five, Does}
-use Rattle.access.specs.Ways.{performs, shown, wellFormed, inRange}
-use Rattle.access.specs.Lanes.{LaneIn, StandsAt, stands-at, lane-of}
+use Rattle.access.specs.Ways.{performs, passed, shown, wellFormed, inRange}
+use Rattle.access.specs.Lanes.{LaneIn, StandsAt, stands-at, lane-known}
 
 -- the words after lane i went off, and after its clock
 abbrev pub takenOff : List ℕ → ℕ → List ℕ
@@ -85,16 +84,14 @@ clock-refusal s i x e = e
 
 module _ (m : List ℕ) (v : Sound m) (i x : ℕ) (h : x ≤ 0) where
   pub off-lane : x ≡ refusal (state m) (off i) → LaneIn m i
-  unfolding causes
-  off-lane e = lane-of m v i (sectionOpen (state m) i ∷ onlyOnline (state m) i ∷ []) (omega arith) x e h
+  off-lane e = lane-known m v i (passed m (off i) x e h .lane .known)
 
   pub off-done : (r : Answer) (n : List ℕ) → x ≡ refusal (state m) (off i) → five r ≡ zeros → n ≡ takenOff m i → Does (on-state (off i)) m r n
   unfolding result
   off-done r n e f g = performs m (off i) v x r n e h f (g ∙ off-words m i (off-lane e))
 
   clock-lane : x ≡ refusal (state m) (clock i) → LaneIn m i
-  unfolding causes
-  clock-lane e = lane-of m v i [] (omega arith) x e h
+  clock-lane e = lane-known m v i (passed m (clock i) x e h .known)
 
   pub clock-done : (r : Answer) (n : List ℕ) (p : ℕ) → x ≡ refusal (state m) (clock i) → n ≡ tickWords m i → p ≡ periodWord n
       → five r ≡ accepted (at n currentGenerationAt) (at n largestGenerationAt) p 0 → Does (on-state (clock i)) m r n

@@ -14,6 +14,7 @@ ghost use Rattle.access.specs.Contract.{Does};
 ghost use Rattle.access.specs.Lanes.{LaneIn};
 ghost use Rattle.periods.specs.Others.{others};
 ghost use Rattle.periods.specs.Ticks.{takenOff, tickWords, periodWord};
+use access::causes;
 
 // ---- off
 
@@ -44,17 +45,20 @@ fn another_online(m: &[u32], lane: u32) -> bool
     false
 }
 
-// The number of the cause that refuses it, 0 where none does: the causes of begin, then that of the only lane on.
+// The number of the cause that refuses it, 0 where none does.
 fn off_refusal(m: &[u32], lane: u32) -> u32
     requires { ⌜ Sound (now m) ⌝ }
     ensures { λ r. ⌜ r ≡ refusal (state (now (m .entry))) (goingOff lane) ⌝ }
 {
-    let n = access::begin_refusal(m, lane);
+    let n = access::lane_refusal(m, lane);
     if n > 0 {
         return n;
     }
+    if access::is_reading(m, lane) {
+        return causes::IN_SECTION;
+    }
     if !another_online(m, lane) {
-        return 15;
+        return causes::LAST_LANE;
     }
     0
 }

@@ -1,21 +1,18 @@
--- The ways out of start and step.
-use Prim.Native.Nat.{ℕ, _+_, _≤_, _<_}
+-- Start, and what a running lookup's words say: the stores of start are the words of a lookup at the head of its chain.
+use Prim.Native.Nat.{ℕ, _+_, _≤_}
 use mathlib.Core.Path.{_≡_, refl, ap, ap₂, sym, subst, _∙_}
-use mathlib.Core.Bool.{Bool, true, false, not}
-use mathlib.Core.List.{List, [], _∷_}
+use mathlib.Core.Bool.{Bool, true, false}
+use mathlib.Core.List.{List}
 use native.Mathlib.Omega.{arith}
 use lib.ListN.{set}
-use borrow.Author.Tests.{lt-ltb, le-ltb}
 use Rattle.model.specs.Lists.{first}
 use Rattle.model.specs.State.{Lookup, idle, running, isRunning, State}
-use Rattle.model.specs.Layout.{maxCode, flagsAt, lookupAt, positionAt, laneAddress, slotsBody}
+use Rattle.model.specs.Layout.{flagsAt, lookupAt, positionAt, laneAddress, slotsBody}
 use Rattle.model.specs.Table.{chainOf}
 use Rattle.model.specs.Engine.{setLookup}
-use Rattle.model.specs.Rules.{end, start, step, zeros, firstOf, ofLane, outOfRange, wrongCode, noLookup, causes, refusal, laneOf, outcome, result}
+use Rattle.model.specs.Rules.{start, zeros, refusal, laneOf, outcome, result}
 use Rattle.model.specs.Memory.{at, wide, wholeOf, low, high, flags, lookupCode, lookupPosition, laneWords, sizes, state}
 use Rattle.model.specs.Calls.{on-state}
-use Rattle.masks.specs.Bits.{withBit}
-use Rattle.representation.specs.Passed.{clear, within}
 use Rattle.representation.specs.WellFormed.{LookupFits}
 use Rattle.representation.specs.Memories.{Sound}
 use Rattle.chains.specs.Outcome.{outcomeAt}
@@ -26,10 +23,9 @@ use Rattle.changes.specs.LaneWords.{lookupWords}
 use Rattle.changes.specs.LaneCalls.{start-stored}
 use Rattle.access.specs.declared.Answer.{Answer}
 use Rattle.access.specs.Contract.{five, Does}
-use Rattle.access.specs.Ways.{performs, shown, wellFormed}
-use Rattle.access.specs.Refusals.{first-of-some, first-of-rest, applies, lacks}
-use Rattle.access.specs.Flags.{lookupBit, word-shown, flags-shown, flags-running}
-use Rattle.access.specs.Lanes.{LaneIn}
+use Rattle.access.specs.Ways.{performs, passed, shown, wellFormed}
+use Rattle.access.specs.Flags.{lookupBit, withFlag, word-shown, flags-shown, flags-lookup}
+use Rattle.access.specs.Lanes.{LaneIn, lane-known}
 
 -- flags f, code c and position p in the record that begins at a; all other words stay
 abbrev pub lookupStored : List ℕ → ℕ → ℕ → ℕ → ℕ → List ℕ
@@ -52,61 +48,24 @@ module _ (m : List ℕ) (v : Sound m) (i c : ℕ) where
   abbrev s : State
   s = state m
 
-  -- the causes of end, tested
-  module _ (x : ℕ) (e : x ≡ refusal s (end i)) where
-    pub start-refused : 0 < x → x ≡ refusal s (start i c)
-    unfolding causes
-    start-refused h = first-of-some (causes s (end i)) (outOfRange s (wrongCode c) ∷ []) x e h
-
-    module _ (h : x ≤ 0) where
-      rest : refusal s (start i c) ≡ firstOf (outOfRange s (wrongCode c) ∷ [])
-      unfolding causes
-      rest = first-of-rest (causes s (end i)) (outOfRange s (wrongCode c) ∷ []) x (omega arith) e h
-
-      pub start-wrong : maxCode < c → 11 ≡ refusal s (start i c)
-      start-wrong q = applies 11 (wrongCode c) [] (lt-ltb maxCode c q) ∙ sym rest
-
-      pub start-passes : c ≤ maxCode → 0 ≡ refusal s (start i c)
-      unfolding firstOf
-      start-passes q = sym (rest ∙ lacks 11 (wrongCode c) [] (le-ltb maxCode c q))
-
   module _ (x : ℕ) (e : x ≡ refusal s (start i c)) (h : x ≤ 0) where
     pub start-lane : LaneIn m i
-    unfolding causes state
-    start-lane = let z : x ≡ 0 = omega arith in record { sound = v; known = within (state m) i (clear (causes (state m) (start i c)) (omega arith) (sym e ∙ z) .0) }
+    start-lane = lane-known m v i (passed m (start i c) x e h .lane .known)
 
-    pub start-done : (a f p : ℕ) (r : Answer) (n : List ℕ) → a ≡ laneAddress (sizes m) i → f ≡ withBit lookupBit (at m a) → p ≡ first (chainOf (s .table) c)
+    pub start-done : (a f p : ℕ) (r : Answer) (n : List ℕ) → a ≡ laneAddress (sizes m) i → f ≡ withFlag lookupBit true (at m a) → p ≡ first (chainOf (s .table) c)
         → five r ≡ zeros → n ≡ lookupStored m a f c p → Does (on-state (start i c)) m r n
     unfolding result state isRunning lookupCode lookupPosition
     start-done a f p r n ea ef ep er en =
-        let z : x ≡ 0 = omega arith in
         let k : Lookup = running c (first (chainOf (s .table) c)) in
         let g : f ≡ flags (setLookup k (laneOf s i))
-        = ef ∙ ap (λ (y : ℕ). withBit lookupBit (at m y)) ea ∙ ap (withBit lookupBit) (flags-shown m v i (start-lane .known)) ∙ flags-running (laneOf s i) k refl in
+        = ef ∙ ap (λ (y : ℕ). withFlag lookupBit true (at m y)) ea ∙ ap (withFlag lookupBit true) (flags-shown m v i (start-lane .known)) ∙ flags-lookup (laneOf s i) k in
         performs m (start i c) v x r n e h er
         (en ∙ ap (λ (y : ℕ). lookupStored m y f c p) ea
         ∙ ap₂ (λ (y w : ℕ). lookupStored m (laneAddress (sizes m) i) y c w) g ep
         ∙ lookupStored-from m (laneAddress (sizes m) i) (flags (setLookup k (laneOf s i))) k
-        ∙ start-stored (state m) m (shown m v) (wellFormed m v) i c (sym e ∙ z))
+        ∙ start-stored (state m) m (shown m v) (wellFormed m v) i c (start-lane .known))
 
--- ---- step
-
-module _ (m : List ℕ) (v : Sound m) (i : ℕ) (x : ℕ) (e : x ≡ firstOf (ofLane (state m) i [])) where
-  pub step-refused : 0 < x → x ≡ refusal (state m) (step i)
-  unfolding causes
-  step-refused h = first-of-some (ofLane (state m) i []) (noLookup (state m) i ∷ []) x e h
-
-  module _ (h : x ≤ 0) (b : Bool) (o : b ≡ isRunning (laneOf (state m) i .lookup)) where
-    only : refusal (state m) (step i) ≡ firstOf (noLookup (state m) i ∷ [])
-    unfolding causes
-    only = first-of-rest (ofLane (state m) i []) (noLookup (state m) i ∷ []) x (omega arith) e h
-
-    pub step-idle : b ≡ false → 10 ≡ refusal (state m) (step i)
-    step-idle q = applies 10 (not (isRunning (laneOf (state m) i .lookup))) [] (ap not (sym o ∙ q)) ∙ sym only
-
-    pub step-passes : b ≡ true → 0 ≡ refusal (state m) (step i)
-    unfolding firstOf
-    step-passes q = sym (only ∙ lacks 10 (not (isRunning (laneOf (state m) i .lookup))) [] (ap not (sym o ∙ q)))
+-- ---- a running lookup
 
 -- a running lookup is its code and its position
 by-parts : (k : Lookup) → isRunning k ≡ true → k ≡ running (lookupCode k) (lookupPosition k)

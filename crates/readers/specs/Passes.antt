@@ -1,60 +1,35 @@
--- The ways out of pass.
+-- Pass: the count that is stored in the lane's cabinet is that of the lane's own record.
 use Prim.Native.Nat.{ℕ, suc, _+_, _*_, _≤_, _<_}
 use native.Mathlib.Nat.{mul-le-mul-right, suc-mul}
 use mathlib.Core.Path.{_≡_, ap, ap₂, sym, subst, _∙_}
-use mathlib.Core.List.{List, [], _∷_}
+use mathlib.Core.List.{List}
 use native.Mathlib.Omega.{arith}
 use lib.ListN.{length}
-use borrow.Author.Tests.{le-leb, lt-leb, leb-false}
+use borrow.Author.Tests.{leb-false}
 use Rattle.model.specs.Layout.{kinds, laneLength, lanesBody, laneAddress}
 use Rattle.model.specs.State.{State}
-use Rattle.model.specs.Rules.{begin, pass, zeros, firstOf, sectionOpen, outOfRange, wrongKind, causes, refusal, result}
+use Rattle.model.specs.Rules.{pass, zeros, refusal, result}
 use Rattle.model.specs.Memory.{sizes, state}
 use Rattle.model.specs.Calls.{on-state}
 use Rattle.lanes.specs.Cabinet.{placeAt, cabinetAt, countedAt}
 use Rattle.lanes.specs.CabinetLaws.{cabinetAt-lane}
-use Rattle.representation.specs.Passed.{clear}
 use Rattle.representation.specs.Memories.{Sound}
 use Rattle.changes.specs.LaneCalls.{pass-stored}
 use Rattle.access.specs.declared.Answer.{Answer}
 use Rattle.access.specs.Contract.{five, Does}
-use Rattle.access.specs.Ways.{performs, shown, wellFormed, long}
-use Rattle.access.specs.Refusals.{first-of-some, first-of-rest, applies, lacks}
-use Rattle.access.specs.Lanes.{LaneIn, StandsAt, lane-of}
+use Rattle.access.specs.Ways.{performs, passed, shown, wellFormed, long}
+use Rattle.access.specs.Lanes.{LaneIn, StandsAt, lane-known}
 
 module _ (m : List ℕ) (v : Sound m) (i k : ℕ) where
   abbrev s : State
   s = state m
 
-  -- the causes of begin, tested
-  module _ (x : ℕ) (e : x ≡ refusal s (begin i)) where
-    pub pass-refused : 0 < x → x ≡ refusal s (pass i k)
-    unfolding causes
-    pass-refused h = first-of-some (causes s (begin i)) (outOfRange s (wrongKind k) ∷ []) x e h
-
-    module _ (h : x ≤ 0) where
-      rest : refusal s (pass i k) ≡ firstOf (outOfRange s (wrongKind k) ∷ [])
-      unfolding causes
-      rest = first-of-rest (causes s (begin i)) (outOfRange s (wrongKind k) ∷ []) x (omega arith) e h
-
-      pub pass-wrong : kinds ≤ k → 11 ≡ refusal s (pass i k)
-      pass-wrong q = applies 11 (wrongKind k) [] (le-leb kinds k q) ∙ sym rest
-
-      pub pass-passes : k < kinds → 0 ≡ refusal s (pass i k)
-      unfolding firstOf
-      pass-passes q = sym (rest ∙ lacks 11 (wrongKind k) [] (lt-leb kinds k q))
-
   module _ (x : ℕ) (e : x ≡ refusal s (pass i k)) (h : x ≤ 0) where
-    zero-refusal : refusal s (pass i k) ≡ 0
-    zero-refusal = let z : x ≡ 0 = omega arith in sym e ∙ z
-
     pub pass-lane : LaneIn m i
-    unfolding causes
-    pass-lane = lane-of m v i (sectionOpen s i ∷ outOfRange s (wrongKind k) ∷ []) (omega arith) x e h
+    pass-lane = lane-known m v i (passed m (pass i k) x e h .lane .known)
 
     pub pass-kind : k < kinds
-    unfolding causes
-    pass-kind = let (known, (online, (closed, (inRange, rest)))) = clear (causes s (pass i k)) (omega arith) zero-refusal in leb-false kinds k inRange
+    pass-kind = leb-false kinds k (passed m (pass i k) x e h .inRange)
 
     module _ (c p : ℕ) (at : StandsAt m i c p) where
       -- its cabinet lies in the lent words
@@ -72,4 +47,4 @@ module _ (m : List ℕ) (v : Sound m) (i k : ℕ) where
           (ew ∙ ap (countedAt m (cabinetAt l n c + placeAt p)) ej
           ∙ ap₂ (λ (y z : ℕ). countedAt m (cabinetAt y z c + placeAt p) k) el en
           ∙ ap (λ (y : ℕ). countedAt m y k) (cabinetAt-lane (sizes m) c p ∙ ap (laneAddress (sizes m)) (at .lane))
-          ∙ pass-stored (state m) m (shown m v) (wellFormed m v) i k zero-refusal)
+          ∙ pass-stored (state m) m (shown m v) (wellFormed m v) i k (passed m (pass i k) x e h))

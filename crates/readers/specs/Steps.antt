@@ -1,4 +1,4 @@
--- The ways out of step.
+-- Step: a lookup that goes on stores its position alone, and one that ends is put to rest.
 use Prim.Native.Nat.{ℕ, _+_, _≤_, _<_}
 use mathlib.Core.Path.{_≡_, refl, ap, sym, subst, _∙_}
 use mathlib.Core.Logic.{inl, inr}
@@ -6,17 +6,15 @@ use mathlib.Core.Bool.{Bool, true, false}
 use mathlib.Core.List.{List}
 use native.Mathlib.Omega.{arith}
 use lib.ListN.{set, getD}
-use borrow.Author.Tests.{eq-eqb, not-false}
+use borrow.Author.Tests.{eq-eqb}
 use Rattle.model.specs.Word.{none}
 use Rattle.model.specs.State.{Lookup, idle, running, isRunning, Table}
 use Rattle.model.specs.Layout.{positionAt, laneAddress, slotsBody}
 use Rattle.model.specs.Table.{linkOf}
 use Rattle.model.specs.Engine.{setLookup}
-use Rattle.model.specs.Rules.{Answer as Reply, step, causes, refusal, laneOf, Outcome, going, found, absent, outcome, continued, outcomeAnswer, result}
+use Rattle.model.specs.Rules.{Answer as Reply, step, refusal, laneOf, Outcome, going, found, absent, outcome, continued, outcomeAnswer, result}
 use Rattle.model.specs.Memory.{at, flags, lookupCode, lookupPosition, sizes, state}
 use Rattle.model.specs.Calls.{on-state}
-use Rattle.masks.specs.Bits.{withoutBit}
-use Rattle.representation.specs.Passed.{clear, within}
 use Rattle.representation.specs.WellFormed.{SlotOrNone, LookupFits}
 use Rattle.representation.specs.Memories.{Sound}
 use Rattle.chains.specs.Chain.{linkAddress}
@@ -26,8 +24,9 @@ use Rattle.changes.specs.LaneWords.{lookupWords}
 use Rattle.changes.specs.LaneCalls.{step-stored, step-going-stored}
 use Rattle.access.specs.declared.Answer.{Answer}
 use Rattle.access.specs.Contract.{five, Does}
-use Rattle.access.specs.Ways.{performs, shown, wellFormed}
-use Rattle.access.specs.Flags.{lookupBit, flags-shown, flags-idle}
+use Rattle.access.specs.Ways.{performs, passed, shown, wellFormed}
+use Rattle.access.specs.Lanes.{lane-known}
+use Rattle.access.specs.Flags.{lookupBit, withFlag, flags-shown, flags-lookup}
 use Rattle.readers.specs.Lookups.{Looking, lookupStored, lookupStored-from, lookup-shown}
 
 -- a lane of a legal memory whose lookup goes on
@@ -41,7 +40,7 @@ movedOn m i = set m (laneAddress (sizes m) i + positionAt) (linkOf (state m .tab
 
 -- and ended
 abbrev pub lookupEnded : List ℕ → ℕ → List ℕ
-lookupEnded m i = lookupStored m (laneAddress (sizes m) i) (withoutBit lookupBit (at m (laneAddress (sizes m) i))) 0 none
+lookupEnded m i = lookupStored m (laneAddress (sizes m) i) (withFlag lookupBit false (at m (laneAddress (sizes m) i))) 0 none
 
 unfoldable pub isGoing : Outcome → Bool
 isGoing going = true
@@ -74,8 +73,8 @@ answerOf ws = record { status = getD ws 0 0; a = getD ws 1 0; b = getD ws 2 0; c
 
 module _ (m : List ℕ) (i : ℕ) where
   -- by what the code read
-  pub ended-by : (a f : ℕ) → a ≡ laneAddress (sizes m) i → f ≡ withoutBit lookupBit (at m a) → lookupStored m a f 0 none ≡ lookupEnded m i
-  ended-by a f ea ef = ap (λ (y : ℕ). lookupStored m a y 0 none) ef ∙ ap (λ (y : ℕ). lookupStored m y (withoutBit lookupBit (at m y)) 0 none) ea
+  pub ended-by : (a f : ℕ) → a ≡ laneAddress (sizes m) i → f ≡ withFlag lookupBit false (at m a) → lookupStored m a f 0 none ≡ lookupEnded m i
+  ended-by a f ea ef = ap (λ (y : ℕ). lookupStored m a y 0 none) ef ∙ ap (λ (y : ℕ). lookupStored m y (withFlag lookupBit false (at m y)) 0 none) ea
 
   module _ (k : Going m i) where
     position-slot : at m (laneAddress (sizes m) i + positionAt) < sizes m .slots
@@ -104,21 +103,15 @@ module _ (m : List ℕ) (v : Sound m) (i x : ℕ) (e : x ≡ refusal (state m) (
   abbrev l : Lookup
   l = laneOf (state m) i .lookup
 
-  zero-refusal : refusal (state m) (step i) ≡ 0
-  zero-refusal = let z : x ≡ 0 = omega arith in sym e ∙ z
-
   pub looking : Looking m i
-  unfolding causes state
-  looking =
-      let (known, (online, (runs, rest))) = clear (causes (state m) (step i)) (omega arith) zero-refusal in
-      record { lane = record { sound = v; known = within (state m) i known }; running = not-false (isRunning l) runs }
+  looking = let k = passed m (step i) x e h in record { lane = lane-known m v i (k .lane .known); running = k .running }
 
   module _ (o : Outcome) (eo : o ≡ outcome (state m .table) l) (r : Answer) (er : five r ≡ outcomeAnswer o) (n : List ℕ) where
     pub step-going : isGoing o ≡ true → n ≡ movedOn m i → Does (on-state (step i)) m r n
     unfolding result state
     step-going g en =
         performs m (step i) v x r n e h (er ∙ ap outcomeAnswer eo)
-        (en ∙ step-going-stored (state m) m (shown m v) (wellFormed m v) i _ _ zero-refusal (lookup-shown m i looking)
+        (en ∙ step-going-stored (state m) m (shown m v) (wellFormed m v) i _ _ (looking .lane .known) (lookup-shown m i looking)
         (ap (outcome (state m .table)) (sym (lookup-shown m i looking)) ∙ sym eo ∙ is-going o g))
 
     pub step-ended : isGoing o ≡ false → n ≡ lookupEnded m i → Does (on-state (step i)) m r n
@@ -126,7 +119,7 @@ module _ (m : List ℕ) (v : Sound m) (i x : ℕ) (e : x ≡ refusal (state m) (
     step-ended g en =
         let k : continued (state m .table) l (outcome (state m .table) l) ≡ idle = ended (state m .table) l _ (ap isGoing (sym eo) ∙ g) in
         performs m (step i) v x r n e h (er ∙ ap outcomeAnswer eo)
-        (en ∙ ap (λ (f : ℕ). lookupStored m a f 0 none) (ap (withoutBit lookupBit) (flags-shown m v i (looking .lane .known)) ∙ flags-idle (laneOf (state m) i) idle refl)
+        (en ∙ ap (λ (f : ℕ). lookupStored m a f 0 none) (ap (withFlag lookupBit false) (flags-shown m v i (looking .lane .known)) ∙ flags-lookup (laneOf (state m) i) idle)
         ∙ lookupStored-from m a (flags (setLookup idle (laneOf (state m) i))) idle
         ∙ ap (λ (u : Lookup). storedFrom m a (lookupWords (flags (setLookup u (laneOf (state m) i))) u)) (sym k)
-        ∙ step-stored (state m) m (shown m v) (wellFormed m v) i zero-refusal)
+        ∙ step-stored (state m) m (shown m v) (wellFormed m v) i (looking .lane .known))

@@ -4,7 +4,7 @@ ghost use mathlib.Core.Path.{_≡_};
 ghost use Prim.Native.Nat.{_+_, _≤_};
 ghost use lib.ListN.{length};
 ghost use Rattle.model.specs.Layout.{laneLength};
-ghost use Rattle.model.specs.Rules.{laneOf, refusal, begin as beginning, end as ending, on as goingOn, start as starting, step as stepping, pass as passing, outcome, outcomeAnswer};
+ghost use Rattle.model.specs.Rules.{laneOf, wrongKind, refusal, begin as beginning, end as ending, on as goingOn, start as starting, step as stepping, pass as passing, outcome, outcomeAnswer};
 ghost use Rattle.model.specs.Memory.{state};
 ghost use Rattle.model.specs.Calls.{on-state};
 ghost use Rattle.representation.specs.Memories.{Sound};
@@ -13,19 +13,35 @@ ghost use Rattle.access.specs.Contract.{five, Does};
 ghost use Rattle.access.specs.Lanes.{LaneIn};
 ghost use Rattle.readers.specs.Lookups.{lookupStored, Looking};
 ghost use Rattle.readers.specs.Steps.{isGoing, Going, movedOn, lookupEnded};
+use access::causes;
 
 // ---- begin
+
+// The number of the cause that refuses it, 0 where none does.
+fn begin_refusal(m: &[u32], lane: u32) -> u32
+    requires { ⌜ Sound (now m) ⌝ }
+    ensures { λ r. ⌜ r ≡ refusal (state (now (m .entry))) (beginning lane) ⌝ }
+{
+    let n = access::lane_refusal(m, lane);
+    if n > 0 {
+        return n;
+    }
+    if access::is_reading(m, lane) {
+        return causes::IN_SECTION;
+    }
+    0
+}
 
 // Opens the section of a lane.
 pub fn begin(m: &mut [u32], lane: u32) -> access::Answer
     requires { ⌜ Sound (now m) ⌝ }
     ensures { λ r. ⌜ Does (on-state (beginning lane)) (now (m .entry)) r (now (m .exit)) ⌝ }
 {
-    let n = access::begin_refusal(m, lane);
+    let n = begin_refusal(m, lane);
     if n > 0 {
         return access::refused(n);
     }
-    access::set_flag(m, lane, access::READING);
+    access::put_flag(m, lane, access::READING, true);
     access::accepted(0, 0, 0, 0)
 }
 
@@ -41,10 +57,10 @@ fn end_refusal(m: &[u32], lane: u32) -> u32
         return n;
     }
     if !access::is_reading(m, lane) {
-        return 8;
+        return causes::NO_SECTION;
     }
     if access::is_running(m, lane) {
-        return 9;
+        return causes::IN_LOOKUP;
     }
     0
 }
@@ -58,7 +74,7 @@ pub fn end(m: &mut [u32], lane: u32) -> access::Answer
     if n > 0 {
         return access::refused(n);
     }
-    access::clear_flag(m, lane, access::READING);
+    access::put_flag(m, lane, access::READING, false);
     access::accepted(0, 0, 0, 0)
 }
 
@@ -69,11 +85,11 @@ fn on_refusal(m: &[u32], lane: u32) -> u32
     requires { ⌜ Sound (now m) ⌝ }
     ensures { λ r. ⌜ r ≡ refusal (state (now (m .entry))) (goingOn lane) ⌝ }
 {
-    if lane >= access::lane_count(m) {
-        return 4;
+    if access::is_unknown(m, lane) {
+        return causes::NO_LANE;
     }
     if access::is_online(m, lane) {
-        return 6;
+        return causes::ALREADY_ONLINE;
     }
     0
 }
@@ -87,7 +103,7 @@ pub fn on(m: &mut [u32], lane: u32) -> access::Answer
     if n > 0 {
         return access::refused(n);
     }
-    access::set_flag(m, lane, access::ONLINE);
+    access::put_flag(m, lane, access::ONLINE, true);
     access::accepted(0, 0, 0, 0)
 }
 
@@ -106,17 +122,23 @@ fn put_lookup(m: &mut [u32], a: usize, flags: u32, code: u64, position: u32)
 
 // ---- start
 
-// The number of the cause that refuses it, 0 where none does: the causes of end, then the code's range.
+// The number of the cause that refuses it, 0 where none does.
 fn start_refusal(m: &[u32], lane: u32, code: u64) -> u32
     requires { ⌜ Sound (now m) ⌝ }
     ensures { λ r. ⌜ r ≡ refusal (state (now (m .entry))) (starting lane code) ⌝ }
 {
-    let n = end_refusal(m, lane);
+    let n = access::lane_refusal(m, lane);
     if n > 0 {
         return n;
     }
-    if code > words::MAX_CODE {
-        return 11;
+    if !access::is_reading(m, lane) {
+        return causes::NO_SECTION;
+    }
+    if access::is_running(m, lane) {
+        return causes::IN_LOOKUP;
+    }
+    if access::wrong_code(code) {
+        return causes::OUT_OF_RANGE;
     }
     0
 }
@@ -132,7 +154,7 @@ pub fn start(m: &mut [u32], lane: u32, code: u64) -> access::Answer
     }
     let a = access::lane_address(m, lane);
     let head = access::chain_head(m, code);
-    let flags = masks::set_bit(m[a], access::LOOKUP);
+    let flags = access::with_flag(m[a], access::LOOKUP, true);
     put_lookup(m, a, flags, code, head);
     access::accepted(0, 0, 0, 0)
 }
@@ -149,7 +171,7 @@ fn step_refusal(m: &[u32], lane: u32) -> u32
         return n;
     }
     if !access::is_running(m, lane) {
-        return 10;
+        return causes::NO_LOOKUP;
     }
     0
 }
@@ -207,7 +229,7 @@ fn end_lookup(m: &mut [u32], lane: u32)
     ensures { λ _. ⌜ now (m .exit) ≡ lookupEnded (now (m .entry)) lane ⌝ }
 {
     let a = access::lane_address(m, lane);
-    let flags = masks::clear_bit(m[a], access::LOOKUP);
+    let flags = access::with_flag(m[a], access::LOOKUP, false);
     put_lookup(m, a, flags, 0, words::NONE);
 }
 
@@ -232,17 +254,27 @@ pub fn step(m: &mut [u32], lane: u32) -> access::Answer
 
 // ---- pass
 
-// The number of the cause that refuses it, 0 where none does: the causes of begin, then the kind's range.
+// Whether a kind is out of range.
+fn wrong_kind(kind: u32) -> bool
+    ensures { λ r. ⌜ r ≡ wrongKind kind ⌝ }
+{
+    words::index(kind) >= words::KINDS
+}
+
+// The number of the cause that refuses it, 0 where none does.
 fn pass_refusal(m: &[u32], lane: u32, kind: u32) -> u32
     requires { ⌜ Sound (now m) ⌝ }
     ensures { λ r. ⌜ r ≡ refusal (state (now (m .entry))) (passing lane kind) ⌝ }
 {
-    let n = access::begin_refusal(m, lane);
+    let n = access::lane_refusal(m, lane);
     if n > 0 {
         return n;
     }
-    if words::index(kind) >= words::KINDS {
-        return 11;
+    if access::is_reading(m, lane) {
+        return causes::IN_SECTION;
+    }
+    if wrong_kind(kind) {
+        return causes::OUT_OF_RANGE;
     }
     0
 }

@@ -11,6 +11,7 @@ pub mod Discipline
 pub mod Searches
 pub mod Places
 pub mod Passed
+pub mod Accepted
 -- well-formed states
 pub mod WellFormed
 pub mod Ranges

@@ -200,11 +200,11 @@ pub fn set_up(m: &mut [u32], cabinets: u32, places: u32, slots: u32) -> access::
     ensures { λ r. ⌜ Does (set-up cabinets places slots) (now (m .entry)) r (now (m .exit)) ⌝ }
 {
     if !words::sizes_fit(cabinets, places, slots) {
-        return access::refused(1);
+        return access::refused(access::causes::BAD_SIZE);
     }
     let total = total_words(cabinets, places, slots);
     if m.len() < words::index(total) {
-        return access::refused(2);
+        return access::refused(access::causes::SHORT_MEMORY);
     }
     write_fresh(m, cabinets, places, slots);
     access::accepted(total, 0, 0, 0)

@@ -86,7 +86,7 @@ pub fn make_call(m: &mut [u32], k: Call) -> access::Answer
         return perform(m, k);
     }
     if !legality::legal(m) {
-        return access::refused(3);
+        return access::refused(access::causes::NOT_LEGAL);
     }
     perform(m, k)
 }

@@ -1,16 +1,15 @@
 -- Delete that no cause refuses: what its stores need, and what they leave.
 use Prim.Native.Nat.{ℕ, _+_, _*_, _≤_, _<_}
-use mathlib.Core.Path.{_≡_, ap, sym, _∙_}
+use mathlib.Core.Path.{_≡_, ap, _∙_}
 use mathlib.Core.List.{List}
 use native.Mathlib.Omega.{arith}
 use lib.ListN.{length}
-use borrow.Author.Tests.{not-false}
 use Rattle.model.specs.Layout.{lastOffset, headsAt, slotsBody, slotLength}
 use Rattle.model.specs.Table.{chainNumber}
-use Rattle.model.specs.Rules.{delete, accepted, causes, refusal, result}
+use Rattle.model.specs.Rules.{delete, accepted, refusal, result}
 use Rattle.model.specs.Memory.{sizes, state}
 use Rattle.model.specs.Calls.{on-state}
-use Rattle.representation.specs.Passed.{clear, within}
+use Rattle.representation.specs.Accepted.{DeleteAccepted}
 use Rattle.representation.specs.Memories.{Sound}
 use Rattle.queues.specs.Queue.{appended}
 use Rattle.chains.specs.declared.Found.{Found}
@@ -20,22 +19,21 @@ use Rattle.changes.specs.CallSteps.{searchWords}
 use Rattle.changes.specs.Calls.{delete-stored}
 use Rattle.access.specs.declared.Answer.{Answer}
 use Rattle.access.specs.Contract.{five, Does}
-use Rattle.access.specs.Ways.{performs, shown, wellFormed, long}
+use Rattle.access.specs.Ways.{performs, passed, shown, wellFormed, long}
 use Rattle.updates.specs.Shown.{found-slot, found-below}
 
 module _ (m : List ℕ) (v : Sound m) (i c x : ℕ) (e : x ≡ refusal (state m) (delete i c)) (h : x ≤ 0) where
-  accepts : refusal (state m) (delete i c) ≡ 0
-  accepts = let z : x ≡ 0 = omega arith in sym e ∙ z
+  known : DeleteAccepted (state m) i c
+  known = passed m (delete i c) x e h
 
   module _ (base head ends : ℕ) (f : Found) (eb : base ≡ slotsBody (sizes m)) (eh : head ≡ headsAt + chainNumber c)
       (ee : ends ≡ endsAt (sizes m) (lane i next)) (ef : f ≡ searchWords (sizes m) m c)
     where
       pub delete-reach : (base + slotLength * sizes m .slots ≤ length m) × ((head < length m) × ((ends + lastOffset < length m) × (f .slot < sizes m .slots)))
-      unfolding causes state
+      unfolding state
       delete-reach =
-          let (known, (online, (inRange, (here, rest)))) = clear (causes (state m) (delete i c)) (omega arith) accepts in
-          let k = within (state m) i known in
-          (omega (arith, long m v), (omega (arith, long m v), (omega (arith, long m v, k), found-below m v c f ef (not-false _ here))))
+          let k = known .lane .known in
+          (omega (arith, long m v), (omega (arith, long m v), (omega (arith, long m v, k), found-below m v c f ef (known .present))))
 
       pub delete-done : (r : Answer) (n : List ℕ) → five r ≡ accepted (f .slot) 0 0 0
           → n ≡ appended (unlinked m base (sizes m .slots) head (f .slot) (f .prev)) base (sizes m .slots) ends (f .slot)
@@ -43,4 +41,4 @@ module _ (m : List ℕ) (v : Sound m) (i c x : ℕ) (e : x ≡ refusal (state m)
       unfolding result state
       delete-done r n er en =
           performs m (delete i c) v x r n e h (er ∙ ap (λ (y : ℕ). accepted y 0 0 0) (found-slot m v c f ef))
-          (en ∙ rw (eb, eh, ee) (delete-stored (state m) m (shown m v) (wellFormed m v) i c f accepts ef))
+          (en ∙ rw (eb, eh, ee) (delete-stored (state m) m (shown m v) (wellFormed m v) i c f known ef))

@@ -1,29 +1,28 @@
--- Hand-back: the queue that it takes from, its cause, and what its stores need and leave where no cause refuses it.
+-- Hand-back: the queue that it takes from, and what its stores need and leave where no cause refuses it.
 use Prim.Native.Nat.{ℕ, _+_, _≤_, _<_}
 use mathlib.Core.Path.{_≡_, refl, ap, sym, _∙_}
 use mathlib.Core.Bool.{Bool, true, false, not, _&&_, cond}
-use mathlib.Core.List.{List, [], _∷_}
+use mathlib.Core.List.{List}
 use native.Mathlib.Omega.{arith}
 use lib.ListN.{length}
 use lib.Dec.{ltb}
 use Rattle.model.specs.Lists.{isEmpty, first}
 use Rattle.model.specs.State.{laneCount, State}
 use Rattle.model.specs.Layout.{doneOffset, freeAt, queuesAt, laneAddress, slotsBody}
-use Rattle.model.specs.Rules.{hand-back, accepted, laneOf, nothingDone, fromGlobal, handedBack, ofLane, causes, refusal, firstOf, result, performed}
+use Rattle.model.specs.Rules.{hand-back, accepted, laneOf, nothingDone, fromGlobal, handedBack, refusal, result, performed}
 use Rattle.model.specs.Memory.{at, sizes, state}
 use Rattle.model.specs.Calls.{on-state, stored}
-use Rattle.representation.specs.Passed.{clear, within}
+use Rattle.representation.specs.Accepted.{HandBackAccepted}
 use Rattle.representation.specs.Memories.{Sound}
 use Rattle.queues.specs.Queue.{appended, Taken}
 use Rattle.chains.specs.Chain.{recordAddress, cleared}
 use Rattle.changes.specs.Queues.{Queue, global, lane, done, Named, queueOf, endsAt}
 use Rattle.changes.specs.CallSteps.{reclaimedWords}
 use Rattle.changes.specs.Calls.{hand-back-lane-stored, hand-back-global-stored}
-use Rattle.access.specs.Refusals.{more-applies, more-passes}
 use Rattle.access.specs.declared.Answer.{Answer}
 use Rattle.access.specs.Contract.{five, Does}
-use Rattle.access.specs.Ways.{performs, shown, wellFormed, long}
-use Rattle.access.specs.Lanes.{LaneIn, lane-refused, lane-in}
+use Rattle.access.specs.Ways.{performs, passed, shown, wellFormed, long}
+use Rattle.access.specs.Lanes.{LaneIn, lane-known}
 use Rattle.updates.specs.Stores.{FirstIn, handedFrom, Reclaimed}
 use Rattle.updates.specs.Shown.{queue-shown, queue-first, ends-inside, first-in}
 
@@ -80,25 +79,6 @@ module _ (m : List ℕ) (i : ℕ) (l : LaneIn m i) where
   pub done-inside : (ends : ℕ) → ends ≡ endsAt (sizes m) (handedFrom (state m) i) → ends < length m
   done-inside ends ee = omega (arith, ee, ends-inside m (l .sound) (handedFrom (state m) i) named, long m (l .sound))
 
--- ---- its cause
-
-module _ (m : List ℕ) (v : Sound m) (i x : ℕ) (e : x ≡ firstOf (ofLane (state m) i [])) where
-  pub hand-back-refused : 0 < x → x ≡ refusal (state m) (hand-back i)
-  unfolding causes
-  hand-back-refused h = lane-refused m v i x e (nothingDone (state m) i ∷ []) h
-
-  module _ (h : x ≤ 0) (ends : ℕ) (ee : ends ≡ endsAt (sizes m) (handedFrom (state m) i)) (b : Bool) (eb : b ≡ not (ltb (at m ends) (sizes m .slots))) where
-    applied : b ≡ nothingDone (state m) i .applies
-    applied = none-done m i (lane-in m v i x e h) ends ee b eb
-
-    pub hand-back-empty : b ≡ true → 16 ≡ refusal (state m) (hand-back i)
-    unfolding causes
-    hand-back-empty q = more-applies (ofLane (state m) i []) (omega arith) x e h 16 (nothingDone (state m) i .applies) [] (sym applied ∙ q)
-
-    pub hand-back-passes : b ≡ false → 0 ≡ refusal (state m) (hand-back i)
-    unfolding causes
-    hand-back-passes q = more-passes (ofLane (state m) i []) (omega arith) x e h 16 (nothingDone (state m) i .applies) (sym applied ∙ q)
-
 -- ---- where no cause refuses it
 
 -- taken, then cleared, and then appended
@@ -110,16 +90,14 @@ reclaimed-by m n k o base slots ends r u e f = record {
 }
 
 module _ (m : List ℕ) (v : Sound m) (i x : ℕ) (e : x ≡ refusal (state m) (hand-back i)) (h : x ≤ 0) where
-  accepts : refusal (state m) (hand-back i) ≡ 0
-  accepts = let z : x ≡ 0 = omega arith in sym e ∙ z
+  known : HandBackAccepted (state m) i
+  known = passed m (hand-back i) x e h
 
   pub hand-back-lane : LaneIn m i
-  unfolding causes state
-  hand-back-lane = record { sound = v; known = within (state m) i (clear (causes (state m) (hand-back i)) (omega arith) accepts .0) }
+  hand-back-lane = lane-known m v i (known .lane .known)
 
   some : isEmpty (queueOf (state m) (handedFrom (state m) i)) ≡ false
-  unfolding causes
-  some = handed-empty (state m) i ∙ clear (causes (state m) (hand-back i)) (omega arith) accepts .1 .1 .0
+  some = handed-empty (state m) i ∙ known .done
 
   -- from one queue or the other
   reclaims : (k : ℕ) → k ≡ at m (endsAt (sizes m) (handedFrom (state m) i))
@@ -129,8 +107,8 @@ module _ (m : List ℕ) (v : Sound m) (i x : ℕ) (e : x ≡ refusal (state m) (
     where
       go : (b : Bool) → fromGlobal (state m) i ≡ b → k ≡ at m (endsAt (sizes m) (pick (state m) i b))
           → reclaimedWords (sizes m) m (pick (state m) i b) k ≡ stored (performed (state m) (hand-back i)) m
-      go true q ek = hand-back-global-stored (state m) m (shown m v) (wellFormed m v) i k accepts q ek
-      go false q ek = hand-back-lane-stored (state m) m (shown m v) (wellFormed m v) i k accepts q ek
+      go true q ek = hand-back-global-stored (state m) m (shown m v) (wellFormed m v) i k known q ek
+      go false q ek = hand-back-lane-stored (state m) m (shown m v) (wellFormed m v) i k known q ek
 
   module _ (base ends : ℕ) (eb : base ≡ slotsBody (sizes m)) (ee : ends ≡ endsAt (sizes m) (handedFrom (state m) i)) where
     pub hand-back-first : FirstIn m base (sizes m .slots) ends

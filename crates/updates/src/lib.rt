@@ -1,13 +1,12 @@
 // The calls of an updater on a legal memory: add, replace, delete and hand-back. Each answers five words and leaves the memory as the
 // model's rules say, a refused one every word of it. Every address is read before the first store.
 ghost use mathlib.Core.Path.{_≡_};
-ghost use mathlib.Core.List.{[], _∷_};
 ghost use Prim.Native.Nat.{_+_, _*_, _<_, _≤_};
 ghost use lib.ListN.{length};
 ghost use Rattle.model.specs.Lists.{isEmpty};
 ghost use Rattle.model.specs.Layout.{lastOffset, freeAt, headsAt, slotLength};
 ghost use Rattle.model.specs.Table.{chainNumber, present};
-ghost use Rattle.model.specs.Rules.{wrongProduct, outOfRange, codeMissing, firstOf, ofLane, refusal, add as adding, replace as replacing, delete as deleting, hand-back};
+ghost use Rattle.model.specs.Rules.{wrongProduct, nothingDone, refusal, add as adding, replace as replacing, delete as deleting, hand-back};
 ghost use Rattle.model.specs.Memory.{sizes, state};
 ghost use Rattle.model.specs.Calls.{on-state};
 ghost use Rattle.representation.specs.Memories.{Sound};
@@ -18,6 +17,7 @@ ghost use Rattle.changes.specs.CallSteps.{searchWords};
 ghost use Rattle.access.specs.Contract.{Does};
 ghost use Rattle.access.specs.Lanes.{LaneIn};
 ghost use Rattle.updates.specs.Stores.{FirstIn, Filled, handedFrom, Reclaimed};
+use access::causes;
 
 // ---- where a code's chain and a lane's queue stand
 
@@ -57,36 +57,6 @@ fn is_present(m: &[u32], code: u64) -> bool
     found.slot != words::NONE
 }
 
-// Causes 4, 5 and 11, the last by the test `wrong`.
-fn range_refusal(m: &[u32], lane: u32, wrong: bool) -> u32
-    requires { ⌜ Sound (now m) ⌝ }
-    ensures { λ r. ⌜ r ≡ firstOf (ofLane (state (now (m .entry))) lane (outOfRange (state (now (m .entry))) wrong ∷ [])) ⌝ }
-{
-    let n = access::lane_refusal(m, lane);
-    if n > 0 {
-        return n;
-    }
-    if wrong {
-        return 11;
-    }
-    0
-}
-
-// Causes 4, 5, 11 and 13: the code is missing.
-fn missing_refusal(m: &[u32], lane: u32, wrong: bool, code: u64) -> u32
-    requires { ⌜ Sound (now m) ⌝ }
-    ensures { λ r. ⌜ r ≡ firstOf (ofLane (state (now (m .entry))) lane (outOfRange (state (now (m .entry))) wrong ∷ codeMissing (state (now (m .entry))) code ∷ [])) ⌝ }
-{
-    let n = range_refusal(m, lane, wrong);
-    if n > 0 {
-        return n;
-    }
-    if !is_present(m, code) {
-        return 13;
-    }
-    0
-}
-
 // Whether a product is out of range.
 fn wrong_product(code: u64, deposit: u32, material: u32) -> bool
     ensures { λ r. ⌜ r ≡ wrongProduct code deposit material ⌝ }
@@ -109,7 +79,17 @@ fn delete_refusal(m: &[u32], lane: u32, code: u64) -> u32
     requires { ⌜ Sound (now m) ⌝ }
     ensures { λ r. ⌜ r ≡ refusal (state (now (m .entry))) (deleting lane code) ⌝ }
 {
-    missing_refusal(m, lane, code > words::MAX_CODE, code)
+    let n = access::lane_refusal(m, lane);
+    if n > 0 {
+        return n;
+    }
+    if access::wrong_code(code) {
+        return causes::OUT_OF_RANGE;
+    }
+    if !is_present(m, code) {
+        return causes::CODE_MISSING;
+    }
+    0
 }
 
 // Unlinks a slot, before which `prev` stands, and appends it to the queue at `ends`; it keeps its chain link.
@@ -146,15 +126,18 @@ fn add_refusal(m: &[u32], lane: u32, code: u64, deposit: u32, material: u32) -> 
     requires { ⌜ Sound (now m) ⌝ }
     ensures { λ r. ⌜ r ≡ refusal (state (now (m .entry))) (adding lane code deposit material) ⌝ }
 {
-    let n = range_refusal(m, lane, wrong_product(code, deposit, material));
+    let n = access::lane_refusal(m, lane);
     if n > 0 {
         return n;
     }
+    if wrong_product(code, deposit, material) {
+        return causes::OUT_OF_RANGE;
+    }
     if is_present(m, code) {
-        return 12;
+        return causes::CODE_PRESENT;
     }
     if none_free(m) {
-        return 14;
+        return causes::NO_FREE_SLOT;
     }
     0
 }
@@ -193,12 +176,18 @@ fn replace_refusal(m: &[u32], lane: u32, code: u64, deposit: u32, material: u32)
     requires { ⌜ Sound (now m) ⌝ }
     ensures { λ r. ⌜ r ≡ refusal (state (now (m .entry))) (replacing lane code deposit material) ⌝ }
 {
-    let n = missing_refusal(m, lane, wrong_product(code, deposit, material), code);
+    let n = access::lane_refusal(m, lane);
     if n > 0 {
         return n;
     }
+    if wrong_product(code, deposit, material) {
+        return causes::OUT_OF_RANGE;
+    }
+    if !is_present(m, code) {
+        return causes::CODE_MISSING;
+    }
     if none_free(m) {
-        return 14;
+        return causes::NO_FREE_SLOT;
     }
     0
 }
@@ -256,6 +245,15 @@ fn done_queue(m: &[u32], lane: u32) -> usize
     ends
 }
 
+// Whether the lane's done queue and the global one are empty.
+fn nothing_done(m: &[u32], lane: u32) -> bool
+    requires { ⌜ LaneIn (now m) lane ⌝ }
+    ensures { λ r. ⌜ r ≡ nothingDone (state (now (m .entry))) lane .applies ⌝ }
+{
+    let done = done_queue(m, lane);
+    queues::is_empty(m, m[words::SLOTS_AT], done)
+}
+
 // The number of the cause that refuses it, 0 where none does.
 fn hand_back_refusal(m: &[u32], lane: u32) -> u32
     requires { ⌜ Sound (now m) ⌝ }
@@ -265,9 +263,8 @@ fn hand_back_refusal(m: &[u32], lane: u32) -> u32
     if n > 0 {
         return n;
     }
-    let done = done_queue(m, lane);
-    if queues::is_empty(m, m[words::SLOTS_AT], done) {
-        return 16;
+    if nothing_done(m, lane) {
+        return causes::NOTHING_DONE;
     }
     0
 }

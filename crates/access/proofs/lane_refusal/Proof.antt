@@ -1,25 +1,25 @@
--- `lane_refusal` meets its contract: a law for each way out. Assumes nothing.
-use borrow.Author.Tests.{not-true, not-false}
-use Rattle.access.specs.Lanes.{lane-unknown, lane-offline, lane-online}
+-- `lane_refusal` tests the causes of `ofLane` one after another.
+use Rattle.access.specs.Refusals.{refusals}
+use Rattle.access.specs.Lanes.{lane-tested}
 use borrow.Author.Needs.{needs}
 use Rattle.access.proofs.lane_refusal.Statement.{statement}
 use Rattle.access.proofs.lane_refusal.Tie as tie
 
-lane-count-requires : tie.Need-lane-count-requires
-lane-count-requires c κs = search needs
+is-unknown-requires : tie.Need-is-unknown-requires
+is-unknown-requires c κs = search needs
 
 returns : tie.Need-returns
-returns c = search (needs, lane-unknown)
+returns c = search (needs, refusals)
 
 is-online-requires : tie.Need-is-online-requires
-is-online-requires c κs = search needs
+is-online-requires c κs = search (needs, lane-tested)
 
 returns-2 : tie.Need-returns-2
-returns-2 c = search (needs, lane-offline, not-true)
+returns-2 c = search (needs, refusals)
 
 returns-3 : tie.Need-returns-3
-returns-3 c = search (needs, lane-online, not-false)
+returns-3 c = search (needs, refusals)
 
 pub lane-refusal-spec : {M : Type 1} → statement M
 lane-refusal-spec =
-    tie.close (tie.spec lane-count-requires returns is-online-requires returns-2 returns-3)
+    tie.close (tie.spec is-unknown-requires returns is-online-requires returns-2 returns-3)

@@ -1,26 +1,44 @@
--- `off_refusal` meets its contract: a law for each way out. Assumes nothing.
-use borrow.Author.Tests.{not-true, not-false}
-use Rattle.access.specs.Lanes.{begin-lane}
-use Rattle.periods.specs.Others.{off-refused, off-only, off-passes}
+-- The tests of `off_refusal` are the causes of its call, in their order.
+use Rattle.model.specs.Rules.{causes}
+use Rattle.access.specs.Refusals.{refusals}
+use Rattle.access.specs.Lanes.{lane-in}
 use borrow.Author.Needs.{needs}
 use Rattle.periods.proofs.off_refusal.Statement.{statement}
 use Rattle.periods.proofs.off_refusal.Tie as tie
 
-begin-refusal-requires : tie.Need-begin-refusal-requires
-begin-refusal-requires c κs = search needs
+lane-refusal-requires : tie.Need-lane-refusal-requires
+lane-refusal-requires c κs = search needs
 
 returns : tie.Need-returns
-returns c = search (needs, off-refused)
+unfolding causes
+returns c = search (needs, refusals) depth 9
 
-another-online-requires : tie.Need-another-online-requires
-another-online-requires c κs = search (needs, begin-lane)
+is-reading-requires : tie.Need-is-reading-requires
+is-reading-requires c κs = search (needs, lane-in)
 
 returns-2 : tie.Need-returns-2
-returns-2 c = search (needs, off-only, not-true)
+unfolding causes
+returns-2 c = search (needs, refusals) depth 9
+
+another-online-requires : tie.Need-another-online-requires
+another-online-requires c κs = search (needs, lane-in)
 
 returns-3 : tie.Need-returns-3
-returns-3 c = search (needs, off-passes, not-false)
+unfolding causes
+returns-3 c = search (needs, refusals) depth 9
+
+returns-4 : tie.Need-returns-4
+unfolding causes
+returns-4 c = search (needs, refusals) depth 9
 
 pub off-refusal-spec : {M : Type 1} → statement M
 off-refusal-spec =
-    tie.close (tie.spec begin-refusal-requires returns another-online-requires returns-2 returns-3)
+    tie.close
+    (tie.spec
+    lane-refusal-requires
+    returns
+    is-reading-requires
+    returns-2
+    another-online-requires
+    returns-3
+    returns-4)

@@ -1,7 +1,6 @@
--- `begin` meets its contract: a law for each way out. Assumes nothing.
+-- A refused `begin` changes no word, and else it puts one flag of its lane.
 use Rattle.access.specs.Ways.{refuses}
-use Rattle.access.specs.Lanes.{begin-lane}
-use Rattle.readers.specs.Lanes.{begin-done}
+use Rattle.readers.specs.Lanes.{begin-lane, begin-done}
 use borrow.Author.Needs.{needs}
 use Rattle.readers.proofs.begin.Statement.{statement}
 use Rattle.readers.proofs.begin.Tie as tie
@@ -18,8 +17,8 @@ same-length c = search needs
 returns : tie.Need-returns
 returns c = search (needs, refuses)
 
-set-flag-requires : tie.Need-set-flag-requires
-set-flag-requires c κs = search (needs, begin-lane)
+put-flag-requires : tie.Need-put-flag-requires
+put-flag-requires c κs = search (needs, begin-lane)
 
 accepted-requires : tie.Need-accepted-requires
 accepted-requires c κs = search needs
@@ -38,7 +37,7 @@ begin-spec =
     refused-requires
     same-length
     returns
-    set-flag-requires
+    put-flag-requires
     accepted-requires
     same-length-2
     returns-2)

@@ -1,4 +1,4 @@
--- `end` meets its contract: a law for each way out. Assumes nothing.
+-- A refused `end` changes no word, and else it puts one flag of its lane.
 use Rattle.access.specs.Ways.{refuses}
 use Rattle.readers.specs.Lanes.{end-lane, end-done}
 use borrow.Author.Needs.{needs}
@@ -17,8 +17,8 @@ same-length c = search needs
 returns : tie.Need-returns
 returns c = search (needs, refuses)
 
-clear-flag-requires : tie.Need-clear-flag-requires
-clear-flag-requires c κs = search (needs, end-lane)
+put-flag-requires : tie.Need-put-flag-requires
+put-flag-requires c κs = search (needs, end-lane)
 
 accepted-requires : tie.Need-accepted-requires
 accepted-requires c κs = search needs
@@ -37,7 +37,7 @@ end-spec =
     refused-requires
     same-length
     returns
-    clear-flag-requires
+    put-flag-requires
     accepted-requires
     same-length-2
     returns-2)

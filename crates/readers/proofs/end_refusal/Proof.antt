@@ -1,7 +1,7 @@
--- `end_refusal` meets its contract: a law for each way out. Assumes nothing.
-use borrow.Author.Tests.{not-true, not-false}
+-- The tests of `end_refusal` are the causes of its call, in their order.
+use Rattle.model.specs.Rules.{causes}
+use Rattle.access.specs.Refusals.{refusals}
 use Rattle.access.specs.Lanes.{lane-in}
-use Rattle.readers.specs.Lanes.{end-refused, end-closed, end-running, end-passes}
 use borrow.Author.Needs.{needs}
 use Rattle.readers.proofs.end_refusal.Statement.{statement}
 use Rattle.readers.proofs.end_refusal.Tie as tie
@@ -10,22 +10,26 @@ lane-refusal-requires : tie.Need-lane-refusal-requires
 lane-refusal-requires c κs = search needs
 
 returns : tie.Need-returns
-returns c = search (needs, end-refused)
+unfolding causes
+returns c = search (needs, refusals) depth 9
 
 is-reading-requires : tie.Need-is-reading-requires
 is-reading-requires c κs = search (needs, lane-in)
 
 returns-2 : tie.Need-returns-2
-returns-2 c = search (needs, end-closed, not-true)
+unfolding causes
+returns-2 c = search (needs, refusals) depth 9
 
 is-running-requires : tie.Need-is-running-requires
 is-running-requires c κs = search (needs, lane-in)
 
 returns-3 : tie.Need-returns-3
-returns-3 c = search (needs, end-running, not-false)
+unfolding causes
+returns-3 c = search (needs, refusals) depth 9
 
 returns-4 : tie.Need-returns-4
-returns-4 c = search (needs, end-passes, not-false)
+unfolding causes
+returns-4 c = search (needs, refusals) depth 9
 
 pub end-refusal-spec : {M : Type 1} → statement M
 end-refusal-spec =

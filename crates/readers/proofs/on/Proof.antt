@@ -1,4 +1,4 @@
--- `on` meets its contract: a law for each way out. Assumes nothing.
+-- A refused `on` changes no word, and else it puts one flag of its lane.
 use Rattle.access.specs.Ways.{refuses}
 use Rattle.readers.specs.Lanes.{on-lane, on-done}
 use borrow.Author.Needs.{needs}
@@ -17,8 +17,8 @@ same-length c = search needs
 returns : tie.Need-returns
 returns c = search (needs, refuses)
 
-set-flag-requires : tie.Need-set-flag-requires
-set-flag-requires c κs = search (needs, on-lane)
+put-flag-requires : tie.Need-put-flag-requires
+put-flag-requires c κs = search (needs, on-lane)
 
 accepted-requires : tie.Need-accepted-requires
 accepted-requires c κs = search needs
@@ -37,7 +37,7 @@ on-spec =
     refused-requires
     same-length
     returns
-    set-flag-requires
+    put-flag-requires
     accepted-requires
     same-length-2
     returns-2)

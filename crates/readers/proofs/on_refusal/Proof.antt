@@ -1,24 +1,35 @@
--- `on_refusal` meets its contract: a law for each way out. Assumes nothing.
-use Rattle.readers.specs.Lanes.{on-unknown, on-online, on-offline}
+-- The tests of `on_refusal` are the causes of its call, in their order.
+use Rattle.model.specs.Rules.{causes}
+use Rattle.access.specs.Refusals.{refusals}
+use Rattle.access.specs.Lanes.{lane-tested}
 use borrow.Author.Needs.{needs}
 use Rattle.readers.proofs.on_refusal.Statement.{statement}
 use Rattle.readers.proofs.on_refusal.Tie as tie
 
-lane-count-requires : tie.Need-lane-count-requires
-lane-count-requires c κs = search needs
+is-unknown-requires : tie.Need-is-unknown-requires
+is-unknown-requires c κs = search needs
 
 returns : tie.Need-returns
-returns c = search (needs, on-unknown)
+unfolding causes
+returns c = search (needs, refusals) depth 9
 
 is-online-requires : tie.Need-is-online-requires
-is-online-requires c κs = search needs
+is-online-requires c κs = search (needs, lane-tested)
 
 returns-2 : tie.Need-returns-2
-returns-2 c = search (needs, on-online)
+unfolding causes
+returns-2 c = search (needs, refusals) depth 9
 
 returns-3 : tie.Need-returns-3
-returns-3 c = search (needs, on-offline)
+unfolding causes
+returns-3 c = search (needs, refusals) depth 9
 
 pub on-refusal-spec : {M : Type 1} → statement M
 on-refusal-spec =
-    tie.close (tie.spec lane-count-requires returns is-online-requires returns-2 returns-3)
+    tie.close
+    (tie.spec
+    is-unknown-requires
+    returns
+    is-online-requires
+    returns-2
+    returns-3)

@@ -1,35 +1,44 @@
--- `pass_refusal` meets its contract: a law for each way out. Assumes nothing.
-use native.Mathlib.Omega.{arith}
-use Rattle.readers.specs.Passes.{pass-refused, pass-wrong, pass-passes}
+-- The tests of `pass_refusal` are the causes of its call, in their order.
+use Rattle.model.specs.Rules.{causes}
+use Rattle.access.specs.Refusals.{refusals}
+use Rattle.access.specs.Lanes.{lane-in}
 use borrow.Author.Needs.{needs}
 use Rattle.readers.proofs.pass_refusal.Statement.{statement}
 use Rattle.readers.proofs.pass_refusal.Tie as tie
 
-begin-refusal-requires : tie.Need-begin-refusal-requires
-begin-refusal-requires c κs = search needs
+lane-refusal-requires : tie.Need-lane-refusal-requires
+lane-refusal-requires c κs = search needs
 
 returns : tie.Need-returns
-returns c = search (needs, pass-refused)
+unfolding causes
+returns c = search (needs, refusals) depth 9
 
-index-requires : tie.Need-index-requires
-index-requires c κs = search needs
+is-reading-requires : tie.Need-is-reading-requires
+is-reading-requires c κs = search (needs, lane-in)
 
 returns-2 : tie.Need-returns-2
-returns-2 c =
-    let at-index : tie.After-index = search in
-    let at-if1 : tie.Else1 = search in
-    let at-begin-refusal : tie.After-begin-refusal = search in
-    let entry : tie.Start = search in
-    pass-wrong _ (entry .pre) (entry .args .lane) (entry .args .kind) _ (at-begin-refusal .begin-refusal .ensures) (at-if1 .if1 .left) (omega (arith, (c .if2 .taken), (at-index .index .ensures)))
+unfolding causes
+returns-2 c = search (needs, refusals) depth 9
+
+wrong-kind-requires : tie.Need-wrong-kind-requires
+wrong-kind-requires c κs = search needs
 
 returns-3 : tie.Need-returns-3
-returns-3 c =
-    let at-index : tie.After-index = search in
-    let at-if1 : tie.Else1 = search in
-    let at-begin-refusal : tie.After-begin-refusal = search in
-    let entry : tie.Start = search in
-    pass-passes _ (entry .pre) (entry .args .lane) (entry .args .kind) _ (at-begin-refusal .begin-refusal .ensures) (at-if1 .if1 .left) (omega (arith, (c .if2 .left), (at-index .index .ensures)))
+unfolding causes
+returns-3 c = search (needs, refusals) depth 9
+
+returns-4 : tie.Need-returns-4
+unfolding causes
+returns-4 c = search (needs, refusals) depth 9
 
 pub pass-refusal-spec : {M : Type 1} → statement M
 pass-refusal-spec =
-    tie.close (tie.spec begin-refusal-requires returns index-requires returns-2 returns-3)
+    tie.close
+    (tie.spec
+    lane-refusal-requires
+    returns
+    is-reading-requires
+    returns-2
+    wrong-kind-requires
+    returns-3
+    returns-4)

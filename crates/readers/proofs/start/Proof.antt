@@ -24,22 +24,22 @@ lane-address-requires c κs = search needs
 chain-head-requires : tie.Need-chain-head-requires
 chain-head-requires c κs = search needs
 
-mul-set-bit : tie.Need-mul-set-bit
-mul-set-bit c =
+mul-with-flag : tie.Need-mul-with-flag
+mul-with-flag c =
     let at-lane-address : tie.After-lane-address = search in
     let entry : tie.Start = search in
     omega (arith, at-lane-address .lane-address .ensures, inRange _ (entry .pre) .fewCabinets)
 
-slice-read-set-bit : tie.Need-slice-read-set-bit
-slice-read-set-bit c =
+slice-read-with-flag : tie.Need-slice-read-with-flag
+slice-read-with-flag c =
     let at-lane-address : tie.After-lane-address = search in
     let at-if1 : tie.Else1 = search in
     let at-start-refusal : tie.After-start-refusal = search in
     let entry : tie.Start = search in
     omega (arith, at-lane-address .lane-address .ensures, long _ (entry .pre), start-lane _ (entry .pre) (entry .args .lane) (entry .args .code) _ (at-start-refusal .start-refusal .ensures) (at-if1 .if1 .left) .known)
 
-set-bit-requires : tie.Need-set-bit-requires
-set-bit-requires c κs = search needs
+with-flag-requires : tie.Need-with-flag-requires
+with-flag-requires c κs = search needs
 
 put-lookup-requires : tie.Need-put-lookup-requires
 put-lookup-requires c κs =
@@ -68,9 +68,9 @@ start-spec =
     returns
     lane-address-requires
     chain-head-requires
-    mul-set-bit
-    slice-read-set-bit
-    set-bit-requires
+    mul-with-flag
+    slice-read-with-flag
+    with-flag-requires
     put-lookup-requires
     accepted-requires
     same-length-2

@@ -1,20 +1,53 @@
--- `start_refusal` meets its contract: a law for each way out. Assumes nothing.
-use Rattle.readers.specs.Lookups.{start-refused, start-wrong, start-passes}
+-- The tests of `start_refusal` are the causes of its call, in their order.
+use Rattle.model.specs.Rules.{causes}
+use Rattle.access.specs.Refusals.{refusals}
+use Rattle.access.specs.Lanes.{lane-in}
 use borrow.Author.Needs.{needs}
 use Rattle.readers.proofs.start_refusal.Statement.{statement}
 use Rattle.readers.proofs.start_refusal.Tie as tie
 
-end-refusal-requires : tie.Need-end-refusal-requires
-end-refusal-requires c κs = search needs
+lane-refusal-requires : tie.Need-lane-refusal-requires
+lane-refusal-requires c κs = search needs
 
 returns : tie.Need-returns
-returns c = search (needs, start-refused)
+unfolding causes
+returns c = search (needs, refusals) depth 9
+
+is-reading-requires : tie.Need-is-reading-requires
+is-reading-requires c κs = search (needs, lane-in)
 
 returns-2 : tie.Need-returns-2
-returns-2 c = search (needs, start-wrong)
+unfolding causes
+returns-2 c = search (needs, refusals) depth 9
+
+is-running-requires : tie.Need-is-running-requires
+is-running-requires c κs = search (needs, lane-in)
 
 returns-3 : tie.Need-returns-3
-returns-3 c = search (needs, start-passes)
+unfolding causes
+returns-3 c = search (needs, refusals) depth 9
+
+wrong-code-requires : tie.Need-wrong-code-requires
+wrong-code-requires c κs = search needs
+
+returns-4 : tie.Need-returns-4
+unfolding causes
+returns-4 c = search (needs, refusals) depth 9
+
+returns-5 : tie.Need-returns-5
+unfolding causes
+returns-5 c = search (needs, refusals) depth 9
 
 pub start-refusal-spec : {M : Type 1} → statement M
-start-refusal-spec = tie.close (tie.spec end-refusal-requires returns returns-2 returns-3)
+start-refusal-spec =
+    tie.close
+    (tie.spec
+    lane-refusal-requires
+    returns
+    is-reading-requires
+    returns-2
+    is-running-requires
+    returns-3
+    wrong-code-requires
+    returns-4
+    returns-5)

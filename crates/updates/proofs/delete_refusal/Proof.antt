@@ -1,15 +1,43 @@
--- `delete_refusal` meets its contract. Assumes nothing.
+-- The tests of `delete_refusal` are the causes of its call, in their order.
 use Rattle.model.specs.Rules.{causes}
+use Rattle.access.specs.Refusals.{refusals}
 use borrow.Author.Needs.{needs}
 use Rattle.updates.proofs.delete_refusal.Statement.{statement}
 use Rattle.updates.proofs.delete_refusal.Tie as tie
 
-missing-refusal-requires : tie.Need-missing-refusal-requires
-missing-refusal-requires c κs = search needs
+lane-refusal-requires : tie.Need-lane-refusal-requires
+lane-refusal-requires c κs = search needs
 
 returns : tie.Need-returns
 unfolding causes
-returns c = (c .missing-refusal .ensures)
+returns c = search (needs, refusals) depth 9
+
+wrong-code-requires : tie.Need-wrong-code-requires
+wrong-code-requires c κs = search needs
+
+returns-2 : tie.Need-returns-2
+unfolding causes
+returns-2 c = search (needs, refusals) depth 9
+
+is-present-requires : tie.Need-is-present-requires
+is-present-requires c κs = search needs
+
+returns-3 : tie.Need-returns-3
+unfolding causes
+returns-3 c = search (needs, refusals) depth 9
+
+returns-4 : tie.Need-returns-4
+unfolding causes
+returns-4 c = search (needs, refusals) depth 9
 
 pub delete-refusal-spec : {M : Type 1} → statement M
-delete-refusal-spec = tie.close (tie.spec missing-refusal-requires returns)
+delete-refusal-spec =
+    tie.close
+    (tie.spec
+    lane-refusal-requires
+    returns
+    wrong-code-requires
+    returns-2
+    is-present-requires
+    returns-3
+    returns-4)

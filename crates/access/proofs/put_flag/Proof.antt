@@ -1,32 +1,32 @@
--- `set_flag` meets its contract. Assumes nothing.
+-- `put_flag` stores the flags' word of the lane, which lies in a legal memory.
 use Prim.Native.Nat.{ℕ}
 use mathlib.Core.Path.{ap, _∙_}
 use native.Mathlib.Omega.{arith}
 use lib.ListN.{set}
 use denote.Ref.{now}
 use Rattle.model.specs.Memory.{at}
-use Rattle.masks.specs.Bits.{withBit}
 use Rattle.access.specs.Ways.{inRange, long}
+use Rattle.access.specs.Flags.{withFlag}
 use borrow.Author.Needs.{needs}
-use Rattle.access.proofs.set_flag.Statement.{statement}
-use Rattle.access.proofs.set_flag.Tie as tie
+use Rattle.access.proofs.put_flag.Statement.{statement}
+use Rattle.access.proofs.put_flag.Tie as tie
 
 lane-address-requires : tie.Need-lane-address-requires
 lane-address-requires c κs = search needs
 
-mul-set-bit : tie.Need-mul-set-bit
-mul-set-bit c =
+mul-with-flag : tie.Need-mul-with-flag
+mul-with-flag c =
     let entry : tie.Start = search in
     omega (arith, c .lane-address .ensures, inRange _ (entry .pre .0 .sound) .fewCabinets)
 
-slice-read-set-bit : tie.Need-slice-read-set-bit
-slice-read-set-bit c =
+slice-read-with-flag : tie.Need-slice-read-with-flag
+slice-read-with-flag c =
     let at-lane-address : tie.After-lane-address = search in
     let entry : tie.Start = search in
     omega (arith, at-lane-address .lane-address .ensures, long _ (entry .pre .0 .sound), entry .pre .0 .known)
 
-set-bit-requires : tie.Need-set-bit-requires
-set-bit-requires c κs = search needs
+with-flag-requires : tie.Need-with-flag-requires
+with-flag-requires c κs = search needs
 
 mul-m : tie.Need-mul-m
 mul-m c =
@@ -48,16 +48,16 @@ returns c =
     let at-lane-address : tie.After-lane-address = search in
     let entry : tie.Start = search in
     let m = now (entry .args .m) in
-    ap (set m (at-lane-address .lane-address .result)) (c .set-bit .ensures) ∙ ap (λ (a : ℕ). set m a (withBit (entry .args .p) (at m a))) (at-lane-address .lane-address .ensures)
+    ap (set m (at-lane-address .lane-address .result)) (c .with-flag .ensures) ∙ ap (λ (a : ℕ). set m a (withFlag (entry .args .p) (entry .args .on) (at m a))) (at-lane-address .lane-address .ensures)
 
-pub set-flag-spec : {M : Type 1} → statement M
-set-flag-spec =
+pub put-flag-spec : {M : Type 1} → statement M
+put-flag-spec =
     tie.close
     (tie.spec
     lane-address-requires
-    mul-set-bit
-    slice-read-set-bit
-    set-bit-requires
+    mul-with-flag
+    slice-read-with-flag
+    with-flag-requires
     mul-m
     slice-write-m
     same-length

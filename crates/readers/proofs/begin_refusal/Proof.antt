@@ -1,0 +1,35 @@
+-- The tests of `begin_refusal` are the causes of its call, in their order.
+use Rattle.model.specs.Rules.{causes}
+use Rattle.access.specs.Refusals.{refusals}
+use Rattle.access.specs.Lanes.{lane-in}
+use borrow.Author.Needs.{needs}
+use Rattle.readers.proofs.begin_refusal.Statement.{statement}
+use Rattle.readers.proofs.begin_refusal.Tie as tie
+
+lane-refusal-requires : tie.Need-lane-refusal-requires
+lane-refusal-requires c κs = search needs
+
+returns : tie.Need-returns
+unfolding causes
+returns c = search (needs, refusals) depth 9
+
+is-reading-requires : tie.Need-is-reading-requires
+is-reading-requires c κs = search (needs, lane-in)
+
+returns-2 : tie.Need-returns-2
+unfolding causes
+returns-2 c = search (needs, refusals) depth 9
+
+returns-3 : tie.Need-returns-3
+unfolding causes
+returns-3 c = search (needs, refusals) depth 9
+
+pub begin-refusal-spec : {M : Type 1} → statement M
+begin-refusal-spec =
+    tie.close
+    (tie.spec
+    lane-refusal-requires
+    returns
+    is-reading-requires
+    returns-2
+    returns-3)
