@@ -4,7 +4,8 @@
 #   edit_value KEY EDIT         the value of the line 'KEY: VALUE'
 #   edit_apply EDIT DIR         puts an edit into the copy of a crate's folder; says what is wrong with it, if anything is
 #   edit_place LOG              where a log's first error is, FILE:LINE:COLUMN
-#   edit_names LOG              whether the first error is that a name is missing: the edit changed the code's shape, and no fact failed
+#   edit_misfit LOG             says why a log's first error shows no fact that fails, if it shows none: the edit changed the code's shape, and the proof is of another
+#   edit_list DIR [NAME ..]     the edits of a folder, or those named, in edits
 #   edit_begin TOP              a copy of the crates with what rt has proved already, $edit_room/base; it is removed at the end
 #   edit_prove CRATE ..         proves them there: without an edit all have to be proved
 #   edit_all TRY EDIT ..        TRY EDIT COPY LOG for each, in a copy of its own, two at a time; TRY prints what it found, and its status says whether that is right
@@ -68,8 +69,27 @@ edit_place() { # LOG
     printf '%s\n' "${found%:}"
 }
 
-edit_names() { # LOG
-    grep -m 1 -E '^[^ ]+:[0-9]+:[0-9]+: error' "$1" | grep -qE 'that can be named from here|not in scope'
+edit_misfit() { # LOG
+    local first
+    first=$(grep -m 1 -E '^[^ ]+:[0-9]+:[0-9]+: error' "$1")
+    case $first in
+    *"that can be named from here"* | *"not in scope"*) echo "a name is missing" ;;
+    *"expected type \`tie.Need-"*"but this has type \`tie.Need-"*) echo "the code has other needs" ;;
+    *) return 1 ;;
+    esac
+}
+
+edit_list() { # DIR [NAME ..]
+    local dir=$1 edit
+    shift
+    if [ $# -eq 0 ]; then
+        edits=("$dir"/*.edit)
+    else
+        edits=("${@/#/"$dir/"}") && edits=("${edits[@]/%/.edit}")
+    fi
+    for edit in "${edits[@]}"; do
+        [ -f "$edit" ] || { echo "FAILED: there is no edit $(basename "$edit" .edit)"; edit_failed=1; edit_finish; }
+    done
 }
 
 edit_begin() { # TOP
