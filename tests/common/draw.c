@@ -3,6 +3,8 @@
  */
 #include "draw.h"
 
+#include "codes.h"
+
 uint32_t draw_below(uint64_t *seed, uint32_t below)
 {
 	uint64_t mixed;
@@ -19,14 +21,20 @@ static uint32_t in_range(uint64_t *seed, uint32_t count, uint32_t often, uint32_
 	return draw_below(seed, often) == 0 ? count + draw_below(seed, beyond) : draw_below(seed, count);
 }
 
-/* Half of the codes share a chain; the others use their high word. */
+/*
+ * The codes of lists: half of them share chain 0, the others a low word, so that they
+ * differ in the high one alone. One of sixty is past the range.
+ */
 static uint64_t draw_code(uint64_t *seed, const struct list *list)
 {
-	uint64_t n = draw_below(seed, list->codes);
+	static uint64_t codes[DRAW_CODES]; /* each is found once; 0 is not yet found, or itself */
+	uint32_t n = draw_below(seed, list->codes);
 
 	if (draw_below(seed, 60) == 0)
-		return PT_MAX_CODE + draw_below(seed, 2);
-	return n % 2 == 0 ? 64 * n : (n << 32) + 5;
+		return PT_MAX_CODE + 1 + draw_below(seed, 2);
+	if (codes[n] == 0)
+		codes[n] = n % 2 == 0 ? CODE_OF_CHAIN(0, n / 2) : CODE_OF_LOW_WORD(5, n / 2);
+	return codes[n];
 }
 
 static uint64_t draw_argument(uint64_t *seed, const struct list *list, enum kind kind)
@@ -73,13 +81,22 @@ struct call draw_call(uint64_t *seed, const struct list *list)
 	return draw_arguments(seed, list, name);
 }
 
-uint32_t draw_word(uint64_t *seed, const uint32_t *memory, size_t total)
+uint32_t draw_word(uint64_t *seed, const uint32_t *memory, size_t total, size_t at)
 {
-	switch (draw_below(seed, 5)) {
-	case 0: return PT_NONE;
-	case 1: return draw_below(seed, 16);
-	case 2: return memory[draw_below(seed, (uint32_t)total)];
-	case 3: return 1u << draw_below(seed, 32);
+	static const uint32_t edges[] = {
+		0, 1, 2, 3, 7, 8, 15, 16, 64, 65, 255, 256, PT_MAX_SLOTS - 1, PT_MAX_SLOTS,
+		PT_MAX_SLOTS + 1, PT_MAX_DEPOSIT, PT_MAX_DEPOSIT + 1, (uint32_t)PT_MAX_CODE,
+		(uint32_t)(PT_MAX_CODE + 1), (uint32_t)(PT_MAX_CODE >> 32),
+		(uint32_t)(PT_MAX_CODE >> 32) + 1, 0x7fffffff, 0x80000000, PT_NONE - 1, PT_NONE
+	};
+
+	switch (draw_below(seed, 7)) {
+	case 0: return memory[at] + 1;
+	case 1: return memory[at] - 1;
+	case 2: return memory[at] ^ 1u << draw_below(seed, 32);
+	case 3: return edges[draw_below(seed, sizeof edges / sizeof edges[0])];
+	case 4: return draw_below(seed, 16);
+	case 5: return memory[draw_below(seed, (uint32_t)total)];
 	default: return draw_below(seed, PT_NONE);
 	}
 }

@@ -10,7 +10,9 @@
 
 #include "calls.h"
 
-/* A list: sizes of the table, codes in use, calls, and the first generation. */
+enum { DRAW_CODES = 400 };
+
+/* A list: sizes of the table, codes in use (DRAW_CODES at most), calls, and the first generation. */
 struct list {
 	uint32_t cabinets, lanes, slots, codes, calls, generation;
 };
@@ -24,7 +26,7 @@ struct call draw_call(uint64_t *seed, const struct list *list);
 /* The same with the call's name chosen. */
 struct call draw_arguments(uint64_t *seed, const struct list *list, enum call_name name);
 
-/* A word that may fit where another stood: an end of a range, or copied from the memory. */
-uint32_t draw_word(uint64_t *seed, const uint32_t *memory, size_t total);
+/* A word for the address @at: near what stands there, about a range, another word's, or any. */
+uint32_t draw_word(uint64_t *seed, const uint32_t *memory, size_t total, size_t at);
 
 #endif /* COMMON_DRAW_H */

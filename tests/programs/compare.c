@@ -54,8 +54,11 @@ static void make_damaged(const struct list *list, size_t total)
 	uint32_t before[LENT_WORDS];
 
 	memcpy(before, lent.memory, sizeof before);
-	for (uint32_t n = 1 + draw(3); n > 0; n--)
-		lent.memory[draw((uint32_t)total)] = draw_word(&seed, lent.memory, total);
+	for (uint32_t n = 1 + draw(3); n > 0; n--) {
+		size_t at = draw((uint32_t)total);
+
+		lent.memory[at] = draw_word(&seed, lent.memory, total, at);
+	}
 	damaged++;
 	for (uint32_t n = 1 + draw(3); n > 0; n--) {
 		struct call call = draw_call(&seed, list);
