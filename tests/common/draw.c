@@ -4,6 +4,24 @@
 #include "draw.h"
 
 #include "codes.h"
+#include "layout.h"
+
+const struct list draw_lists[] = {
+	{ 1, 1, 1, 2, 30000, 1 },
+	{ 1, 2, 2, 3, 30000, 4294967295u },
+	{ 1, 2, 3, 4, 30000, 4294967290u },
+	{ 2, 1, 2, 3, 30000, 1 },
+	{ 1, 4, 3, 3, 30000, 2147483647u },
+	{ 2, 2, 5, 6, 30000, 2147483640u },
+	{ 1, 3, 8, 9, 30000, 4294967290u },
+	{ 2, 4, 16, 14, 30000, 1 },
+	{ 3, 3, 12, 20, 30000, 4294967294u },
+	{ 8, 1, 20, 12, 30000, 1 },
+	{ 4, 4, 100, 60, 10000, 1 },
+	{ 8, 8, 1024, 400, 2000, 4294967295u },
+};
+
+const uint32_t draw_lists_count = sizeof draw_lists / sizeof draw_lists[0];
 
 uint32_t draw_below(uint64_t *seed, uint32_t below)
 {
@@ -99,4 +117,113 @@ uint32_t draw_word(uint64_t *seed, const uint32_t *memory, size_t total, size_t 
 	case 5: return memory[draw_below(seed, (uint32_t)total)];
 	default: return draw_below(seed, PT_NONE);
 	}
+}
+
+/* ---- steps */
+
+static void ahead(struct drawer *drawer, enum step_kind kind, uint32_t number, uint32_t value)
+{
+	drawer->step[drawer->ahead++] = (struct step){ .kind = kind, .number = number, .value = value };
+}
+
+static void ahead_call(struct drawer *drawer, const struct call *call)
+{
+	drawer->step[drawer->ahead++] = (struct step){ .kind = STEP_CALL, .call = *call };
+}
+
+static void ahead_drawn(struct drawer *drawer, uint32_t count)
+{
+	while (count-- > 0) {
+		struct call call = draw_call(&drawer->seed, drawer->list);
+
+		ahead_call(drawer, &call);
+	}
+}
+
+void drawer_start(struct drawer *drawer, const struct list *list, uint64_t seed, bool calls_only)
+{
+	drawer->seed = seed;
+	drawer->list = list;
+	drawer->calls_only = calls_only;
+	drawer->ahead = 0;
+	drawer->taken = 0;
+	ahead_call(drawer, &(struct call){ CALL_SETUP, { list->cabinets, list->lanes, list->slots } });
+	if (calls_only || list->generation == 1)
+		return;
+	ahead(drawer, STEP_POKE, CONTENTS_WORDS + GLOBAL_CURRENT_GENERATION, list->generation);
+	ahead(drawer, STEP_POKE, CONTENTS_WORDS + GLOBAL_LARGEST_GENERATION, list->generation - 1u);
+	for (uint32_t kind = 0; kind < KINDS; kind++) /* lane 0's counts are about to wrap */
+		ahead(drawer, STEP_POKE, CONTENTS_WORDS + GLOBAL_WORDS + CABINET_WORDS * list->cabinets +
+			LANE_COUNTS + kind, PT_NONE - draw_below(&drawer->seed, 3));
+}
+
+/* A lane finishes its lookup and its section, passes and hands back; perhaps it begins again. */
+static void ahead_lane(struct drawer *drawer, uint32_t lane)
+{
+	uint32_t kind = draw_below(&drawer->seed, KINDS);
+
+	ahead_call(drawer, &(struct call){ CALL_STEP, { lane } });
+	ahead_call(drawer, &(struct call){ CALL_STEP, { lane } });
+	ahead_call(drawer, &(struct call){ CALL_END, { lane } });
+	ahead_call(drawer, &(struct call){ CALL_CLOCK, { lane } });
+	ahead_call(drawer, &(struct call){ CALL_PASS, { lane, kind } });
+	ahead_call(drawer, &(struct call){ CALL_CLOCK, { lane } });
+	ahead_call(drawer, &(struct call){ CALL_HAND_BACK, { lane } });
+	if (draw_below(&drawer->seed, 3) == 0)
+		ahead_call(drawer, &(struct call){ CALL_BEGIN, { lane } });
+}
+
+/* Most lanes do so, so that grace periods end; some may stay in their sections. */
+static void ahead_lanes(struct drawer *drawer)
+{
+	uint32_t staying = draw_below(&drawer->seed, 3);
+
+	for (uint32_t l = 0; l < drawer->list->cabinets * drawer->list->lanes; l++)
+		if (staying == 0 || draw_below(&drawer->seed, 4) != 0)
+			ahead_lane(drawer, l);
+}
+
+static void ahead_damage(struct drawer *drawer, const uint32_t *memory, uint32_t total)
+{
+	for (uint32_t n = 1 + draw_below(&drawer->seed, 3); n > 0; n--) {
+		uint32_t at = draw_below(&drawer->seed, total);
+
+		ahead(drawer, STEP_POKE, at, draw_word(&drawer->seed, memory, total, at));
+	}
+	ahead_drawn(drawer, 1 + draw_below(&drawer->seed, 3));
+	ahead(drawer, STEP_MEND, 0, 0);
+}
+
+/* A call, or the table's set-up, with fewer words lent than belong to it. */
+static void ahead_short(struct drawer *drawer, enum step_kind kind, uint32_t below, size_t whole)
+{
+	const struct list *list = drawer->list;
+
+	ahead(drawer, kind, draw_below(&drawer->seed, below), 0);
+	if (draw_below(&drawer->seed, 4) == 0)
+		ahead_call(drawer, &(struct call){ CALL_SETUP, { list->cabinets, list->lanes, list->slots } });
+	else
+		ahead_drawn(drawer, 1);
+	ahead(drawer, kind, (uint32_t)whole, 0);
+}
+
+struct step drawer_next(struct drawer *drawer, const uint32_t *memory, size_t words)
+{
+	const struct list *list = drawer->list;
+	uint32_t total = (uint32_t)PT_WORDS(list->cabinets, list->lanes, list->slots);
+	uint32_t lanes = list->cabinets * list->lanes;
+
+	if (drawer->taken == drawer->ahead) {
+		drawer->taken = drawer->ahead = 0;
+		if (draw_below(&drawer->seed, 20 + 10 * lanes) == 0)
+			ahead_lanes(drawer);
+		if (!drawer->calls_only && draw_below(&drawer->seed, 12) == 0)
+			ahead_damage(drawer, memory, total);
+		if (!drawer->calls_only && draw_below(&drawer->seed, 100) == 0)
+			ahead_short(drawer, STEP_LEND, total + 1, words);
+		if (!drawer->calls_only && draw_below(&drawer->seed, 100) == 0)
+			ahead_short(drawer, STEP_ANSWER, PT_ANSWER_WORDS + 1, PT_ANSWER_WORDS + 3);
+		ahead_drawn(drawer, 1);
+	}
+	return drawer->step[drawer->taken++];
 }
