@@ -16,9 +16,10 @@
 #include <time.h>
 
 #include "calls.h"
+#include "codes.h"
 #include "reference.h"
 
-enum { WORDS = 7456, ANSWER = 5, ROUNDS = 200, ROUND_NANOSECONDS = 200000, CHANGES = 64 };
+enum { WORDS = 7456, ANSWER = 5, ROUNDS = 200, ROUND_NANOSECONDS = 200000, CHANGES = 64, CODES = 1025 };
 
 /* How the slots of a table are used. */
 enum use { EVEN, ONE_CHAIN, HALF_RETIRED, COLLIDING, USES };
@@ -48,17 +49,25 @@ static void must(uint32_t status)
 
 /* ---- tables, built by the C version */
 
-/* Code @n of the table: a code a chain in turn, or all of one chain. */
+/* Code @n of the table, with a right check digit: of all in their order, or all of one chain. */
 static uint64_t code_of(enum use use, uint32_t n)
 {
+	static uint64_t codes[USES][CODES]; /* each is found once; 0 is not yet found, or itself */
+	uint64_t *code = &codes[use][n];
+
+	if (*code != 0)
+		return *code;
 	switch (use) {
 	case ONE_CHAIN:
-		return (uint64_t)n * 64;
+		*code = CODE_OF_CHAIN(0, n);
+		break;
 	case COLLIDING:
-		return (uint64_t)n << 33; /* equal in every digit but the last */
+		*code = right_code(UINT64_C(1) << 29, 0, n); /* equal in every digit but the last */
+		break;
 	default:
-		return n;
+		*code = CODE_OF_ALL(n);
 	}
+	return *code;
 }
 
 /* A table of these sizes, with records in its first @used slots. */
@@ -106,7 +115,7 @@ static void build_for_all(void)
 	uint32_t n;
 
 	fill(8, 8, SLOTS, USED, EVEN);
-	must(ref_delete(LENT, 0, USED - 1));
+	must(ref_delete(LENT, 0, code_of(EVEN, USED - 1)));
 	for (round = 0; round < 3; round++)
 		for (n = 0; n < LANES; n++) {
 			must(ref_clock(LENT, n));
@@ -116,7 +125,7 @@ static void build_for_all(void)
 	must(ref_clock(LENT, 0));
 	must(ref_off(LENT, 3));
 	for (n = 0; n < RETIRED; n++)
-		must(ref_delete(LENT, 1, USED - 2 - n));
+		must(ref_delete(LENT, 1, code_of(EVEN, USED - 2 - n)));
 	must(ref_clock(LENT, 1));
 	must(ref_clock(LENT, 2));
 	must(ref_pass(LENT, 2, 1));
@@ -225,10 +234,11 @@ static const struct call everywhere[] = {
 	{ CALL_AWAITED, { 0 } },
 };
 
-/* Accepted by the table of build_for_all(); code 0 is the last of its chain. */
+/* Accepted by the table of build_for_all(); code 0 is the last of its chain, and this one has no record. */
+#define FREE_CODE 9999999999994
 static const struct call all_calls[CALLS] = {
 	{ CALL_SETUP, { 8, 8, 1024 } },
-	{ CALL_ADD, { 0, 2048, 25, 1 } },
+	{ CALL_ADD, { 0, FREE_CODE, 25, 1 } },
 	{ CALL_REPLACE, { 0, 0, 25, 1 } },
 	{ CALL_DELETE, { 0, 0 } },
 	{ CALL_BEGIN, { 2 } },

@@ -10,109 +10,47 @@
 #include <stdlib.h>
 #include <string.h>
 
+#include "draw.h"
 #include "reference.h"
 
 extern bool pt_legal(const uint32_t *memory, size_t words);
 
-enum { WORDS = 1200, ANSWER = 5, TRIES = 1000000, CALLS_OF_A_TABLE = 400, LONGEST = 200 };
-#define NONE 0xffffffffu
+enum { WORDS = 1200, TRIES = 1000000, CALLS_OF_A_TABLE = 400, LONGEST = 200 };
 
 static uint32_t memory[WORDS];
 static uint32_t damaged[WORDS];
-static uint32_t answer[ANSWER];
-static uint64_t state = 20261115;
+static uint64_t seed = 20261115;
 static unsigned long legal_count;
 static unsigned long compared;
 
 /* Numbers that look random, the same in every run. */
 static uint32_t pick(uint32_t below)
 {
-	state = state * 6364136223846793005u + 1442695040888963407u;
-	return (uint32_t)((state >> 33) % below);
+	return draw_below(&seed, below);
 }
 
-#define LENT memory, WORDS, answer, ANSWER
-
-/* A table of random sizes after random calls. */
+/* A table of random sizes after random calls; its total. */
 static uint32_t build(void)
 {
-	uint32_t cabinets = 1 + pick(4);
-	uint32_t lanes = 1 + pick(4);
-	uint32_t slots = 1 + pick(pick(8) == 0 ? 100 : 12);
-	uint32_t count = cabinets * lanes;
-	uint32_t total;
-	int n;
+	const struct list list = { 1 + pick(4), 1 + pick(4), 1 + pick(pick(8) == 0 ? 100 : 12), 16, 0, 1 };
+	struct call call = { CALL_SETUP, { list.cabinets, list.lanes, list.slots } };
+	uint32_t answer[PT_ANSWER_WORDS];
+	uint32_t total = (uint32_t)PT_WORDS(list.cabinets, list.lanes, list.slots);
 
 	memset(memory, 0, sizeof(memory));
-	ref_setup(LENT, cabinets, lanes, slots);
-	total = answer[1];
-	for (n = 0; n < CALLS_OF_A_TABLE; n++) {
-		uint32_t lane = pick(count);
-		uint64_t code = pick(3) == 0 ? (uint64_t)pick(8) * 64 : pick(20);
-
-		switch (pick(13)) {
-		case 0:
-		case 1:
-			ref_add(LENT, lane, code, pick(100001), pick(8));
-			break;
-		case 2:
-			ref_replace(LENT, lane, code, pick(100001), pick(8));
-			break;
-		case 3:
-			ref_delete(LENT, lane, code);
-			break;
-		case 4:
-			ref_begin(LENT, lane);
-			break;
-		case 5:
-			ref_end(LENT, lane);
-			break;
-		case 6:
-			ref_start(LENT, lane, code);
-			break;
-		case 7:
-			ref_step(LENT, lane);
-			break;
-		case 8:
-			ref_pass(LENT, lane, pick(4));
-			break;
-		case 9:
-			pick(4) == 0 ? ref_off(LENT, lane) : ref_on(LENT, lane);
-			break;
-		case 10:
-			ref_hand_back(LENT, lane);
-			break;
-		default:
-			ref_clock(LENT, lane);
-		}
+	for (int n = 0; n < CALLS_OF_A_TABLE; n++) {
+		call_make(&reference, memory, WORDS, answer, PT_ANSWER_WORDS, &call);
+		do
+			call = draw_call(&seed, &list);
+		while (call.name == CALL_SETUP);
 	}
 	return total;
 }
 
-/* A value for a word: near it, near a range, another word's, or any. */
-static uint32_t value_for(uint32_t word, uint32_t total)
+/* Changes one word. */
+static void damage_at(uint32_t at, uint32_t total)
 {
-	static const uint32_t edges[] = {
-		0, 1, 2, 3, 7, 8, 15, 16, 64, 65, 255, 256, 1023, 1024, 1025, 100000, 100001,
-		1316134911, 1316134912, 2328, 2329, 0x7fffffff, 0x80000000, NONE - 1, NONE
-	};
-
-	switch (pick(7)) {
-	case 0:
-		return word + 1;
-	case 1:
-		return word - 1;
-	case 2:
-		return word ^ (1u << pick(32));
-	case 3:
-		return edges[pick(sizeof(edges) / sizeof(edges[0]))];
-	case 4:
-		return pick(memory[3] + 1);
-	case 5:
-		return memory[pick(total)];
-	default:
-		return pick(NONE);
-	}
+	damaged[at] = draw_word(&seed, damaged, total, at);
 }
 
 static void compare(size_t words)
@@ -156,13 +94,10 @@ int main(void)
 		if (n % 10 == 9) { /* words of no meaning behind good contents */
 			for (words = 12; words < total; words++)
 				if (pick(2) == 0)
-					damaged[words] = value_for(damaged[words], total);
+					damage_at((uint32_t)words, total);
 		} else if (n % 10 != 0) {
-			while (changes-- > 0) {
-				uint32_t at = pick(total);
-
-				damaged[at] = value_for(damaged[at], total);
-			}
+			while (changes-- > 0)
+				damage_at(pick(total), total);
 		}
 		compare(n % 97 == 0 ? total - pick(3) : total + pick(3));
 	}
@@ -172,7 +107,7 @@ int main(void)
 				total = build();
 			memcpy(damaged, memory, sizeof(memory));
 			if (n % 2 == 1)
-				damaged[pick(16)] = value_for(damaged[pick(16)], total);
+				damage_at(pick(16), total);
 			compare(words);
 		}
 	printf("damage: %lu memories, %lu of them legal, all decided alike\n", compared, legal_count);

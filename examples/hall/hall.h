@@ -10,6 +10,7 @@
 #include <stdint.h>
 
 #include "calls.h" /* a call as a value */
+#include "codes.h"
 #include "product_table.h"
 
 enum {
@@ -22,10 +23,10 @@ enum {
 	PRODUCTS = 120
 };
 
-/* Codes of eight chains, so that a lookup takes several steps. */
+/* Codes of eight chains, with right check digits, so that a lookup takes several steps. */
 static inline uint64_t product_code(uint32_t product)
 {
-	return UINT64_C(4000000000000) + 8 * (uint64_t)product;
+	return CODE_OF_CHAIN(8 * (product % 8), product / 8);
 }
 
 /* What a client sends. It is shorter than PIPE_BUF, so the pipe keeps it in one piece. */

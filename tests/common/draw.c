@@ -3,6 +3,26 @@
  */
 #include "draw.h"
 
+#include "codes.h"
+#include "layout.h"
+
+const struct list draw_lists[] = {
+	{ 1, 1, 1, 2, 30000, 1 },
+	{ 1, 2, 2, 3, 30000, 4294967295u },
+	{ 1, 2, 3, 4, 30000, 4294967290u },
+	{ 2, 1, 2, 3, 30000, 1 },
+	{ 1, 4, 3, 3, 30000, 2147483647u },
+	{ 2, 2, 5, 6, 30000, 2147483640u },
+	{ 1, 3, 8, 9, 30000, 4294967290u },
+	{ 2, 4, 16, 14, 30000, 1 },
+	{ 3, 3, 12, 20, 30000, 4294967294u },
+	{ 8, 1, 20, 12, 30000, 1 },
+	{ 4, 4, 100, 60, 10000, 1 },
+	{ 8, 8, 1024, 400, 2000, 4294967295u },
+};
+
+const uint32_t draw_lists_count = sizeof draw_lists / sizeof draw_lists[0];
+
 uint32_t draw_below(uint64_t *seed, uint32_t below)
 {
 	uint64_t mixed;
@@ -19,14 +39,20 @@ static uint32_t in_range(uint64_t *seed, uint32_t count, uint32_t often, uint32_
 	return draw_below(seed, often) == 0 ? count + draw_below(seed, beyond) : draw_below(seed, count);
 }
 
-/* Half of the codes share a chain; the others use their high word. */
+/*
+ * The codes of lists: half of them share chain 0, the others a low word, so that they
+ * differ in the high one alone. One of sixty is past the range.
+ */
 static uint64_t draw_code(uint64_t *seed, const struct list *list)
 {
-	uint64_t n = draw_below(seed, list->codes);
+	static uint64_t codes[DRAW_CODES]; /* each is found once; 0 is not yet found, or itself */
+	uint32_t n = draw_below(seed, list->codes);
 
 	if (draw_below(seed, 60) == 0)
-		return PT_MAX_CODE + draw_below(seed, 2);
-	return n % 2 == 0 ? 64 * n : (n << 32) + 5;
+		return PT_MAX_CODE + 1 + draw_below(seed, 2);
+	if (codes[n] == 0)
+		codes[n] = n % 2 == 0 ? CODE_OF_CHAIN(0, n / 2) : CODE_OF_LOW_WORD(5, n / 2);
+	return codes[n];
 }
 
 static uint64_t draw_argument(uint64_t *seed, const struct list *list, enum kind kind)
@@ -73,13 +99,131 @@ struct call draw_call(uint64_t *seed, const struct list *list)
 	return draw_arguments(seed, list, name);
 }
 
-uint32_t draw_word(uint64_t *seed, const uint32_t *memory, size_t total)
+uint32_t draw_word(uint64_t *seed, const uint32_t *memory, size_t total, size_t at)
 {
-	switch (draw_below(seed, 5)) {
-	case 0: return PT_NONE;
-	case 1: return draw_below(seed, 16);
-	case 2: return memory[draw_below(seed, (uint32_t)total)];
-	case 3: return 1u << draw_below(seed, 32);
+	static const uint32_t edges[] = {
+		0, 1, 2, 3, 7, 8, 15, 16, 64, 65, 255, 256, PT_MAX_SLOTS - 1, PT_MAX_SLOTS,
+		PT_MAX_SLOTS + 1, PT_MAX_DEPOSIT, PT_MAX_DEPOSIT + 1, (uint32_t)PT_MAX_CODE,
+		(uint32_t)(PT_MAX_CODE + 1), (uint32_t)(PT_MAX_CODE >> 32),
+		(uint32_t)(PT_MAX_CODE >> 32) + 1, 0x7fffffff, 0x80000000, PT_NONE - 1, PT_NONE
+	};
+
+	switch (draw_below(seed, 7)) {
+	case 0: return memory[at] + 1;
+	case 1: return memory[at] - 1;
+	case 2: return memory[at] ^ 1u << draw_below(seed, 32);
+	case 3: return edges[draw_below(seed, sizeof edges / sizeof edges[0])];
+	case 4: return draw_below(seed, 16);
+	case 5: return memory[draw_below(seed, (uint32_t)total)];
 	default: return draw_below(seed, PT_NONE);
 	}
+}
+
+/* ---- steps */
+
+static void ahead(struct drawer *drawer, enum step_kind kind, uint32_t number, uint32_t value)
+{
+	drawer->step[drawer->ahead++] = (struct step){ .kind = kind, .number = number, .value = value };
+}
+
+static void ahead_call(struct drawer *drawer, const struct call *call)
+{
+	drawer->step[drawer->ahead++] = (struct step){ .kind = STEP_CALL, .call = *call };
+}
+
+static void ahead_drawn(struct drawer *drawer, uint32_t count)
+{
+	while (count-- > 0) {
+		struct call call = draw_call(&drawer->seed, drawer->list);
+
+		ahead_call(drawer, &call);
+	}
+}
+
+void drawer_start(struct drawer *drawer, const struct list *list, uint64_t seed, bool calls_only)
+{
+	drawer->seed = seed;
+	drawer->list = list;
+	drawer->calls_only = calls_only;
+	drawer->ahead = 0;
+	drawer->taken = 0;
+	ahead_call(drawer, &(struct call){ CALL_SETUP, { list->cabinets, list->lanes, list->slots } });
+	if (calls_only || list->generation == 1)
+		return;
+	ahead(drawer, STEP_POKE, CONTENTS_WORDS + GLOBAL_CURRENT_GENERATION, list->generation);
+	ahead(drawer, STEP_POKE, CONTENTS_WORDS + GLOBAL_LARGEST_GENERATION, list->generation - 1u);
+	for (uint32_t kind = 0; kind < KINDS; kind++) /* lane 0's counts are about to wrap */
+		ahead(drawer, STEP_POKE, CONTENTS_WORDS + GLOBAL_WORDS + CABINET_WORDS * list->cabinets +
+			LANE_COUNTS + kind, PT_NONE - draw_below(&drawer->seed, 3));
+}
+
+/* A lane finishes its lookup and its section, passes and hands back; perhaps it begins again. */
+static void ahead_lane(struct drawer *drawer, uint32_t lane)
+{
+	uint32_t kind = draw_below(&drawer->seed, KINDS);
+
+	ahead_call(drawer, &(struct call){ CALL_STEP, { lane } });
+	ahead_call(drawer, &(struct call){ CALL_STEP, { lane } });
+	ahead_call(drawer, &(struct call){ CALL_END, { lane } });
+	ahead_call(drawer, &(struct call){ CALL_CLOCK, { lane } });
+	ahead_call(drawer, &(struct call){ CALL_PASS, { lane, kind } });
+	ahead_call(drawer, &(struct call){ CALL_CLOCK, { lane } });
+	ahead_call(drawer, &(struct call){ CALL_HAND_BACK, { lane } });
+	if (draw_below(&drawer->seed, 3) == 0)
+		ahead_call(drawer, &(struct call){ CALL_BEGIN, { lane } });
+}
+
+/* Most lanes do so, so that grace periods end; some may stay in their sections. */
+static void ahead_lanes(struct drawer *drawer)
+{
+	uint32_t staying = draw_below(&drawer->seed, 3);
+
+	for (uint32_t l = 0; l < drawer->list->cabinets * drawer->list->lanes; l++)
+		if (staying == 0 || draw_below(&drawer->seed, 4) != 0)
+			ahead_lane(drawer, l);
+}
+
+static void ahead_damage(struct drawer *drawer, const uint32_t *memory, uint32_t total)
+{
+	for (uint32_t n = 1 + draw_below(&drawer->seed, 3); n > 0; n--) {
+		uint32_t at = draw_below(&drawer->seed, total);
+
+		ahead(drawer, STEP_POKE, at, draw_word(&drawer->seed, memory, total, at));
+	}
+	ahead_drawn(drawer, 1 + draw_below(&drawer->seed, 3));
+	ahead(drawer, STEP_MEND, 0, 0);
+}
+
+/* A call, or the table's set-up, with fewer words lent than belong to it. */
+static void ahead_short(struct drawer *drawer, enum step_kind kind, uint32_t below, size_t whole)
+{
+	const struct list *list = drawer->list;
+
+	ahead(drawer, kind, draw_below(&drawer->seed, below), 0);
+	if (draw_below(&drawer->seed, 4) == 0)
+		ahead_call(drawer, &(struct call){ CALL_SETUP, { list->cabinets, list->lanes, list->slots } });
+	else
+		ahead_drawn(drawer, 1);
+	ahead(drawer, kind, (uint32_t)whole, 0);
+}
+
+struct step drawer_next(struct drawer *drawer, const uint32_t *memory, size_t words)
+{
+	const struct list *list = drawer->list;
+	uint32_t total = (uint32_t)PT_WORDS(list->cabinets, list->lanes, list->slots);
+	uint32_t lanes = list->cabinets * list->lanes;
+
+	if (drawer->taken == drawer->ahead) {
+		drawer->taken = drawer->ahead = 0;
+		if (draw_below(&drawer->seed, 20 + 10 * lanes) == 0)
+			ahead_lanes(drawer);
+		if (!drawer->calls_only && draw_below(&drawer->seed, 12) == 0)
+			ahead_damage(drawer, memory, total);
+		if (!drawer->calls_only && draw_below(&drawer->seed, 100) == 0)
+			ahead_short(drawer, STEP_LEND, total + 1, words);
+		if (!drawer->calls_only && draw_below(&drawer->seed, 100) == 0)
+			ahead_short(drawer, STEP_ANSWER, PT_ANSWER_WORDS + 1, PT_ANSWER_WORDS + 3);
+		ahead_drawn(drawer, 1);
+	}
+	return drawer->step[drawer->taken++];
 }

@@ -9,11 +9,18 @@
 #include <stdint.h>
 
 #include "calls.h"
+#include "steps.h"
 
-/* A list: sizes of the table, codes in use, calls, and the first generation. */
+enum { DRAW_CODES = 400 };
+
+/* A list: sizes of the table, codes in use (DRAW_CODES at most), calls, and the first generation. */
 struct list {
 	uint32_t cabinets, lanes, slots, codes, calls, generation;
 };
+
+/* The dozen sizes on which implementations are compared. */
+extern const struct list draw_lists[];
+extern const uint32_t draw_lists_count;
 
 /* A number below @below, which is not 0. */
 uint32_t draw_below(uint64_t *seed, uint32_t below);
@@ -24,7 +31,27 @@ struct call draw_call(uint64_t *seed, const struct list *list);
 /* The same with the call's name chosen. */
 struct call draw_arguments(uint64_t *seed, const struct list *list, enum call_name name);
 
-/* A word that may fit where another stood: an end of a range, or copied from the memory. */
-uint32_t draw_word(uint64_t *seed, const uint32_t *memory, size_t total);
+/* A word for the address @at: near what stands there, about a range, another word's, or any. */
+uint32_t draw_word(uint64_t *seed, const uint32_t *memory, size_t total, size_t at);
+
+/* Where the drawing of a list's steps stands. */
+enum { DRAWN_AHEAD = 700 };
+struct drawer {
+	uint64_t seed;
+	const struct list *list;
+	bool calls_only; /* as for a listing: no word is poked, all is lent */
+	uint32_t ahead, taken;
+	struct step step[DRAWN_AHEAD]; /* drawn, of which so many are taken */
+};
+
+/* A list from its set-up on. */
+void drawer_start(struct drawer *drawer, const struct list *list, uint64_t seed, bool calls_only);
+
+/*
+ * The next step, on the memory as it is: mostly a call; a call on a memory or an answer that
+ * is too short; calls on a memory of which some words are changed, after which they are as
+ * they were; now and then all lanes finish their lookups, pass and hand back.
+ */
+struct step drawer_next(struct drawer *drawer, const uint32_t *memory, size_t words);
 
 #endif /* COMMON_DRAW_H */

@@ -7,6 +7,7 @@
 #include <stdlib.h>
 #include <string.h>
 
+#include "codes.h"
 #include "line.h"
 #include "reference.h"
 
@@ -24,6 +25,16 @@ void lent_start(struct lent *lent)
 	for (size_t n = 0; n < LENT_WORDS; n++)
 		lent->memory[n] = LENT_FILL;
 	lent->words = LENT_WORDS;
+	lent->any_code = false;
+}
+
+/* A code that enters the table has a right check digit, or is past the range. */
+static bool code_fits(const struct call *call)
+{
+	uint64_t code = call_argument(call, KIND_CODE, 0);
+
+	return (call->name != CALL_ADD && call->name != CALL_REPLACE) || code > PT_MAX_CODE ||
+		code_is_right(code);
 }
 
 struct call lent_call(const char *text)
@@ -76,6 +87,7 @@ uint32_t lent_make(struct lent *lent, const struct call *call)
 	uint32_t before[LENT_WORDS];
 	uint32_t status;
 
+	CHECK(lent->any_code || code_fits(call));
 	memcpy(before, lent->memory, sizeof before);
 	for (size_t n = 0; n < LENT_ANSWER; n++)
 		lent->answer[n] = LENT_FILL;

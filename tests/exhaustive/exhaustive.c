@@ -29,6 +29,7 @@
 #include <stdlib.h>
 #include <string.h>
 
+#include "codes.h"
 #include "layout.h"
 #include "ledger.h"
 #include "reference.h"
@@ -65,6 +66,8 @@ enum {
 	PACKED = WORDS + LEDGER_WORDS,
 	ALPHABET = 100,
 	MANY_PASSES = CALLS, /* stands for a call's name */
+	CODES = 2,	     /* at most */
+	PACKED_CODE = 100,   /* stands for the first code in a byte; plain words are below */
 	FILL = 0x5a5a5a5a
 };
 
@@ -85,6 +88,7 @@ static const struct table_form *form;
 static uint32_t lanes; /* of all cabinets */
 static size_t total;
 static uint32_t contents[CONTENTS_WORDS];
+static uint32_t codes[CODES]; /* of chain 0; the first is 0, as in free slots */
 static struct call alphabet[ALPHABET];
 static uint32_t letters;
 
@@ -134,7 +138,7 @@ static void pass_letters(uint32_t lane)
 static void lane_letters(uint32_t lane)
 {
 	for (uint32_t n = 0; n < form->codes; n++)
-		code_letters(lane, CHAINS * n);
+		code_letters(lane, codes[n]);
 	if (form->reading >> lane & 1u) {
 		letter(CALL_BEGIN, lane, 0, 0, 0);
 		letter(CALL_STEP, lane, 0, 0, 0);
@@ -232,13 +236,21 @@ static void sort_ledger(struct ledger *ledger)
 	}
 }
 
-static void pack_word(int8_t *byte, uint32_t word)
+/* A word as a byte: none and what is little less, small numbers, and the codes. */
+static int8_t packed_word(uint32_t word)
 {
-	*byte = (int8_t)(uint8_t)word;
-	if ((uint32_t)*byte != word) {
-		fprintf(stderr, "exhaustive: a word of %" PRIu32 " does not fit a byte\n", word);
-		exit(2);
-	}
+	for (uint32_t n = 1; n < CODES; n++)
+		if (word == codes[n])
+			return (int8_t)(PACKED_CODE + n);
+	if (word < PACKED_CODE || word >= PT_NONE - INT8_MAX)
+		return (int8_t)(uint8_t)word;
+	fprintf(stderr, "exhaustive: a word of %" PRIu32 " does not fit a byte\n", word);
+	exit(2);
+}
+
+static uint32_t unpacked_word(int8_t byte)
+{
+	return byte >= PACKED_CODE ? codes[byte - PACKED_CODE] : (uint32_t)byte;
 }
 
 static void pack(struct kept *to, const struct state *state)
@@ -248,9 +260,9 @@ static void pack(struct kept *to, const struct state *state)
 	memset(to->word, 0, sizeof to->word);
 	memcpy(ledger, &state->ledger, sizeof ledger);
 	for (size_t n = CONTENTS_WORDS; n < total; n++)
-		pack_word(&to->word[n], state->memory[n]);
+		to->word[n] = packed_word(state->memory[n]);
 	for (size_t n = 0; n < LEDGER_WORDS; n++)
-		pack_word(&to->word[WORDS + n], ledger[n]);
+		to->word[WORDS + n] = packed_word(ledger[n]);
 }
 
 static void unpack(struct state *state, const struct kept *from)
@@ -259,11 +271,11 @@ static void unpack(struct state *state, const struct kept *from)
 
 	memcpy(state->memory, contents, sizeof contents);
 	for (size_t n = CONTENTS_WORDS; n < total; n++)
-		state->memory[n] = (uint32_t)from->word[n];
+		state->memory[n] = unpacked_word(from->word[n]);
 	for (size_t n = total; n < WORDS + PAST; n++)
 		state->memory[n] = FILL;
 	for (size_t n = 0; n < LEDGER_WORDS; n++)
-		ledger[n] = (uint32_t)from->word[WORDS + n];
+		ledger[n] = unpacked_word(from->word[WORDS + n]);
 	memcpy(&state->ledger, ledger, sizeof ledger);
 }
 
@@ -532,6 +544,8 @@ int main(int arguments, char **argument)
 		fprintf(stderr, "exhaustive: there are %zu tables\n", tables);
 		return 2;
 	}
+	for (uint32_t n = 0; n < CODES; n++)
+		codes[n] = (uint32_t)CODE_OF_CHAIN(0, n);
 	if (!compared)
 		printf("exhaustive: judged by legality and the ledger alone\n");
 	for (size_t n = 0; n < tables; n++) {

@@ -119,23 +119,13 @@ static void make_written(const char *path, const char *directory)
 /* A list of calls on a table: many of the calls are accepted. */
 static void put_random(uint32_t cabinets, uint32_t lanes, uint32_t slots, uint32_t count)
 {
-	static const enum call_name names[] = {
-		CALL_ADD, CALL_ADD, CALL_ADD, CALL_REPLACE, CALL_DELETE, CALL_DELETE, CALL_BEGIN,
-		CALL_BEGIN, CALL_END, CALL_START, CALL_START, CALL_STEP, CALL_STEP, CALL_STEP,
-		CALL_PASS, CALL_PASS, CALL_CLOCK, CALL_CLOCK, CALL_CLOCK, CALL_ON, CALL_OFF,
-		CALL_HAND_BACK, CALL_HAND_BACK, CALL_AWAITED
-	};
 	uint64_t state = cabinets * 100 + lanes * 10 + slots;
+	const struct list list = { cabinets, lanes, slots, 8, count, 1 };
 	struct call call = { CALL_SETUP, { cabinets, lanes, slots } };
 
 	put_call(&call);
 	for (uint32_t n = 0; n < count; n++) {
-		call.name = names[draw_below(&state, sizeof names / sizeof names[0])];
-		call.argument[0] = draw_below(&state, cabinets * lanes);
-		call.argument[1] = call.name == CALL_PASS ? draw_below(&state, KINDS) :
-			64 * draw_below(&state, 4) + draw_below(&state, 2);
-		call.argument[2] = draw_below(&state, 50);
-		call.argument[3] = draw_below(&state, 8);
+		call = draw_call(&state, &list);
 		put_call(&call);
 		if (n % 20 == 19)
 			put(ROUND, 1);

@@ -22,6 +22,7 @@
 #include <stdint.h>
 
 #include "calls.h"
+#include "codes.h"
 #include "product_table.h"
 
 enum {
@@ -42,10 +43,21 @@ static const uint32_t edges[RAW - EDGES] = {
 	(uint32_t)(PT_MAX_CODE >> 32), (uint32_t)(PT_MAX_CODE >> 32) + 1, 256, 65535, 65536,
 };
 
-/* The code that a byte below EDGES is: four codes of two chains, each with two high words. */
+/*
+ * The code that a byte below EDGES is: four right codes of each of two chains, and of each
+ * another with the same low word.
+ */
 static inline uint64_t spread(uint32_t byte)
 {
-	return (uint64_t)(byte >> 3 & 1u) << 32 | (byte & 3u) << 6 | (byte >> 2 & 1u);
+	static uint64_t codes[16]; /* each is found once; 0 is not yet found, or itself */
+	uint32_t n = byte & 15u;
+
+	if (codes[n] == 0) {
+		codes[n] = CODE_OF_CHAIN(n & 4u ? 17 : 0, n & 3u);
+		if (n & 8u)
+			codes[n] = CODE_OF_LOW_WORD((uint32_t)codes[n], 1);
+	}
+	return codes[n];
 }
 
 /* What is left of a stream. */

@@ -58,7 +58,7 @@ static void test_whole_search(void)
 	};
 	static const struct lent_step absent[] = {
 		{ "setup 1 2 3", "0 145 0 0 0" }, { "add 0 17 25 1", "0 0 0 0 0" },
-		{ "begin 1", "0 0 0 0 0" }, { "start 1 18", "0 0 0 0 0" },
+		{ "begin 1", "0 0 0 0 0" }, { "start 1 24", "0 0 0 0 0" },
 		{ "step 1", "0 0 0 0 0" }, { "step 1", "0 2 0 0 0" },
 	};
 
@@ -142,11 +142,11 @@ static void test_slots(void)
 {
 	static const struct lent_step adds[] = {
 		{ "setup 1 2 3", "0 145 0 0 0" }, { "add 0 17 25 1", "0 0 0 0 0" },
-		{ "add 0 18 25 1", "0 1 0 0 0" },
+		{ "add 0 24 25 1", "0 1 0 0 0" },
 	};
 	static const struct lent_step removed[] = {
 		{ "setup 1 2 3", "0 145 0 0 0" }, { "add 0 17 25 1", "0 0 0 0 0" },
-		{ "add 0 18 25 1", "0 1 0 0 0" }, { "del 0 17", "0 0 0 0 0" },
+		{ "add 0 24 25 1", "0 1 0 0 0" }, { "del 0 17", "0 0 0 0 0" },
 	};
 
 	CHECK(FEED(adds) == NULL);
@@ -161,8 +161,8 @@ static void test_slots(void)
 static void test_kept(void)
 {
 	static const char *const lines[] = {
-		"setup 1 2 3", "add 0 4294967313 25 1", "begin 1", "start 1 4294967313", "step 1",
-		"del 0 4294967313",
+		"setup 1 2 3", "add 0 64424509457 25 1", "begin 1", "start 1 64424509457", "step 1",
+		"del 0 64424509457",
 	};
 	static struct lent lent;
 	struct call end = { CALL_END, { 1 } };

@@ -47,10 +47,10 @@ static void test_words_of_calls(void)
 {
 	static const struct lent_step steps[] = {
 		{ "setup 1 2 3", "0 145 0 0 0" },
-		{ "add 0 4294967313 25 1", "0 0 0 0 0" }, /* 2^32 + 17 */
+		{ "add 0 64424509457 25 1", "0 0 0 0 0" }, /* 15 * 2^32 + 17 */
 		{ "add 0 17 26 2", "0 1 0 0 0" },
 		{ "begin 1", "0 0 0 0 0" },
-		{ "start 1 4294967313", "0 0 0 0 0" },
+		{ "start 1 64424509457", "0 0 0 0 0" },
 		{ "del 0 17", "0 1 0 0 0" },
 		{ "pass 0 3", "0 0 0 0 0" },
 		{ "clock 0", "0 1 1 1 0" },
@@ -61,10 +61,10 @@ static void test_words_of_calls(void)
 	};
 	static const uint32_t lane1[19] = {
 		7, 0, 0, 0, 0, 0, 0, 0, 0, 0,
-		PT_NONE, PT_NONE, PT_NONE, PT_NONE, PT_NONE, PT_NONE, 17, 1, 1
+		PT_NONE, PT_NONE, PT_NONE, PT_NONE, PT_NONE, PT_NONE, 17, 15, 1
 	};
 	static const uint32_t slots[18] = {
-		17, 1, 25, 1, PT_NONE, PT_NONE, 17, 0, 26, 2, 0, PT_NONE,
+		17, 15, 25, 1, PT_NONE, PT_NONE, 17, 0, 26, 2, 0, PT_NONE,
 		0, 0, 0, 0, PT_NONE, PT_NONE
 	};
 
@@ -130,9 +130,9 @@ static void test_setup_refusals(void)
 static void test_not_legal(void)
 {
 	static const struct lent_step steps[] = {
-		{ "add 0 5 1 1", "3 0 0 0 0" }, { "rep 0 5 1 1", "3 0 0 0 0" },
-		{ "del 0 5", "3 0 0 0 0" }, { "begin 0", "3 0 0 0 0" },
-		{ "end 0", "3 0 0 0 0" }, { "start 0 5", "3 0 0 0 0" },
+		{ "add 0 55 1 1", "3 0 0 0 0" }, { "rep 0 55 1 1", "3 0 0 0 0" },
+		{ "del 0 55", "3 0 0 0 0" }, { "begin 0", "3 0 0 0 0" },
+		{ "end 0", "3 0 0 0 0" }, { "start 0 55", "3 0 0 0 0" },
 		{ "step 0", "3 0 0 0 0" }, { "pass 0 0", "3 0 0 0 0" },
 		{ "clock 0", "3 0 0 0 0" }, { "on 0", "3 0 0 0 0" },
 		{ "off 0", "3 0 0 0 0" }, { "back 0", "3 0 0 0 0" },
@@ -159,18 +159,18 @@ static void test_lanes(void)
 {
 	static const struct lent_step steps[] = {
 		{ "setup 1 2 2", "0 139 0 0 0" },
-		{ "add 2 5 1 1", "4 0 0 0 0" }, { "rep 2 5 1 1", "4 0 0 0 0" },
-		{ "del 2 5", "4 0 0 0 0" }, { "begin 2", "4 0 0 0 0" },
-		{ "end 2", "4 0 0 0 0" }, { "start 2 5", "4 0 0 0 0" },
+		{ "add 2 55 1 1", "4 0 0 0 0" }, { "rep 2 55 1 1", "4 0 0 0 0" },
+		{ "del 2 55", "4 0 0 0 0" }, { "begin 2", "4 0 0 0 0" },
+		{ "end 2", "4 0 0 0 0" }, { "start 2 55", "4 0 0 0 0" },
 		{ "step 2", "4 0 0 0 0" }, { "pass 2 0", "4 0 0 0 0" },
 		{ "clock 2", "4 0 0 0 0" }, { "on 2", "4 0 0 0 0" },
 		{ "off 2", "4 0 0 0 0" }, { "back 2", "4 0 0 0 0" },
 		{ "clock 64", "4 0 0 0 0" }, { "clock 4294967295", "4 0 0 0 0" },
 		{ "add 2 18446744073709551615 100001 8", "4 0 0 0 0" },
 		{ "on 1", "6 0 0 0 0" }, { "off 1", "0 0 0 0 0" },
-		{ "add 1 5 1 1", "5 0 0 0 0" }, { "rep 1 5 1 1", "5 0 0 0 0" },
-		{ "del 1 5", "5 0 0 0 0" }, { "begin 1", "5 0 0 0 0" },
-		{ "end 1", "5 0 0 0 0" }, { "start 1 5", "5 0 0 0 0" },
+		{ "add 1 55 1 1", "5 0 0 0 0" }, { "rep 1 55 1 1", "5 0 0 0 0" },
+		{ "del 1 55", "5 0 0 0 0" }, { "begin 1", "5 0 0 0 0" },
+		{ "end 1", "5 0 0 0 0" }, { "start 1 55", "5 0 0 0 0" },
 		{ "step 1", "5 0 0 0 0" }, { "pass 1 0", "5 0 0 0 0" },
 		{ "clock 1", "5 0 0 0 0" }, { "off 1", "5 0 0 0 0" },
 		{ "back 1", "5 0 0 0 0" }, { "add 1 18446744073709551615 1 1", "5 0 0 0 0" },
@@ -192,20 +192,20 @@ static void test_sections(void)
 {
 	static const struct lent_step steps[] = {
 		{ "setup 1 2 2", "0 139 0 0 0" },
-		{ "end 0", "8 0 0 0 0" }, { "start 0 5", "8 0 0 0 0" },
+		{ "end 0", "8 0 0 0 0" }, { "start 0 55", "8 0 0 0 0" },
 		{ "start 0 18446744073709551615", "8 0 0 0 0" },
 		{ "step 0", "10 0 0 0 0" },
 		{ "begin 0", "0 0 0 0 0" }, { "begin 0", "7 0 0 0 0" },
 		{ "pass 0 0", "7 0 0 0 0" }, { "pass 0 4", "7 0 0 0 0" },
 		{ "off 0", "7 0 0 0 0" },
 		{ "step 0", "10 0 0 0 0" },
-		{ "start 0 10000000000000", "11 0 0 0 0" },
-		{ "start 0 5", "0 0 0 0 0" }, { "start 0 5", "9 0 0 0 0" },
+		{ "start 0 18446744073709551615", "11 0 0 0 0" },
+		{ "start 0 55", "0 0 0 0 0" }, { "start 0 55", "9 0 0 0 0" },
 		{ "start 0 18446744073709551615", "9 0 0 0 0" }, { "end 0", "9 0 0 0 0" },
 		{ "begin 0", "7 0 0 0 0" }, { "clock 0", "0 1 0 0 0" },
 		{ "step 1", "10 0 0 0 0" }, { "end 1", "8 0 0 0 0" },
 		{ "step 0", "0 2 0 0 0" }, { "step 0", "10 0 0 0 0" },
-		{ "start 0 5", "0 0 0 0 0" }, { "step 0", "0 2 0 0 0" },
+		{ "start 0 55", "0 0 0 0 0" }, { "step 0", "0 2 0 0 0" },
 		{ "end 0", "0 0 0 0 0" }, { "end 0", "8 0 0 0 0" },
 		/* The section is tested before the last lane online. */
 		{ "off 1", "0 0 0 0 0" }, { "begin 0", "0 0 0 0 0" },
@@ -222,31 +222,52 @@ static void test_records(void)
 {
 	static const struct lent_step steps[] = {
 		{ "setup 1 2 2", "0 139 0 0 0" },
-		{ "add 0 10000000000000 1 1", "11 0 0 0 0" },
 		{ "add 0 18446744073709551615 1 1", "11 0 0 0 0" },
-		{ "add 0 5 100001 1", "11 0 0 0 0" }, { "add 0 5 1 8", "11 0 0 0 0" },
-		{ "add 0 5 4294967295 4294967295", "11 0 0 0 0" },
-		{ "add 0 9999999999999 100000 7", "0 0 0 0 0" },
-		{ "add 0 9999999999999 100001 7", "11 0 0 0 0" },
-		{ "add 0 9999999999999 1 1", "12 0 0 0 0" },
-		{ "rep 0 10000000000000 1 1", "11 0 0 0 0" },
-		{ "rep 0 9999999999999 100001 1", "11 0 0 0 0" },
-		{ "rep 0 9999999999999 1 8", "11 0 0 0 0" },
-		{ "del 0 10000000000000", "11 0 0 0 0" },
-		{ "rep 0 5 1 1", "13 0 0 0 0" }, { "del 0 5", "13 0 0 0 0" },
-		{ "add 1 5 1 1", "0 1 0 0 0" },
-		{ "add 0 6 1 1", "14 0 0 0 0" }, { "add 0 5 1 1", "12 0 0 0 0" },
-		{ "rep 0 6 1 1", "13 0 0 0 0" }, { "rep 0 5 1 1", "14 0 0 0 0" },
+		{ "add 0 18446744073709551615 1 1", "11 0 0 0 0" },
+		{ "add 0 55 100001 1", "11 0 0 0 0" }, { "add 0 55 1 8", "11 0 0 0 0" },
+		{ "add 0 55 4294967295 4294967295", "11 0 0 0 0" },
+		{ "add 0 9999999999994 100000 7", "0 0 0 0 0" },
+		{ "add 0 9999999999994 100001 7", "11 0 0 0 0" },
+		{ "add 0 9999999999994 1 1", "12 0 0 0 0" },
+		{ "rep 0 18446744073709551615 1 1", "11 0 0 0 0" },
+		{ "rep 0 9999999999994 100001 1", "11 0 0 0 0" },
+		{ "rep 0 9999999999994 1 8", "11 0 0 0 0" },
+		{ "del 0 18446744073709551615", "11 0 0 0 0" },
+		{ "rep 0 55 1 1", "13 0 0 0 0" }, { "del 0 55", "13 0 0 0 0" },
+		{ "add 1 55 1 1", "0 1 0 0 0" },
+		{ "add 0 62 1 1", "14 0 0 0 0" }, { "add 0 55 1 1", "12 0 0 0 0" },
+		{ "rep 0 62 1 1", "13 0 0 0 0" }, { "rep 0 55 1 1", "14 0 0 0 0" },
 		{ "back 0", "16 0 0 0 0" },
 		{ "pass 0 3", "0 0 0 0 0" }, { "pass 0 4", "11 0 0 0 0" },
 		{ "pass 0 4294967295", "11 0 0 0 0" },
-		{ "del 1 9999999999999", "0 0 0 0 0" }, { "del 1 9999999999999", "13 0 0 0 0" },
-		{ "back 1", "16 0 0 0 0" }, { "add 0 6 1 1", "14 0 0 0 0" },
-		{ "del 0 5", "0 1 0 0 0" }, { "rep 0 5 1 1", "13 0 0 0 0" },
+		{ "del 1 9999999999994", "0 0 0 0 0" }, { "del 1 9999999999994", "13 0 0 0 0" },
+		{ "back 1", "16 0 0 0 0" }, { "add 0 62 1 1", "14 0 0 0 0" },
+		{ "del 0 55", "0 1 0 0 0" }, { "rep 0 55 1 1", "13 0 0 0 0" },
 		{ "awaited", "0 0 4294967295 0 2" },
 	};
 
 	lent_start(&lent);
+	LENT_PLAY(&lent, steps);
+}
+
+/* The largest code, and one more; its check digit is not right. */
+static void test_code_limit(void)
+{
+	static const struct lent_step steps[] = {
+		{ "setup 1 1 2", "0 120 0 0 0" },
+		{ "add 0 10000000000000 1 1", "11 0 0 0 0" },
+		{ "add 0 9999999999999 1 1", "0 0 0 0 0" },
+		{ "rep 0 10000000000000 1 1", "11 0 0 0 0" },
+		{ "rep 0 9999999999999 2 2", "0 1 0 0 0" },
+		{ "begin 0", "0 0 0 0 0" },
+		{ "start 0 10000000000000", "11 0 0 0 0" },
+		{ "start 0 9999999999999", "0 0 0 0 0" }, { "step 0", "0 1 1 2 2" },
+		{ "del 0 10000000000000", "11 0 0 0 0" },
+		{ "del 0 9999999999999", "0 1 0 0 0" },
+	};
+
+	lent_start(&lent);
+	lent.any_code = true;
 	LENT_PLAY(&lent, steps);
 }
 
@@ -262,22 +283,22 @@ static void test_chains(void)
 	};
 	static const struct lent_step replaced[] = {
 		{ "setup 1 2 8", "0 175 0 0 0" },
-		{ "add 0 0 10 0", "0 0 0 0 0" }, { "add 0 64 11 1", "0 1 0 0 0" },
-		{ "add 0 128 12 2", "0 2 0 0 0" },
+		{ "add 0 0 10 0", "0 0 0 0 0" }, { "add 0 192 11 1", "0 1 0 0 0" },
+		{ "add 0 512 12 2", "0 2 0 0 0" },
 		/* A reader past the head finds the new slot in the old one's place. */
-		{ "begin 0", "0 0 0 0 0" }, { "start 0 64", "0 0 0 0 0" },
-		{ "step 0", "0 0 0 0 0" }, { "rep 1 64 13 3", "0 3 1 0 0" },
-		{ "step 0", "0 1 1 11 1" }, { "start 0 64", "0 0 0 0 0" },
+		{ "begin 0", "0 0 0 0 0" }, { "start 0 192", "0 0 0 0 0" },
+		{ "step 0", "0 0 0 0 0" }, { "rep 1 192 13 3", "0 3 1 0 0" },
+		{ "step 0", "0 1 1 11 1" }, { "start 0 192", "0 0 0 0 0" },
 		{ "step 0", "0 0 0 0 0" }, { "step 0", "0 1 3 13 3" },
 		/* A reader on a slot that is replaced, then deleted, goes on behind it. */
 		{ "start 0 0", "0 0 0 0 0" }, { "step 0", "0 0 0 0 0" },
-		{ "rep 1 64 14 4", "0 4 3 0 0" }, { "del 1 64", "0 4 0 0 0" },
+		{ "rep 1 192 14 4", "0 4 3 0 0" }, { "del 1 192", "0 4 0 0 0" },
 		{ "step 0", "0 0 0 0 0" }, { "step 0", "0 1 0 10 0" },
-		{ "start 0 64", "0 0 0 0 0" }, { "step 0", "0 0 0 0 0" },
+		{ "start 0 192", "0 0 0 0 0" }, { "step 0", "0 0 0 0 0" },
 		{ "step 0", "0 0 0 0 0" }, { "step 0", "0 2 0 0 0" },
 		/* The end of the chain goes, then its head. */
-		{ "del 1 0", "0 0 0 0 0" }, { "del 1 128", "0 2 0 0 0" },
-		{ "start 0 128", "0 0 0 0 0" }, { "step 0", "0 2 0 0 0" },
+		{ "del 1 0", "0 0 0 0 0" }, { "del 1 512", "0 2 0 0 0" },
+		{ "start 0 512", "0 0 0 0 0" }, { "step 0", "0 2 0 0 0" },
 		{ "awaited", "0 0 4294967295 3 5" },
 	};
 
@@ -291,11 +312,11 @@ static void test_chains(void)
 static void test_high_words(void)
 {
 	static const struct lent_step steps[] = {
-		{ "setup 1 1 2", "0 120 0 0 0" }, { "add 0 4294967313 10 1", "0 0 0 0 0" },
+		{ "setup 1 1 2", "0 120 0 0 0" }, { "add 0 64424509457 10 1", "0 0 0 0 0" },
 		{ "del 0 17", "13 0 0 0 0" }, { "begin 0", "0 0 0 0 0" },
 		{ "start 0 17", "0 0 0 0 0" }, { "step 0", "0 0 0 0 0" },
 		{ "step 0", "0 2 0 0 0" }, { "add 0 17 11 2", "0 1 0 0 0" },
-		{ "start 0 4294967313", "0 0 0 0 0" }, { "step 0", "0 0 0 0 0" },
+		{ "start 0 64424509457", "0 0 0 0 0" }, { "step 0", "0 0 0 0 0" },
 		{ "step 0", "0 1 0 10 1" },
 	};
 
@@ -308,14 +329,14 @@ static void test_free_queue(void)
 {
 	static const struct lent_step steps[] = {
 		{ "setup 1 1 3", "0 126 0 0 0" },
-		{ "add 0 1 1 1", "0 0 0 0 0" }, { "add 0 2 1 1", "0 1 0 0 0" },
-		{ "del 0 2", "0 1 0 0 0" }, { "del 0 1", "0 0 0 0 0" },
+		{ "add 0 17 1 1", "0 0 0 0 0" }, { "add 0 24 1 1", "0 1 0 0 0" },
+		{ "del 0 24", "0 1 0 0 0" }, { "del 0 17", "0 0 0 0 0" },
 		{ "clock 0", "0 1 1 1 0" }, { "pass 0 2", "0 0 0 0 0" },
 		{ "clock 0", "0 2 1 0 0" },
 		{ "back 0", "0 1 0 0 0" }, { "awaited", "0 0 4294967295 2 1" },
 		{ "back 0", "0 0 0 0 0" }, { "back 0", "16 0 0 0 0" },
-		{ "add 0 3 1 1", "0 2 0 0 0" }, { "add 0 4 1 1", "0 1 0 0 0" },
-		{ "add 0 5 1 1", "0 0 0 0 0" }, { "add 0 6 1 1", "14 0 0 0 0" },
+		{ "add 0 31 1 1", "0 2 0 0 0" }, { "add 0 48 1 1", "0 1 0 0 0" },
+		{ "add 0 55 1 1", "0 0 0 0 0" }, { "add 0 62 1 1", "14 0 0 0 0" },
 	};
 
 	lent_start(&lent);
@@ -326,8 +347,8 @@ static void test_free_queue(void)
 static void test_count_wraps(uint32_t kind)
 {
 	static const struct lent_step before[] = {
-		{ "setup 1 2 2", "0 139 0 0 0" }, { "add 0 5 1 1", "0 0 0 0 0" },
-		{ "del 0 5", "0 0 0 0 0" },
+		{ "setup 1 2 2", "0 139 0 0 0" }, { "add 0 55 1 1", "0 0 0 0 0" },
+		{ "del 0 55", "0 0 0 0 0" },
 	};
 	struct call pass = { CALL_PASS, { 0, kind, 0, 0 } };
 	uint32_t *lane;
@@ -360,12 +381,12 @@ static void test_generation_wraps(void)
 {
 	static const struct lent_step records[] = {
 		{ "setup 1 2 4", "0 151 0 0 0" },
-		{ "add 0 1 1 1", "0 0 0 0 0" }, { "add 0 2 1 1", "0 1 0 0 0" },
-		{ "del 0 1", "0 0 0 0 0" },
+		{ "add 0 17 1 1", "0 0 0 0 0" }, { "add 0 24 1 1", "0 1 0 0 0" },
+		{ "del 0 17", "0 0 0 0 0" },
 	};
 	static const struct lent_step requested[] = {
 		{ "clock 0", "0 4294967295 4294967295 1 0" },
-		{ "del 1 2", "0 1 0 0 0" }, { "clock 1", "0 4294967295 0 1 0" },
+		{ "del 1 24", "0 1 0 0 0" }, { "clock 1", "0 4294967295 0 1 0" },
 		{ "awaited", "0 2 0 2 2" },
 	};
 	static const struct lent_step ended[] = {
@@ -397,7 +418,7 @@ static void test_generation_wraps_idle(void)
 {
 	static const struct lent_step records[] = {
 		{ "setup 1 1 2", "0 120 0 0 0" },
-		{ "add 0 1 1 1", "0 0 0 0 0" }, { "del 0 1", "0 0 0 0 0" },
+		{ "add 0 17 1 1", "0 0 0 0 0" }, { "del 0 17", "0 0 0 0 0" },
 	};
 	static const struct lent_step steps[] = {
 		{ "clock 0", "0 4294967295 4294967295 1 0" }, { "pass 0 0", "0 0 0 0 0" },
@@ -419,7 +440,7 @@ static void test_global_generation_zero(void)
 {
 	static const struct lent_step records[] = {
 		{ "setup 1 2 4", "0 151 0 0 0" },
-		{ "add 0 1 1 1", "0 0 0 0 0" }, { "del 0 1", "0 0 0 0 0" },
+		{ "add 0 17 1 1", "0 0 0 0 0" }, { "del 0 17", "0 0 0 0 0" },
 	};
 	static const struct lent_step steps[] = {
 		{ "off 0", "0 0 0 0 0" }, { "clock 1", "0 0 0 1 0" },
@@ -442,7 +463,7 @@ static void test_pending(void)
 {
 	static const struct lent_step steps[] = {
 		{ "setup 2 2 3", "0 184 0 0 0" },
-		{ "add 0 1 1 1", "0 0 0 0 0" }, { "del 3 1", "0 0 0 0 0" },
+		{ "add 0 17 1 1", "0 0 0 0 0" }, { "del 3 17", "0 0 0 0 0" },
 		{ "awaited", "0 0 4294967295 2 1" }, { "clock 0", "0 1 0 0 0" },
 		{ "clock 3", "0 1 1 1 0" }, { "awaited", "0 4 0 2 1" },
 		/* A pass before the snapshot does not count, nor one without a clock. */
@@ -476,14 +497,14 @@ static void test_off_queues(void)
 {
 	static const struct lent_step retired[] = {
 		{ "setup 1 2 6", "0 163 0 0 0" },
-		{ "add 0 1 1 1", "0 0 0 0 0" }, { "add 0 2 1 1", "0 1 0 0 0" },
-		{ "add 0 3 1 1", "0 2 0 0 0" }, { "add 0 4 1 1", "0 3 0 0 0" },
-		{ "del 0 1", "0 0 0 0 0" }, { "clock 0", "0 1 1 1 0" },
+		{ "add 0 17 1 1", "0 0 0 0 0" }, { "add 0 24 1 1", "0 1 0 0 0" },
+		{ "add 0 31 1 1", "0 2 0 0 0" }, { "add 0 48 1 1", "0 3 0 0 0" },
+		{ "del 0 17", "0 0 0 0 0" }, { "clock 0", "0 1 1 1 0" },
 		{ "clock 1", "0 1 1 1 0" }, { "pass 1 0", "0 0 0 0 0" },
 		{ "clock 1", "0 1 1 1 0" }, { "pass 0 0", "0 0 0 0 0" },
 		{ "clock 0", "0 2 1 0 0" }, /* slot 0 is done */
-		{ "del 0 3", "0 2 0 0 0" }, { "clock 0", "0 2 2 1 0" }, /* slot 2 is current */
-		{ "del 0 2", "0 1 0 0 0" }, { "del 0 4", "0 3 0 0 0" }, /* 1 and 3 are next */
+		{ "del 0 31", "0 2 0 0 0" }, { "clock 0", "0 2 2 1 0" }, /* slot 2 is current */
+		{ "del 0 24", "0 1 0 0 0" }, { "del 0 48", "0 3 0 0 0" }, /* 1 and 3 are next */
 		{ "off 0", "0 0 0 0 0" }, { "awaited", "0 1 1 2 4" },
 	};
 	static const struct lent_step reclaimed[] = {
@@ -512,7 +533,7 @@ static void test_off_queue_over(void)
 {
 	static const struct lent_step steps[] = {
 		{ "setup 1 2 4", "0 151 0 0 0" },
-		{ "add 0 1 1 1", "0 0 0 0 0" }, { "del 0 1", "0 0 0 0 0" },
+		{ "add 0 17 1 1", "0 0 0 0 0" }, { "del 0 17", "0 0 0 0 0" },
 		{ "clock 0", "0 1 1 1 0" }, { "pass 0 0", "0 0 0 0 0" },
 		{ "clock 0", "0 1 1 1 0" }, { "clock 1", "0 1 1 1 0" },
 		{ "pass 1 0", "0 0 0 0 0" }, { "clock 1", "0 2 1 0 0" },
@@ -531,7 +552,7 @@ static void test_off_last_bit(void)
 {
 	static const struct lent_step steps[] = {
 		{ "setup 1 3 6", "0 182 0 0 0" },
-		{ "add 0 1 1 1", "0 0 0 0 0" }, { "del 0 1", "0 0 0 0 0" },
+		{ "add 0 17 1 1", "0 0 0 0 0" }, { "del 0 17", "0 0 0 0 0" },
 		{ "clock 0", "0 1 1 1 0" }, { "pass 0 0", "0 0 0 0 0" },
 		{ "clock 0", "0 1 1 1 0" }, { "off 1", "0 0 0 0 0" },
 		{ "awaited", "0 1 2 5 1" }, { "off 2", "0 0 0 0 0" },
@@ -551,9 +572,9 @@ static void test_off_next_begun(void)
 {
 	static const struct lent_step steps[] = {
 		{ "setup 1 3 6", "0 182 0 0 0" },
-		{ "add 0 1 1 1", "0 0 0 0 0" }, { "add 0 2 1 1", "0 1 0 0 0" },
-		{ "del 0 1", "0 0 0 0 0" }, { "clock 0", "0 1 1 1 0" },
-		{ "del 1 2", "0 1 0 0 0" }, { "clock 1", "0 1 2 1 0" },
+		{ "add 0 17 1 1", "0 0 0 0 0" }, { "add 0 24 1 1", "0 1 0 0 0" },
+		{ "del 0 17", "0 0 0 0 0" }, { "clock 0", "0 1 1 1 0" },
+		{ "del 1 24", "0 1 0 0 0" }, { "clock 1", "0 1 2 1 0" },
 		{ "pass 0 0", "0 0 0 0 0" }, { "clock 0", "0 1 2 1 0" },
 		{ "pass 1 0", "0 0 0 0 0" }, { "clock 1", "0 1 2 1 0" },
 		{ "awaited", "0 1 2 4 2" },
@@ -575,13 +596,13 @@ static void test_off_next_begun_with_slot(void)
 {
 	static const struct lent_step steps[] = {
 		{ "setup 1 3 6", "0 182 0 0 0" },
-		{ "add 0 1 1 1", "0 0 0 0 0" }, { "add 0 2 1 1", "0 1 0 0 0" },
-		{ "add 0 3 1 1", "0 2 0 0 0" },
-		{ "del 0 1", "0 0 0 0 0" }, { "clock 0", "0 1 1 1 0" },
-		{ "del 1 2", "0 1 0 0 0" }, { "clock 1", "0 1 2 1 0" },
+		{ "add 0 17 1 1", "0 0 0 0 0" }, { "add 0 24 1 1", "0 1 0 0 0" },
+		{ "add 0 31 1 1", "0 2 0 0 0" },
+		{ "del 0 17", "0 0 0 0 0" }, { "clock 0", "0 1 1 1 0" },
+		{ "del 1 24", "0 1 0 0 0" }, { "clock 1", "0 1 2 1 0" },
 		{ "pass 0 0", "0 0 0 0 0" }, { "clock 0", "0 1 2 1 0" },
 		{ "pass 1 0", "0 0 0 0 0" }, { "clock 1", "0 1 2 1 0" },
-		{ "del 2 3", "0 2 0 0 0" }, { "off 2", "0 0 0 0 0" },
+		{ "del 2 31", "0 2 0 0 0" }, { "off 2", "0 0 0 0 0" },
 		{ "clock 0", "0 2 3 1 0" }, { "awaited", "0 2 0 3 3" },
 	};
 
@@ -595,12 +616,12 @@ static void test_lane_before_global(void)
 {
 	static const struct lent_step steps[] = {
 		{ "setup 1 3 8", "0 194 0 0 0" },
-		{ "add 0 1 1 1", "0 0 0 0 0" }, { "add 0 2 1 1", "0 1 0 0 0" },
-		{ "add 0 3 1 1", "0 2 0 0 0" },
-		{ "del 2 1", "0 0 0 0 0" }, { "off 2", "0 0 0 0 0" },
-		{ "del 1 2", "0 1 0 0 0" }, { "off 1", "0 0 0 0 0" },
+		{ "add 0 17 1 1", "0 0 0 0 0" }, { "add 0 24 1 1", "0 1 0 0 0" },
+		{ "add 0 31 1 1", "0 2 0 0 0" },
+		{ "del 2 17", "0 0 0 0 0" }, { "off 2", "0 0 0 0 0" },
+		{ "del 1 24", "0 1 0 0 0" }, { "off 1", "0 0 0 0 0" },
 		{ "awaited", "0 1 0 5 2" },
-		{ "clock 0", "0 1 1 1 0" }, { "del 0 3", "0 2 0 0 0" },
+		{ "clock 0", "0 1 1 1 0" }, { "del 0 31", "0 2 0 0 0" },
 		{ "pass 0 0", "0 0 0 0 0" }, { "clock 0", "0 2 3 1 0" },
 		{ "back 0", "0 0 0 0 0" }, { "back 0", "16 0 0 0 0" },
 	};
@@ -616,11 +637,11 @@ static void test_hand_back_order(void)
 {
 	static const struct lent_step steps[] = {
 		{ "setup 1 2 4", "0 151 0 0 0" },
-		{ "add 0 1 1 1", "0 0 0 0 0" }, { "add 0 2 1 1", "0 1 0 0 0" },
-		{ "del 1 1", "0 0 0 0 0" }, { "off 1", "0 0 0 0 0" },
+		{ "add 0 17 1 1", "0 0 0 0 0" }, { "add 0 24 1 1", "0 1 0 0 0" },
+		{ "del 1 17", "0 0 0 0 0" }, { "off 1", "0 0 0 0 0" },
 		{ "clock 0", "0 1 1 1 0" }, { "pass 0 0", "0 0 0 0 0" },
 		{ "clock 0", "0 2 1 0 0" }, /* slot 0 is done globally */
-		{ "del 0 2", "0 1 0 0 0" }, { "clock 0", "0 2 2 1 0" },
+		{ "del 0 24", "0 1 0 0 0" }, { "clock 0", "0 2 2 1 0" },
 		{ "pass 0 0", "0 0 0 0 0" }, { "clock 0", "0 3 2 0 0" },
 		{ "back 0", "0 1 0 0 0" }, { "back 0", "0 0 0 0 0" },
 	};
@@ -633,8 +654,8 @@ static void test_hand_back_order(void)
 static void test_short_answers(void)
 {
 	static const char *const lines[CALLS] = {
-		"setup 1 1 1", "add 0 6 1 1", "rep 0 5 1 1", "del 0 5", "begin 0", "end 1",
-		"start 1 5", "step 1", "pass 0 0", "clock 0", "on 9", "off 0", "back 0", "awaited",
+		"setup 1 1 1", "add 0 62 1 1", "rep 0 55 1 1", "del 0 55", "begin 0", "end 1",
+		"start 1 55", "step 1", "pass 0 0", "clock 0", "on 9", "off 0", "back 0", "awaited",
 	};
 	static const uint32_t fill[4] = { LENT_FILL, LENT_FILL, LENT_FILL, LENT_FILL };
 	uint32_t before[LENT_WORDS];
@@ -659,7 +680,7 @@ static void test_short_answers(void)
 static void test_short_answers_first(void)
 {
 	static const struct lent_step steps[] = {
-		{ "setup 1 2 3", "0 145 0 0 0" }, { "add 0 5 1 1", "0 0 0 0 0" },
+		{ "setup 1 2 3", "0 145 0 0 0" }, { "add 0 55 1 1", "0 0 0 0 0" },
 		{ "begin 1", "0 0 0 0 0" },
 	};
 
@@ -713,6 +734,7 @@ int main(void)
 	test_lanes();
 	test_sections();
 	test_records();
+	test_code_limit();
 	test_chains();
 	test_high_words();
 	test_free_queue();

@@ -13,6 +13,7 @@
 #include <stdio.h>
 #include <string.h>
 
+#include "codes.h"
 #include "lent.h"
 
 /* Lane 0's queues: lengths, and the generation of the current one. */
@@ -39,7 +40,7 @@ struct row {
 static const struct row table_3[] = {
 	{ "1", "", 1, 0, 0x0, 0x0, { 0, 0, 0, 0 }, CLEAR,
 		{ 0, 0, 0, 0 }, "" },
-	{ "2", "del 0 100", 1, 0, 0x0, 0x0, { 0, 0, 0, 0 }, CLEAR,
+	{ "2", "del 0 109", 1, 0, 0x0, 0x0, { 0, 0, 0, 0 }, CLEAR,
 		{ 1, 0, 0, 0 }, "" },
 	{ "3", "pass 0 0", 1, 0, 0x0, 0x0, { 1, 0, 0, 0 }, CLEAR,
 		{ 1, 0, 0, 0 }, "" },
@@ -64,7 +65,7 @@ static const struct row table_3[] = {
 static const struct row table_4[] = {
 	{ "1", "", 2, 1, 0x0, 0x0, { 1, 1, 1, 1 }, CLEAR,
 		{ 0, 0, 0, 0 }, "" },
-	{ "2", "del 1 101", 2, 1, 0x0, 0x0, { 1, 1, 1, 1 }, CLEAR,
+	{ "2", "del 1 116", 2, 1, 0x0, 0x0, { 1, 1, 1, 1 }, CLEAR,
 		{ 0, 0, 0, 0 }, "" },
 	{ "3", "clock 0", 2, 1, 0x0, 0x0, { 1, 1, 1, 1 }, CLEAR,
 		{ 0, 0, 0, 0 }, "" },
@@ -74,17 +75,17 @@ static const struct row table_4[] = {
 		{ 0, 0, 0, 0 }, "" },
 	{ "6", "pass 1 2", 2, 2, 0x3, 0xf, { 1, 2, 1, 1 }, CLEAR,
 		{ 0, 0, 0, 0 }, "" },
-	{ "7", "del 0 102", 2, 2, 0x3, 0xf, { 1, 2, 1, 1 }, CLEAR,
+	{ "7", "del 0 123", 2, 2, 0x3, 0xf, { 1, 2, 1, 1 }, CLEAR,
 		{ 1, 0, 0, 0 }, "" },
 	{ "8", "clock 1", 2, 2, 0x3, 0xd, { 1, 2, 1, 1 }, CLEAR,
 		{ 1, 0, 0, 0 }, "" },
-	{ "9", "del 0 103", 2, 2, 0x3, 0xd, { 1, 2, 1, 1 }, CLEAR,
+	{ "9", "del 0 130", 2, 2, 0x3, 0xd, { 1, 2, 1, 1 }, CLEAR,
 		{ 2, 0, 0, 0 }, "" },
 	{ "10", "clock 0", 2, 3, 0x3, 0xd, { 1, 2, 1, 1 }, HELD(1, 2, 1, 1),
 		{ 0, 2, 3, 0 }, "" },
 	{ "11", "pass 0 3", 2, 3, 0x3, 0xd, { 1, 2, 1, 2 }, HELD(1, 2, 1, 1),
 		{ 0, 2, 3, 0 }, "" },
-	{ "12", "del 0 104", 2, 3, 0x3, 0xd, { 1, 2, 1, 2 }, HELD(1, 2, 1, 1),
+	{ "12", "del 0 147", 2, 3, 0x3, 0xd, { 1, 2, 1, 2 }, HELD(1, 2, 1, 1),
 		{ 1, 2, 3, 0 }, "" },
 	{ "13", "others 2 3", 2, 3, 0x3, 0x1, { 1, 2, 1, 2 }, HELD(1, 2, 1, 1),
 		{ 1, 2, 3, 0 }, "" },
@@ -201,13 +202,13 @@ static void replay_three_lanes(void)
 {
 	static const struct lent_step steps[] = {
 		{ "setup 1 3 4", "0 170 0 0 0" },
-		{ "add 0 1 1 1", "0 0 0 0 0" }, { "add 0 2 1 1", "0 1 0 0 0" },
-		{ "add 0 3 1 1", "0 2 0 0 0" },
-		{ "del 0 1", "0 0 0 0 0" }, { "del 1 2", "0 1 0 0 0" },
+		{ "add 0 17 1 1", "0 0 0 0 0" }, { "add 0 24 1 1", "0 1 0 0 0" },
+		{ "add 0 31 1 1", "0 2 0 0 0" },
+		{ "del 0 17", "0 0 0 0 0" }, { "del 1 24", "0 1 0 0 0" },
 		{ "clock 0", "0 1 1 1 0" }, { "pass 0 0", "0 0 0 0 0" },
 		{ "clock 0", "0 1 1 1 0" }, { "clock 1", "0 1 2 1 0" },
 		{ "pass 1 0", "0 0 0 0 0" }, { "clock 1", "0 1 2 1 0" },
-		{ "clock 2", "0 1 2 1 0" }, { "del 2 3", "0 2 0 0 0" },
+		{ "clock 2", "0 1 2 1 0" }, { "del 2 31", "0 2 0 0 0" },
 		{ "pass 2 0", "0 0 0 0 0" }, { "clock 2", "0 2 3 1 0" },
 	};
 
@@ -222,8 +223,8 @@ int main(void)
 {
 	lent_start(&lent);
 	make("setup 2 4 16");
-	for (uint32_t code = 100; code < 105; code++) {
-		struct call add = { CALL_ADD, { 0, code, 25, 1 } };
+	for (uint32_t n = 0; n < 5; n++) { /* 109, 116, 123, 130, 147 */
+		struct call add = { CALL_ADD, { 0, CODE_OF_ALL(10 + n), 25, 1 } };
 
 		CHECK(lent_make(&lent, &add) == PT_OK);
 	}

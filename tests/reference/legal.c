@@ -25,16 +25,22 @@ static bool contents_agree(const uint32_t *memory, size_t words)
 	return layout.total <= words;
 }
 
-/* Flags and masks are in range. */
-static bool bits_in_range(const struct table *t)
+/* Flags are in range. */
+static bool flags_in_range(const struct table *t)
+{
+	for (uint32_t l = 0; l < table_lanes(t); l++)
+		if (t->lane[l].flags >= FLAGS)
+			return false;
+	return true;
+}
+
+/* Masks are in range. */
+static bool masks_in_range(const struct table *t)
 {
 	if (t->pending_cabinets >> t->cabinets != 0)
 		return false;
 	for (uint32_t c = 0; c < t->cabinets; c++)
 		if (t->pending_lanes[c] >> t->lanes != 0)
-			return false;
-	for (uint32_t l = 0; l < table_lanes(t); l++)
-		if (t->lane[l].flags >= FLAGS)
 			return false;
 	return true;
 }
@@ -87,6 +93,39 @@ static bool fields_in_range(const struct table *t)
 	return true;
 }
 
+/* What is asked of each queue. */
+typedef bool queue_question(const struct table *t, struct queue queue, bool marked[]);
+
+static bool of_retired(const struct table *t, const struct retired *retired,
+		queue_question *holds, bool marked[])
+{
+	return holds(t, retired->next, marked) && holds(t, retired->current, marked) &&
+		holds(t, retired->done, marked);
+}
+
+static bool of_each_queue(const struct table *t, queue_question *holds, bool marked[])
+{
+	if (!holds(t, t->free, marked) || !of_retired(t, &t->global, holds, marked))
+		return false;
+	for (uint32_t l = 0; l < table_lanes(t); l++)
+		if (!of_retired(t, &t->lane[l].retired, holds, marked))
+			return false;
+	return true;
+}
+
+static bool empty_ends(const struct table *t, struct queue queue, bool marked[])
+{
+	(void)t;
+	(void)marked;
+	return queue.first != PT_NONE || queue.last == PT_NONE;
+}
+
+/* The ends of an empty queue are none, both. */
+static bool ends_at_rest(const struct table *t)
+{
+	return of_each_queue(t, empty_ends, NULL);
+}
+
 /* Marks the slots of a chain; false if one was marked before. */
 static bool mark_chain(const struct table *t, uint32_t head, bool marked[])
 {
@@ -98,28 +137,18 @@ static bool mark_chain(const struct table *t, uint32_t head, bool marked[])
 	return true;
 }
 
-/* Marks the slots of a queue; false if one was marked before or its end is another. */
+/* Marks the slots of a queue; false if one was marked before. */
 static bool mark_queue(const struct table *t, struct queue queue, bool marked[])
 {
-	uint32_t last = PT_NONE;
-
 	for (uint32_t s = queue.first; s != PT_NONE; s = t->slot[s].queue_link) {
 		if (marked[s])
 			return false;
 		marked[s] = true;
-		last = s;
 	}
-	return last == queue.last;
+	return true;
 }
 
-static bool mark_retired(const struct table *t, const struct retired *retired, bool marked[])
-{
-	return mark_queue(t, retired->next, marked) &&
-		mark_queue(t, retired->current, marked) &&
-		mark_queue(t, retired->done, marked);
-}
-
-/* Each slot stands in exactly one chain or queue, queues agree with first and last. */
+/* Each slot stands in exactly one chain or queue. */
 static bool each_slot_once(const struct table *t)
 {
 	bool marked[PT_MAX_SLOTS] = { false };
@@ -127,14 +156,37 @@ static bool each_slot_once(const struct table *t)
 	for (int chain = 0; chain < CHAINS; chain++)
 		if (!mark_chain(t, t->heads[chain], marked))
 			return false;
-	if (!mark_queue(t, t->free, marked) || !mark_retired(t, &t->global, marked))
+	if (!of_each_queue(t, mark_queue, marked))
 		return false;
-	for (uint32_t l = 0; l < table_lanes(t); l++)
-		if (!mark_retired(t, &t->lane[l].retired, marked))
-			return false;
 	for (uint32_t s = 0; s < t->slots; s++)
 		if (!marked[s])
 			return false;
+	return true;
+}
+
+static bool last_agrees(const struct table *t, struct queue queue, bool marked[])
+{
+	uint32_t last = PT_NONE;
+
+	(void)marked;
+	for (uint32_t s = queue.first; s != PT_NONE; s = t->slot[s].queue_link)
+		last = s;
+	return last == queue.last;
+}
+
+/* Queues agree with first and last. */
+static bool lasts_agree(const struct table *t)
+{
+	return of_each_queue(t, last_agrees, NULL);
+}
+
+/* Chained slots are on chain (code mod 64). */
+static bool codes_on_chains(const struct table *t)
+{
+	for (uint32_t chain = 0; chain < CHAINS; chain++)
+		for (uint32_t s = t->heads[chain]; s != PT_NONE; s = t->slot[s].chain_link)
+			if (t->slot[s].code % CHAINS != chain)
+				return false;
 	return true;
 }
 
@@ -148,12 +200,12 @@ static bool code_once(const struct table *t, uint32_t slot)
 	return s == PT_NONE;
 }
 
-/* Chained slots are on chain (code mod 64), no code twice. */
-static bool codes_chained(const struct table *t)
+/* No code twice. */
+static bool no_code_twice(const struct table *t)
 {
 	for (uint32_t chain = 0; chain < CHAINS; chain++)
 		for (uint32_t s = t->heads[chain]; s != PT_NONE; s = t->slot[s].chain_link)
-			if (t->slot[s].code % CHAINS != chain || !code_once(t, s))
+			if (!code_once(t, s))
 				return false;
 	return true;
 }
@@ -301,20 +353,54 @@ static bool global_generation_agrees(const struct table *t)
 		!generation_later(generation, t->largest);
 }
 
+/* After the contents. The walks come after the tests that make them safe. */
+static bool (*const sentences[LEGAL_SENTENCES])(const struct table *table) = {
+	[LEGAL_FLAGS] = flags_in_range,
+	[LEGAL_MASKS] = masks_in_range,
+	[LEGAL_LINKS] = links_in_range,
+	[LEGAL_FIELDS] = fields_in_range,
+	[LEGAL_EMPTY_ENDS] = ends_at_rest,
+	[LEGAL_ONCE] = each_slot_once,
+	[LEGAL_LASTS] = lasts_agree,
+	[LEGAL_CHAINS] = codes_on_chains,
+	[LEGAL_TWICE] = no_code_twice,
+	[LEGAL_SNAPSHOTS_REST] = snapshots_at_rest,
+	[LEGAL_LOOKUPS_REST] = lookups_at_rest,
+	[LEGAL_GENERATIONS_REST] = generations_at_rest,
+	[LEGAL_LINKS_REST] = queue_links_at_rest,
+	[LEGAL_OFFLINE] = offline_at_rest,
+	[LEGAL_LOOKUP_IN_SECTION] = lookups_in_sections,
+	[LEGAL_SNAPSHOT_PENDING] = snapshots_pending,
+	[LEGAL_CABINET_BITS] = cabinets_agree,
+	[LEGAL_FREE_SLOTS] = free_slots_clear,
+	[LEGAL_LARGEST] = largest_agrees,
+	[LEGAL_LANE_GENERATION] = lane_generations_agree,
+	[LEGAL_GLOBAL_GENERATION] = global_generation_agrees,
+};
+
+/* Reads the memory and returns the first sentence that it breaks. */
+static enum legal_sentence read_broken(struct table *table, const uint32_t *memory, size_t words)
+{
+	int sentence = LEGAL_FLAGS;
+
+	if (!contents_agree(memory, words))
+		return LEGAL_CONTENTS;
+	table_read(table, memory);
+	while (sentence < LEGAL_SENTENCES && sentences[sentence](table))
+		sentence++;
+	return (enum legal_sentence)sentence;
+}
+
 bool table_read_legal(struct table *table, const uint32_t *memory, size_t words)
 {
-	if (!contents_agree(memory, words))
-		return false;
-	table_read(table, memory);
-	/* The walks come after the tests that make them safe. */
-	return bits_in_range(table) && links_in_range(table) && fields_in_range(table) &&
-		each_slot_once(table) && codes_chained(table) &&
-		snapshots_at_rest(table) && lookups_at_rest(table) &&
-		generations_at_rest(table) && queue_links_at_rest(table) &&
-		offline_at_rest(table) && lookups_in_sections(table) &&
-		snapshots_pending(table) && cabinets_agree(table) &&
-		free_slots_clear(table) && largest_agrees(table) &&
-		lane_generations_agree(table) && global_generation_agrees(table);
+	return read_broken(table, memory, words) == LEGAL_SENTENCES;
+}
+
+enum legal_sentence ref_broken(const uint32_t *memory, size_t words)
+{
+	struct table table;
+
+	return read_broken(&table, memory, words);
 }
 
 bool ref_legal(const uint32_t *memory, size_t words)

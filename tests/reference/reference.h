@@ -12,7 +12,37 @@
 
 #include "calls.h"
 
-/* Whether the memory is legal. Safe on any words of any length. */
+/* The sentences of document 01 on legal memories, in the order in which they are tested. */
+enum legal_sentence {
+	LEGAL_CONTENTS, /* contents agree with the sizes, and the total is not above the length */
+	LEGAL_FLAGS,
+	LEGAL_MASKS,
+	LEGAL_LINKS,
+	LEGAL_FIELDS,
+	LEGAL_EMPTY_ENDS, /* ends of an empty line */
+	LEGAL_ONCE,	  /* each slot in exactly one chain or line */
+	LEGAL_LASTS,	  /* lines agree with first and last */
+	LEGAL_CHAINS,	  /* chained slots on the chain of their code */
+	LEGAL_TWICE,	  /* no code twice */
+	LEGAL_SNAPSHOTS_REST,
+	LEGAL_LOOKUPS_REST,
+	LEGAL_GENERATIONS_REST,
+	LEGAL_LINKS_REST, /* a slot outside every line */
+	LEGAL_OFFLINE,
+	LEGAL_LOOKUP_IN_SECTION,
+	LEGAL_SNAPSHOT_PENDING,
+	LEGAL_CABINET_BITS,
+	LEGAL_FREE_SLOTS,
+	LEGAL_LARGEST,
+	LEGAL_LANE_GENERATION,
+	LEGAL_GLOBAL_GENERATION,
+	LEGAL_SENTENCES
+};
+
+/* The first sentence that the memory breaks, or LEGAL_SENTENCES. Safe on any words of any length. */
+enum legal_sentence ref_broken(const uint32_t *memory, size_t words);
+
+/* Whether the memory is legal. */
 bool ref_legal(const uint32_t *memory, size_t words);
 
 /* Whether generation @a is later than generation @b. */

@@ -1,0 +1,197 @@
+/*
+ * beside.c - one step on two implementations.
+ */
+#define _GNU_SOURCE
+#include "beside.h"
+
+#include <stdio.h>
+#include <stdlib.h>
+#include <string.h>
+#include <sys/mman.h>
+
+#include "layout.h"
+#include "table.h"
+
+enum {
+	OUTSIDE = 16, /* words beside what is lent that are looked at after each call */
+	EDGE_WORDS = 16384, /* of a stretch between two forbidden pages */
+	LENT_PAST = 8 /* words past the total that a set-up leaves lent */
+};
+
+/* A stretch of words between two pages that may not be touched. */
+static uint32_t *guarded(void)
+{
+	size_t bytes = EDGE_WORDS * sizeof(uint32_t);
+	uint32_t *start = mmap(NULL, 3 * bytes, PROT_READ | PROT_WRITE, MAP_PRIVATE | MAP_ANONYMOUS, -1, 0);
+
+	if (start == MAP_FAILED || mprotect(start, bytes, PROT_NONE) != 0 ||
+			mprotect(start + 2 * EDGE_WORDS, bytes, PROT_NONE) != 0) {
+		perror("a page that may not be touched");
+		exit(2);
+	}
+	return start + EDGE_WORDS;
+}
+
+_Static_assert(BESIDE_WORDS + OUTSIDE <= EDGE_WORDS, "a memory has room between the pages");
+
+/* The stretch's words that are lent, at one of its edges, and those beside them filled. */
+static uint32_t *lend(uint32_t *stretch, size_t words, bool at_start)
+{
+	uint32_t *lent = at_start ? stretch : stretch + EDGE_WORDS - words;
+
+	for (size_t n = 0; n < OUTSIDE; n++)
+		*(at_start ? lent + words + n : lent - 1 - n) = FILL;
+	return lent;
+}
+
+static bool outside_kept(const uint32_t *lent, size_t words, bool at_start)
+{
+	for (size_t n = 0; n < OUTSIDE; n++)
+		if (*(at_start ? lent + words + n : lent - 1 - n) != FILL)
+			return false;
+	return true;
+}
+
+static void fill(uint32_t *word, size_t count)
+{
+	for (size_t n = 0; n < count; n++)
+		word[n] = FILL;
+}
+
+static void lend_all(struct beside *beside)
+{
+	beside->words = BESIDE_WORDS;
+	beside->answer_words = BESIDE_ANSWER;
+}
+
+void beside_start(struct beside *beside, const struct interface *tried,
+		const struct interface *judge)
+{
+	beside->tried = tried;
+	beside->judge = judge;
+	beside->mended_words = 0;
+	beside->fed = false;
+	beside->fault = NULL;
+	beside->difference = SAME;
+	lend_all(beside);
+	fill(beside->memory, BESIDE_WORDS);
+}
+
+/* Makes the call by the judge, on the memory between calls. */
+static void make_expected(struct beside *beside)
+{
+	fill(beside->expected_answer, BESIDE_ANSWER);
+	beside->expected = (struct left){ beside->memory, beside->words, beside->expected_answer,
+		beside->answer_words, 0 };
+	beside->expected.status = call_make(beside->judge, beside->memory, beside->words,
+			beside->expected_answer, beside->answer_words, &beside->call);
+}
+
+/* Makes the call by the implementation that is tried, on words at the edge of a page. */
+static enum difference make_tried(struct beside *beside)
+{
+	static uint32_t *memory, *answer;
+	struct left *left = &beside->left;
+
+	if (memory == NULL) {
+		memory = guarded();
+		answer = guarded();
+	}
+	left->words = beside->words;
+	left->answer_words = beside->answer_words;
+	left->memory = lend(memory, left->words, beside->at_start);
+	left->answer = lend(answer, left->answer_words, beside->at_start);
+	memcpy(left->memory, beside->before, left->words * sizeof *left->memory);
+	fill(left->answer, left->answer_words);
+	left->status = call_make(beside->tried, left->memory, left->words, left->answer,
+			left->answer_words, &beside->call);
+	return outside_kept(left->memory, left->words, beside->at_start) &&
+		outside_kept(left->answer, left->answer_words, beside->at_start) ? SAME : DIFFERS_OUTSIDE;
+}
+
+/* Demand 3, on tables that the ledger has room for. */
+static enum difference judged(struct beside *beside, const struct left *left)
+{
+	if (left->status == PT_SHORT_ANSWER)
+		return SAME;
+	if (left->status == PT_OK && beside->call.name == CALL_SETUP)
+		beside->fed = beside->call.argument[0] * beside->call.argument[1] <= LEDGER_LANES &&
+			beside->call.argument[2] <= LEDGER_SLOTS;
+	if (!beside->fed)
+		return SAME;
+	beside->fault = ledger_feed(&beside->ledger, &beside->call, left->answer);
+	if (beside->fault == NULL)
+		beside->fault = ledger_kept(&beside->ledger, beside->memory);
+	return beside->fault == NULL ? SAME : DIFFERS_LEDGER;
+}
+
+/* Keeps the words for STEP_MEND; after a set-up few words past its total stay lent. */
+static void accept(struct beside *beside, const struct left *left)
+{
+	if (beside->call.name == CALL_SETUP && !beside->all_lent &&
+			beside->words > left->answer[1] + LENT_PAST)
+		beside->words = left->answer[1] + LENT_PAST;
+	memcpy(beside->mended, beside->memory, beside->words * sizeof beside->mended[0]);
+	beside->mended_words = beside->words;
+}
+
+enum difference beside_call(struct beside *beside, const struct call *call)
+{
+	const struct left *left = beside->tried != NULL ? &beside->left : &beside->expected;
+	enum difference difference = SAME;
+
+	beside->call = *call;
+	memcpy(beside->before, beside->memory, beside->words * sizeof beside->before[0]);
+	if (beside->judge != NULL)
+		make_expected(beside);
+	if (beside->tried != NULL)
+		difference = make_tried(beside);
+	if (difference == SAME && beside->judge != NULL && beside->tried != NULL)
+		difference = alike(&beside->expected, &beside->left);
+	if (difference == SAME)
+		difference = owed(beside->before, left);
+	if (beside->judge == NULL)
+		memcpy(beside->memory, left->memory, left->words * sizeof beside->memory[0]);
+	if (difference == SAME)
+		difference = judged(beside, left);
+	if (difference == SAME && left->status == PT_OK)
+		accept(beside, left);
+	beside->difference = difference;
+	return difference;
+}
+
+enum difference beside_step(struct beside *beside, const struct step *step)
+{
+	switch (step->kind) {
+	case STEP_POKE:
+		beside->fed = false;
+		if (step->number < BESIDE_WORDS)
+			beside->memory[step->number] = step->value;
+		return SAME;
+	case STEP_LEND:
+		beside->words = step->number < BESIDE_WORDS ? step->number : BESIDE_WORDS;
+		return SAME;
+	case STEP_ANSWER:
+		beside->answer_words = step->number < BESIDE_ANSWER ? step->number : BESIDE_ANSWER;
+		return SAME;
+	case STEP_MEND:
+		memcpy(beside->memory, beside->mended, beside->mended_words * sizeof beside->memory[0]);
+		lend_all(beside);
+		if (beside->mended_words > 0)
+			beside->words = beside->mended_words;
+		return SAME;
+	default:
+		return beside_call(beside, &step->call);
+	}
+}
+
+uint32_t beside_steps(struct beside *beside, const struct interface *tried,
+		const struct interface *judge, const struct steps *steps)
+{
+	uint32_t n = 0;
+
+	beside_start(beside, tried, judge);
+	while (n < steps->count && beside_step(beside, &steps->step[n]) == SAME)
+		n++;
+	return n;
+}

@@ -1,0 +1,34 @@
+/*
+ * codes.c - the right codes: twelve digits are any number, the thirteenth follows.
+ */
+#include "codes.h"
+
+enum { TEN = 10 };
+
+/* The right code whose first twelve digits are those of @number. */
+static uint64_t completed(uint64_t number)
+{
+	uint32_t sum = 0, weight = 3; /* of the twelfth digit */
+
+	for (uint64_t rest = number; rest > 0; rest /= TEN) {
+		sum += (uint32_t)(rest % TEN) * weight;
+		weight = 4 - weight;
+	}
+	return number * TEN + (TEN - sum % TEN) % TEN;
+}
+
+bool code_is_right(uint64_t code)
+{
+	return completed(code / TEN) == code;
+}
+
+uint64_t right_code(uint64_t modulus, uint64_t rest, uint64_t k)
+{
+	uint64_t code = rest;
+
+	if (modulus == 1)
+		return completed(k);
+	for (;; code += modulus)
+		if (code_is_right(code) && k-- == 0)
+			return code;
+}

@@ -1,0 +1,247 @@
+/*
+ * damages.c - the rich table, and what is done to it and to a fresh one.
+ */
+#include "damages.h"
+
+#include "layout.h"
+
+/* Addresses in a table of the sizes of damages.h. */
+#define GLOBAL(word) (CONTENTS_WORDS + (word))
+#define CABINET(c) (GLOBAL(GLOBAL_WORDS) + CABINET_WORDS * (c))
+#define LANE(l, word) (CABINET(DAMAGES_CABINETS) + LANE_WORDS * (l) + (word))
+#define SLOT(s, word) (LANE(DAMAGES_CABINETS * DAMAGES_LANES, 0) + SLOT_WORDS * (s) + (word))
+
+/* 10,000,000,000,000 in two words. */
+enum { CODE_BEYOND_LOW = 1316134912, CODE_BEYOND_HIGH = 2328 };
+
+#define NONE PT_NONE
+
+/*
+ * The rich table, generations 3 and 4: lane 0 reads with a lookup on slot 2, is
+ * pending, and has slot 6 done; lane 1 is pending with a snapshot, slot 3 current
+ * and slot 2 next; lane 2 is online without a bit, slot 5 current; lane 3 is offline.
+ * Globally slots 8 and 9 are current, 10 is next, 7 is done. Chain 0 is 1, 0 and
+ * chain 17 is 4; slots 11 to 15 are free.
+ */
+const char *const rich_calls[] = {
+	"setup 2 2 16", "add 0 0 10 1", "add 0 192 11 2", "add 0 512 12 3", "add 0 1472 13 4",
+	"add 0 17 14 5", "add 0 529 15 6", "add 0 55 16 7", "add 0 62 17 0", "add 0 79 18 1",
+	"add 0 86 19 2", "add 0 93 20 3",
+	"del 0 55", "clock 0", "clock 1", "clock 2", "clock 3", "pass 0 0", "pass 1 1",
+	"pass 2 2", "pass 3 3", "clock 1", "clock 2", "clock 3", "clock 0",
+	"del 3 62", "clock 3", "clock 0", "clock 1", "clock 2", "pass 0 0", "pass 1 1",
+	"pass 2 2", "pass 3 3", "clock 0", "clock 1", "clock 2", "clock 3",
+	"del 3 79", "clock 3", "del 3 86", "off 3", "del 2 93", "off 2", "on 2",
+	"begin 0", "start 0 0", "step 0",
+	"del 1 1472", "clock 1", "del 1 512", "del 2 529", "clock 2",
+};
+
+const size_t rich_count = sizeof rich_calls / sizeof rich_calls[0];
+
+const struct damage damages[] = {
+	{ BASE_RICH, LEGAL_CONTENTS, "contents agree", { { CONTENTS_VERSION, 2 } } },
+	{ BASE_RICH, LEGAL_CONTENTS, "contents agree", { { CONTENTS_CABINETS, 0 } } },
+	{ BASE_RICH, LEGAL_CONTENTS, "contents agree", { { CONTENTS_CABINETS, 1 } } },
+	{ BASE_RICH, LEGAL_CONTENTS, "contents agree", { { CONTENTS_CABINETS, 9 } } },
+	{ BASE_RICH, LEGAL_CONTENTS, "contents agree", { { CONTENTS_LANES, 0 } } },
+	{ BASE_RICH, LEGAL_CONTENTS, "contents agree", { { CONTENTS_LANES, 1 } } },
+	{ BASE_RICH, LEGAL_CONTENTS, "contents agree", { { CONTENTS_LANES, 9 } } },
+	{ BASE_RICH, LEGAL_CONTENTS, "contents agree", { { CONTENTS_SLOTS, 0 } } },
+	{ BASE_RICH, LEGAL_CONTENTS, "contents agree", { { CONTENTS_SLOTS, 15 } } },
+	{ BASE_RICH, LEGAL_CONTENTS, "contents agree", { { CONTENTS_SLOTS, 1025 } } },
+	{ BASE_RICH, LEGAL_CONTENTS, "contents agree", { { CONTENTS_SLOTS, NONE } } },
+	{ BASE_RICH, LEGAL_CONTENTS, "contents agree", { { CONTENTS_BODIES + 0, 13 } } },
+	{ BASE_RICH, LEGAL_CONTENTS, "contents agree", { { CONTENTS_BODIES + 1, 75 } } },
+	{ BASE_RICH, LEGAL_CONTENTS, "contents agree", { { CONTENTS_BODIES + 2, 0 } } },
+	{ BASE_RICH, LEGAL_CONTENTS, "contents agree", { { CONTENTS_BODIES + 3, 3 } } },
+	{ BASE_RICH, LEGAL_CONTENTS, "contents agree", { { CONTENTS_BODIES + 4, NONE } } },
+	{ BASE_RICH, LEGAL_CONTENTS, "contents agree", { { CONTENTS_BODIES + 5, 77 } } },
+	{ BASE_RICH, LEGAL_CONTENTS, "contents agree", { { CONTENTS_BODIES + 6, 165 } } },
+	{ BASE_RICH, LEGAL_CONTENTS, "contents agree", { { CONTENTS_BODIES + 7, 95 } } },
+
+	{ BASE_RICH, LEGAL_FLAGS, "flags in range", { { LANE(2, LANE_FLAGS), 17 } } },
+	{ BASE_RICH, LEGAL_FLAGS, "flags in range", { { LANE(2, LANE_FLAGS), 2147483649u } } },
+	{ BASE_RICH, LEGAL_MASKS, "masks in range", { { GLOBAL(GLOBAL_PENDING), 5 } } },
+	{ BASE_RICH, LEGAL_MASKS, "masks in range", { { GLOBAL(GLOBAL_PENDING), 257 } } },
+	{ BASE_RICH, LEGAL_MASKS, "masks in range", { { CABINET(0), 7 } } },
+	{ BASE_RICH, LEGAL_MASKS, "masks in range", { { CABINET(0), 2147483651u } } },
+
+	{ BASE_RICH, LEGAL_LINKS, "links in range", { { GLOBAL(GLOBAL_CHAINS + 2), 16 } } },
+	{ BASE_RICH, LEGAL_LINKS, "links in range", { { GLOBAL(GLOBAL_CHAINS + 63), NONE - 1 } } },
+	{ BASE_RICH, LEGAL_LINKS, "links in range", { { GLOBAL(GLOBAL_FREE + END_FIRST), 16 } } },
+	{ BASE_RICH, LEGAL_LINKS, "links in range", { { GLOBAL(GLOBAL_FREE + END_LAST), 16 } } },
+	{ BASE_RICH, LEGAL_LINKS, "links in range", { { GLOBAL(GLOBAL_NEXT + END_FIRST), 16 } } },
+	{ BASE_RICH, LEGAL_LINKS, "links in range", { { GLOBAL(GLOBAL_CURRENT + END_FIRST), 16 } } },
+	{ BASE_RICH, LEGAL_LINKS, "links in range", { { GLOBAL(GLOBAL_DONE + END_FIRST), 16 } } },
+	{ BASE_RICH, LEGAL_LINKS, "links in range", { { LANE(3, LANE_NEXT + END_FIRST), 16 } } },
+	{ BASE_RICH, LEGAL_LINKS, "links in range", { { LANE(3, LANE_CURRENT + END_LAST), NONE - 1 } } },
+	{ BASE_RICH, LEGAL_LINKS, "links in range", { { LANE(0, LANE_DONE + END_FIRST), 16 } } },
+	{ BASE_RICH, LEGAL_LINKS, "links in range", { { LANE(0, LANE_POSITION), 16 } } },
+	{ BASE_RICH, LEGAL_LINKS, "links in range", { { SLOT(6, SLOT_CHAIN_LINK), 16 } } },
+	{ BASE_RICH, LEGAL_LINKS, "links in range", { { SLOT(6, SLOT_CHAIN_LINK), NONE - 1 } } },
+	{ BASE_RICH, LEGAL_LINKS, "links in range", { { SLOT(15, SLOT_QUEUE_LINK), 16 } } },
+
+	{ BASE_RICH, LEGAL_FIELDS, "fields in range", { { SLOT(6, SLOT_CODE + CODE_LOW), CODE_BEYOND_LOW },
+			{ SLOT(6, SLOT_CODE + CODE_HIGH), CODE_BEYOND_HIGH } } },
+	{ BASE_RICH, LEGAL_FIELDS, "fields in range", { { SLOT(6, SLOT_CODE + CODE_HIGH), NONE } } },
+	{ BASE_RICH, LEGAL_FIELDS, "fields in range", { { SLOT(6, SLOT_DEPOSIT), 100001 } } },
+	{ BASE_RICH, LEGAL_FIELDS, "fields in range", { { SLOT(6, SLOT_MATERIAL), 8 } } },
+	{ BASE_RICH, LEGAL_FIELDS, "fields in range", { { SLOT(0, SLOT_DEPOSIT), 100001 } } },
+	{ BASE_RICH, LEGAL_FIELDS, "fields in range", { { SLOT(0, SLOT_MATERIAL), 8 } } },
+	{ BASE_RICH, LEGAL_FIELDS, "fields in range", { { LANE(0, LANE_CODE + CODE_LOW), CODE_BEYOND_LOW },
+			{ LANE(0, LANE_CODE + CODE_HIGH), CODE_BEYOND_HIGH } } },
+	{ BASE_RICH, LEGAL_FIELDS, "fields in range", { { LANE(0, LANE_CODE + CODE_HIGH), 2329 } } },
+
+	{ BASE_RICH, LEGAL_ONCE, "each slot in one place", { { GLOBAL(GLOBAL_CHAINS + 17), NONE } } },
+	{ BASE_RICH, LEGAL_ONCE, "each slot in one place", { { GLOBAL(GLOBAL_CHAINS + 0), 0 } } },
+	{ BASE_RICH, LEGAL_ONCE, "each slot in one place", { { GLOBAL(GLOBAL_CHAINS + 9), 10 } } },
+	{ BASE_RICH, LEGAL_ONCE, "each slot in one place", { { SLOT(0, SLOT_CHAIN_LINK), 1 } } },
+	{ BASE_RICH, LEGAL_ONCE, "each slot in one place", { { SLOT(0, SLOT_CHAIN_LINK), 0 } } },
+	{ BASE_RICH, LEGAL_ONCE, "each slot in one place", { { SLOT(0, SLOT_CHAIN_LINK), 6 } } },
+	{ BASE_RICH, LEGAL_ONCE, "each slot in one place", { { SLOT(15, SLOT_QUEUE_LINK), 11 } } },
+	{ BASE_RICH, LEGAL_ONCE, "each slot in one place", { { SLOT(9, SLOT_QUEUE_LINK), 10 } } },
+	{ BASE_RICH, LEGAL_ONCE, "each slot in one place", { { SLOT(6, SLOT_QUEUE_LINK), 0 } } },
+	{ BASE_RICH, LEGAL_ONCE, "each slot in one place", { { SLOT(13, SLOT_QUEUE_LINK), 15 } } },
+	{ BASE_RICH, LEGAL_ONCE, "each slot in one place", { { LANE(0, LANE_NEXT + END_FIRST), 2 },
+			{ LANE(0, LANE_NEXT + END_LAST), 2 } } },
+	{ BASE_RICH, LEGAL_ONCE, "each slot in one place", { { LANE(0, LANE_DONE + END_FIRST), NONE },
+			{ LANE(0, LANE_DONE + END_LAST), NONE } } },
+
+	{ BASE_RICH, LEGAL_LASTS, "queues agree with last", { { GLOBAL(GLOBAL_FREE + END_LAST), 14 } } },
+	{ BASE_RICH, LEGAL_LASTS, "queues agree with last", { { GLOBAL(GLOBAL_FREE + END_LAST), NONE } } },
+	{ BASE_RICH, LEGAL_LASTS, "queues agree with last", { { GLOBAL(GLOBAL_CURRENT + END_LAST), 8 } } },
+	{ BASE_RICH, LEGAL_LASTS, "queues agree with last", { { GLOBAL(GLOBAL_NEXT + END_LAST), 9 } } },
+	{ BASE_RICH, LEGAL_LASTS, "queues agree with last", { { GLOBAL(GLOBAL_DONE + END_LAST), NONE } } },
+	{ BASE_RICH, LEGAL_LASTS, "queues agree with last", { { LANE(0, LANE_DONE + END_LAST), NONE } } },
+	{ BASE_RICH, LEGAL_EMPTY_ENDS, "ends of an empty queue", { { LANE(0, LANE_NEXT + END_LAST), 6 } } },
+	{ BASE_RICH, LEGAL_EMPTY_ENDS, "ends of an empty queue", { { LANE(3, LANE_CURRENT + END_LAST), 0 } } },
+	{ BASE_RICH, LEGAL_LASTS, "queues agree with last", { { LANE(1, LANE_NEXT + END_LAST), 3 } } },
+
+	{ BASE_RICH, LEGAL_CHAINS, "chain of the code", { { SLOT(4, SLOT_CODE + CODE_LOW), 18 } } },
+	{ BASE_RICH, LEGAL_CHAINS, "chain of the code", { { SLOT(0, SLOT_CODE + CODE_LOW), 63 } } },
+	{ BASE_RICH, LEGAL_CHAINS, "chain of the code", { { GLOBAL(GLOBAL_CHAINS + 17), NONE },
+			{ GLOBAL(GLOBAL_CHAINS + 18), 4 } } },
+	{ BASE_RICH, LEGAL_TWICE, "no code twice", { { SLOT(0, SLOT_CODE + CODE_LOW), 192 } } },
+	{ BASE_RICH, LEGAL_TWICE, "no code twice", { { SLOT(1, SLOT_CODE + CODE_LOW), 0 } } },
+
+	{ BASE_RICH, LEGAL_SNAPSHOTS_REST, "snapshot counts at rest", { { LANE(0, LANE_SNAPSHOT + 0), 1 } } },
+	{ BASE_RICH, LEGAL_SNAPSHOTS_REST, "snapshot counts at rest", { { LANE(0, LANE_SNAPSHOT + 3), NONE } } },
+	{ BASE_RICH, LEGAL_SNAPSHOTS_REST, "snapshot counts at rest", { { LANE(3, LANE_SNAPSHOT + 1), 1 } } },
+	{ BASE_RICH, LEGAL_LOOKUPS_REST, "lookup words at rest", { { LANE(1, LANE_CODE + CODE_LOW), 1 } } },
+	{ BASE_RICH, LEGAL_LOOKUPS_REST, "lookup words at rest", { { LANE(1, LANE_CODE + CODE_HIGH), 1 } } },
+	{ BASE_RICH, LEGAL_LOOKUPS_REST, "lookup words at rest", { { LANE(1, LANE_POSITION), 0 } } },
+	{ BASE_RICH, LEGAL_GENERATIONS_REST, "generation at rest", { { LANE(0, LANE_GENERATION), 3 } } },
+	{ BASE_RICH, LEGAL_GENERATIONS_REST, "generation at rest", { { LANE(3, LANE_GENERATION), NONE } } },
+	{ BASE_RICH, LEGAL_LINKS_REST, "queue link at rest", { { SLOT(0, SLOT_QUEUE_LINK), 1 } } },
+	{ BASE_RICH, LEGAL_LINKS_REST, "queue link at rest", { { SLOT(4, SLOT_QUEUE_LINK), 4 } } },
+
+	{ BASE_RICH, LEGAL_OFFLINE, "offline: no section", { { LANE(3, LANE_FLAGS), FLAG_READING } } },
+	{ BASE_RICH, LEGAL_OFFLINE, "offline: no mask bit", { { GLOBAL(GLOBAL_PENDING), 3 }, { CABINET(1), 2 } } },
+	{ BASE_RICH, LEGAL_OFFLINE, "offline: no next queue", {
+		{ LANE(0, LANE_DONE + END_FIRST), NONE }, { LANE(0, LANE_DONE + END_LAST), NONE },
+		{ LANE(3, LANE_NEXT + END_FIRST), 6 }, { LANE(3, LANE_NEXT + END_LAST), 6 } } },
+	{ BASE_RICH, LEGAL_OFFLINE, "offline: no current queue", {
+		{ LANE(0, LANE_DONE + END_FIRST), NONE }, { LANE(0, LANE_DONE + END_LAST), NONE },
+		{ LANE(3, LANE_CURRENT + END_FIRST), 6 }, { LANE(3, LANE_CURRENT + END_LAST), 6 },
+		{ LANE(3, LANE_GENERATION), 3 } } },
+	{ BASE_RICH, LEGAL_OFFLINE, "offline: no done queue", {
+		{ LANE(0, LANE_DONE + END_FIRST), NONE }, { LANE(0, LANE_DONE + END_LAST), NONE },
+		{ LANE(3, LANE_DONE + END_FIRST), 6 }, { LANE(3, LANE_DONE + END_LAST), 6 } } },
+
+	{ BASE_RICH, LEGAL_LOOKUP_IN_SECTION, "lookup in a section", { { LANE(0, LANE_FLAGS), FLAG_ONLINE | FLAG_LOOKUP } } },
+	{ BASE_RICH, LEGAL_SNAPSHOT_PENDING, "snapshot with a bit", { { LANE(2, LANE_FLAGS), FLAG_ONLINE | FLAG_SNAPSHOT } } },
+	{ BASE_RICH, LEGAL_CABINET_BITS, "cabinet's bit", { { GLOBAL(GLOBAL_PENDING), 3 } } },
+	{ BASE_RICH, LEGAL_CABINET_BITS, "cabinet's bit", { { GLOBAL(GLOBAL_PENDING), 2 } } },
+	{ BASE_RICH, LEGAL_CABINET_BITS, "cabinet's bit", { { CABINET(1), 1 } } },
+
+	{ BASE_RICH, LEGAL_FREE_SLOTS, "free slot clear", { { SLOT(11, SLOT_CODE + CODE_LOW), 1 } } },
+	{ BASE_RICH, LEGAL_FREE_SLOTS, "free slot clear", { { SLOT(12, SLOT_CODE + CODE_HIGH), 1 } } },
+	{ BASE_RICH, LEGAL_FREE_SLOTS, "free slot clear", { { SLOT(13, SLOT_DEPOSIT), 1 } } },
+	{ BASE_RICH, LEGAL_FREE_SLOTS, "free slot clear", { { SLOT(14, SLOT_MATERIAL), 1 } } },
+	{ BASE_RICH, LEGAL_FREE_SLOTS, "free slot clear", { { SLOT(15, SLOT_CHAIN_LINK), 15 } } },
+
+	{ BASE_RICH, LEGAL_LARGEST, "largest requested", { { GLOBAL(GLOBAL_LARGEST_GENERATION), 5 } } },
+	{ BASE_RICH, LEGAL_LARGEST, "largest requested", { { GLOBAL(GLOBAL_LARGEST_GENERATION), 2 } } },
+	{ BASE_RICH, LEGAL_LARGEST, "largest requested", { { GLOBAL(GLOBAL_LARGEST_GENERATION), 2147483651u } } },
+
+	{ BASE_RICH, LEGAL_LANE_GENERATION, "lane generation", { { LANE(1, LANE_GENERATION), 1 } } },
+	{ BASE_RICH, LEGAL_LANE_GENERATION, "lane generation", { { LANE(1, LANE_GENERATION), 0 } } },
+	{ BASE_RICH, LEGAL_LANE_GENERATION, "lane generation", { { LANE(1, LANE_GENERATION), 5 } } },
+	{ BASE_RICH, LEGAL_LANE_GENERATION, "lane generation", { { LANE(1, LANE_GENERATION), 2147483652u } } },
+	{ BASE_RICH, LEGAL_LANE_GENERATION, "lane generation not later than the largest", {
+		{ GLOBAL(GLOBAL_LARGEST_GENERATION), 3 }, { GLOBAL(GLOBAL_GENERATION), 3 },
+		{ LANE(2, LANE_GENERATION), 3 } } },
+	{ BASE_RICH, LEGAL_LANE_GENERATION, "lane generation one before without a bit", { { LANE(2, LANE_GENERATION), 2 } } },
+	{ BASE_RICH, LEGAL_GLOBAL_GENERATION, "global generation", { { GLOBAL(GLOBAL_GENERATION), 2 } } },
+	{ BASE_RICH, LEGAL_GLOBAL_GENERATION, "global generation", { { GLOBAL(GLOBAL_GENERATION), 5 } } },
+	{ BASE_RICH, LEGAL_GLOBAL_GENERATION, "global generation not later than the largest", {
+		{ GLOBAL(GLOBAL_LARGEST_GENERATION), 3 }, { LANE(1, LANE_GENERATION), 3 },
+		{ LANE(2, LANE_GENERATION), 3 } } },
+
+	{ BASE_FRESH, LEGAL_CONTENTS, "contents agree", { { CONTENTS_VERSION, 0x01000000 } } },
+	{ BASE_FRESH, LEGAL_GENERATIONS_REST, "generation at rest", { { GLOBAL(GLOBAL_GENERATION), 1 } } },
+	{ BASE_FRESH, LEGAL_OFFLINE, "offline: no section", { { LANE(0, LANE_FLAGS), FLAG_READING } } },
+	{ BASE_FRESH, LEGAL_SNAPSHOT_PENDING, "snapshot with a bit", { { LANE(0, LANE_FLAGS), FLAG_ONLINE | FLAG_SNAPSHOT } } },
+	{ BASE_FRESH, LEGAL_LOOKUP_IN_SECTION, "lookup in a section", { { LANE(0, LANE_FLAGS), FLAG_ONLINE | FLAG_LOOKUP } } },
+	{ BASE_FRESH, LEGAL_CABINET_BITS, "cabinet's bit", { { GLOBAL(GLOBAL_PENDING), 1 },
+		{ GLOBAL(GLOBAL_LARGEST_GENERATION), 1 } } },
+	{ BASE_FRESH, LEGAL_CABINET_BITS, "cabinet's bit", { { CABINET(0), 1 } } },
+	{ BASE_FRESH, LEGAL_LARGEST, "largest requested", { { GLOBAL(GLOBAL_LARGEST_GENERATION), 1 } } },
+	{ BASE_FRESH, LEGAL_LARGEST, "largest requested", { { GLOBAL(GLOBAL_LARGEST_GENERATION), NONE } } },
+	{ BASE_FRESH, LEGAL_LARGEST, "largest requested", { { GLOBAL(GLOBAL_CURRENT_GENERATION), 2 } } },
+	{ BASE_FRESH, LEGAL_LARGEST, "largest requested", { { GLOBAL(GLOBAL_PENDING), 1 }, { CABINET(0), 1 } } },
+	/* With no grace period running, a lane's current queue is one before at most. */
+	{ BASE_FRESH, LEGAL_LANE_GENERATION, "lane generation not later than the largest", {
+		{ GLOBAL(GLOBAL_FREE + END_FIRST), 1 }, { SLOT(0, SLOT_QUEUE_LINK), NONE },
+		{ LANE(0, LANE_CURRENT + END_FIRST), 0 }, { LANE(0, LANE_CURRENT + END_LAST), 0 },
+		{ LANE(0, LANE_GENERATION), 1 } } },
+	{ BASE_FRESH, LEGAL_GLOBAL_GENERATION, "global generation", {
+		{ GLOBAL(GLOBAL_FREE + END_FIRST), 1 }, { SLOT(0, SLOT_QUEUE_LINK), NONE },
+		{ GLOBAL(GLOBAL_CURRENT + END_FIRST), 0 }, { GLOBAL(GLOBAL_CURRENT + END_LAST), 0 },
+		{ GLOBAL(GLOBAL_GENERATION), 0 } } },
+
+	{ BASE_RICH, LEGAL_SENTENCES, "retired slots in a cycle of chain links", {
+		{ SLOT(2, SLOT_CHAIN_LINK), 3 }, { SLOT(3, SLOT_CHAIN_LINK), 2 },
+		{ SLOT(8, SLOT_CHAIN_LINK), 8 } } },
+	{ BASE_RICH, LEGAL_SENTENCES, "retired slots with any code, also a chained one", {
+		{ SLOT(2, SLOT_CODE + CODE_LOW), 0 }, { SLOT(3, SLOT_CODE + CODE_LOW), 0 } } },
+	{ BASE_RICH, LEGAL_SENTENCES, "retired slot linked to a free one", { { SLOT(2, SLOT_CHAIN_LINK), 15 } } },
+	{ BASE_RICH, LEGAL_SENTENCES, "lookup on a slot of another chain", { { LANE(0, LANE_POSITION), 4 } } },
+	{ BASE_RICH, LEGAL_SENTENCES, "lookup on a free slot", { { LANE(0, LANE_POSITION), 11 } } },
+	{ BASE_RICH, LEGAL_SENTENCES, "lookup at the end", { { LANE(0, LANE_POSITION), NONE } } },
+	{ BASE_RICH, LEGAL_SENTENCES, "largest code in a lookup", { { LANE(0, LANE_CODE + CODE_LOW), CODE_BEYOND_LOW - 1 },
+		{ LANE(0, LANE_CODE + CODE_HIGH), CODE_BEYOND_HIGH } } },
+	{ BASE_RICH, LEGAL_SENTENCES, "snapshot with a queue one before", { { LANE(1, LANE_GENERATION), 2 } } },
+	{ BASE_RICH, LEGAL_SENTENCES, "queues at the current generation", {
+		{ LANE(1, LANE_GENERATION), 3 }, { LANE(2, LANE_GENERATION), 3 },
+		{ GLOBAL(GLOBAL_GENERATION), 3 }, { GLOBAL(GLOBAL_LARGEST_GENERATION), 3 } } },
+	{ BASE_RICH, LEGAL_SENTENCES, "counts of an offline lane", { { LANE(3, LANE_COUNTS), NONE } } },
+	{ BASE_RICH, LEGAL_SENTENCES, "snapshot far from the counts", { { LANE(1, LANE_SNAPSHOT + 2), 77 } } },
+	{ BASE_RICH, LEGAL_SENTENCES, "a period that waits for one lane", { { CABINET(0), 2 } } },
+	{ BASE_RICH, LEGAL_SENTENCES, "generations at the wrap", {
+		{ GLOBAL(GLOBAL_CURRENT_GENERATION), NONE },
+		{ GLOBAL(GLOBAL_LARGEST_GENERATION), 0 },
+		{ LANE(1, LANE_GENERATION), 0 }, { LANE(2, LANE_GENERATION), NONE },
+		{ GLOBAL(GLOBAL_GENERATION), 0 } } },
+
+	{ BASE_FRESH, LEGAL_SENTENCES, "all lanes offline", { { LANE(0, LANE_FLAGS), 0 }, { LANE(1, LANE_FLAGS), 0 },
+		{ LANE(2, LANE_FLAGS), 0 }, { LANE(3, LANE_FLAGS), 0 } } },
+	{ BASE_FRESH, LEGAL_SENTENCES, "no grace period and a global next queue", {
+		{ GLOBAL(GLOBAL_FREE + END_FIRST), 1 }, { SLOT(0, SLOT_QUEUE_LINK), NONE },
+		{ GLOBAL(GLOBAL_NEXT + END_FIRST), 0 }, { GLOBAL(GLOBAL_NEXT + END_LAST), 0 } } },
+	{ BASE_FRESH, LEGAL_SENTENCES, "a current queue of generation 0", {
+		{ GLOBAL(GLOBAL_FREE + END_FIRST), 1 }, { SLOT(0, SLOT_QUEUE_LINK), NONE },
+		{ LANE(0, LANE_CURRENT + END_FIRST), 0 },
+		{ LANE(0, LANE_CURRENT + END_LAST), 0 } } },
+	{ BASE_FRESH, LEGAL_SENTENCES, "any current generation", { { GLOBAL(GLOBAL_CURRENT_GENERATION), 2147483648u },
+		{ GLOBAL(GLOBAL_LARGEST_GENERATION), 2147483647u } } },
+};
+
+const size_t damage_count = sizeof damages / sizeof damages[0];
+
+void damage_memory(uint32_t *memory, const struct damage *damage)
+{
+	for (int n = 0; n < POKES; n++)
+		if (damage->poke[n].address != 0 || damage->poke[n].value != 0)
+			memory[damage->poke[n].address] = damage->poke[n].value;
+}

@@ -1,0 +1,154 @@
+/*
+ * record.c - lists with their answers, and how they are printed.
+ */
+#include "record.h"
+
+#include <inttypes.h>
+#include <string.h>
+
+#include "line.h"
+
+void record_start(struct record *record)
+{
+	record->steps.count = 0;
+	record->under_way = false;
+	record->difference = SAME;
+	record->fault[0] = '\0';
+	record->compared = false;
+	record->differing = 0;
+}
+
+static void note_words(struct record *record, const struct beside *beside)
+{
+	for (uint32_t n = 0; n < beside->words; n++) {
+		if (beside->memory[n] == beside->left.memory[n])
+			continue;
+		if (record->differing < RECORD_WORDS) {
+			word_name(beside->memory, n, record->word[record->differing].name);
+			record->word[record->differing].address = n;
+			record->word[record->differing].expected = beside->memory[n];
+			record->word[record->differing].left = beside->left.memory[n];
+		}
+		record->differing++;
+	}
+}
+
+static void note_difference(struct record *record, const struct beside *beside)
+{
+	const struct left *left = beside->tried != NULL ? &beside->left : &beside->expected;
+
+	if (beside->fault != NULL)
+		snprintf(record->fault, RECORD_TEXT, "%s", beside->fault);
+	record->compared = beside->judge != NULL && beside->tried != NULL;
+	record->status = left->status;
+	record->answer_words = (uint32_t)left->answer_words;
+	memcpy(record->left_answer, left->answer, left->answer_words * sizeof left->answer[0]);
+	if (!record->compared)
+		return;
+	record->expected_status = beside->expected.status;
+	memcpy(record->expected_answer, beside->expected.answer,
+		left->answer_words * sizeof left->answer[0]);
+	note_words(record, beside);
+}
+
+enum difference record_step(struct record *record, struct beside *beside, const struct step *step)
+{
+	const struct left *left;
+	uint32_t at = record->steps.count;
+
+	steps_add(&record->steps, step);
+	if (step->kind != STEP_CALL)
+		return beside_step(beside, step);
+	record->under_way = true;
+	record->difference = beside_step(beside, step);
+	record->under_way = false;
+	left = beside->tried != NULL ? &beside->left : &beside->expected;
+	memset(record->answer[at], 0, sizeof record->answer[at]);
+	if (left->status == PT_SHORT_ANSWER)
+		record->answer[at][0] = PT_SHORT_ANSWER;
+	else if (left->answer_words >= PT_ANSWER_WORDS)
+		memcpy(record->answer[at], left->answer, sizeof record->answer[at]);
+	if (record->difference != SAME)
+		note_difference(record, beside);
+	return record->difference;
+}
+
+void record_list(const struct record *record, FILE *file)
+{
+	char text[STEP_TEXT];
+
+	for (uint32_t n = 0; n < record->steps.count; n++) {
+		step_text(&record->steps.step[n], text);
+		fprintf(file, "%s\n", text);
+	}
+}
+
+/* An answer of any length, with the status that was returned. */
+static void print_answer(const char *who, const uint32_t *answer, uint32_t words, uint32_t status,
+		FILE *file)
+{
+	fprintf(file, "      %-22s", who);
+	if (words < PT_ANSWER_WORDS)
+		fprintf(file, " returned %" PRIu32 ", %" PRIu32 " words of answer", status, words);
+	for (uint32_t n = 0; n < words; n++)
+		if (answer[n] != FILL)
+			fprintf(file, " %" PRIu32, answer[n]);
+		else if (n < PT_ANSWER_WORDS)
+			fprintf(file, " unwritten");
+	if (words >= PT_ANSWER_WORDS && answer[0] != status)
+		fprintf(file, ", returned %" PRIu32, status);
+	fprintf(file, "\n");
+}
+
+static void print_words(const struct record *record, FILE *file)
+{
+	char expected[WORD_TEXT], left[WORD_TEXT];
+
+	if (record->differing == 0)
+		return;
+	fprintf(file, "  words that differ: %" PRIu32 "\n      %-44s %8s  %12s  %12s\n",
+		record->differing, "word", "address", "expected", "engine");
+	for (uint32_t n = 0; n < record->differing && n < RECORD_WORDS; n++) {
+		word_value(record->word[n].expected, expected);
+		word_value(record->word[n].left, left);
+		fprintf(file, "      %-44s %8" PRIu32 "  %12s  %12s\n", record->word[n].name,
+			record->word[n].address, expected, left);
+	}
+	if (record->differing > RECORD_WORDS)
+		fprintf(file, "      .. and %" PRIu32 " more\n", record->differing - RECORD_WORDS);
+}
+
+/* All steps but the last with what was answered. */
+static void print_steps(const struct record *record, FILE *file)
+{
+	char text[STEP_TEXT], answer[LINE_TEXT];
+
+	for (uint32_t n = 0; n < record->steps.count; n++) {
+		step_text(&record->steps.step[n], text);
+		if (n + 1 == record->steps.count)
+			break;
+		if (record->steps.step[n].kind != STEP_CALL)
+			snprintf(answer, sizeof answer, "(no call)");
+		else if (record->answer[n][0] == PT_SHORT_ANSWER)
+			snprintf(answer, sizeof answer, "returned %" PRIu32, PT_SHORT_ANSWER);
+		else
+			line_answer(record->answer[n], answer);
+		fprintf(file, "      %-32s %s\n", text, answer);
+	}
+	fprintf(file, "      %s\n", text);
+}
+
+void record_print(const struct record *record, const char *engine, const char *judge, FILE *file)
+{
+	print_steps(record, file);
+	fprintf(file, "  the last call: %s%s%s\n",
+		record->under_way ? "it does not return" : difference_texts[record->difference],
+		record->fault[0] != '\0' ? ": " : "", record->fault);
+	if (record->under_way)
+		return;
+	if (record->compared)
+		print_answer(judge, record->expected_answer, record->answer_words,
+			record->expected_status, file);
+	print_answer(engine, record->left_answer, record->answer_words, record->status, file);
+	print_words(record, file);
+}

@@ -1,0 +1,396 @@
+/*
+ * sentences.c - what a call tries, read off the judge's memory before and after it.
+ */
+#include "sentences.h"
+
+#include <inttypes.h>
+#include <stdio.h>
+#include <string.h>
+
+#include "causes.h"
+#include "reference.h"
+#include "table.h"
+#include "words.h"
+
+/* The sentences of one call. */
+struct tries {
+	bool of[SENTENCES];
+};
+
+static const enum sentence legal_sentences[LEGAL_SENTENCES] = {
+	[LEGAL_CONTENTS] = SENTENCE_LEGAL_CONTENTS,
+	[LEGAL_FLAGS] = SENTENCE_LEGAL_FLAGS,
+	[LEGAL_MASKS] = SENTENCE_LEGAL_MASKS,
+	[LEGAL_LINKS] = SENTENCE_LEGAL_LINKS,
+	[LEGAL_FIELDS] = SENTENCE_LEGAL_FIELDS,
+	[LEGAL_EMPTY_ENDS] = SENTENCE_LEGAL_EMPTY_ENDS,
+	[LEGAL_ONCE] = SENTENCE_LEGAL_ONCE,
+	[LEGAL_LASTS] = SENTENCE_LEGAL_LASTS,
+	[LEGAL_CHAINS] = SENTENCE_LEGAL_CHAINS,
+	[LEGAL_TWICE] = SENTENCE_LEGAL_TWICE,
+	[LEGAL_SNAPSHOTS_REST] = SENTENCE_LEGAL_SNAPSHOTS_REST,
+	[LEGAL_LOOKUPS_REST] = SENTENCE_LEGAL_LOOKUPS_REST,
+	[LEGAL_GENERATIONS_REST] = SENTENCE_LEGAL_GENERATIONS_REST,
+	[LEGAL_LINKS_REST] = SENTENCE_LEGAL_LINKS_REST,
+	[LEGAL_OFFLINE] = SENTENCE_LEGAL_OFFLINE,
+	[LEGAL_LOOKUP_IN_SECTION] = SENTENCE_LEGAL_LOOKUP_IN_SECTION,
+	[LEGAL_SNAPSHOT_PENDING] = SENTENCE_LEGAL_SNAPSHOT_PENDING,
+	[LEGAL_CABINET_BITS] = SENTENCE_LEGAL_CABINET_BITS,
+	[LEGAL_FREE_SLOTS] = SENTENCE_LEGAL_FREE_SLOTS,
+	[LEGAL_LARGEST] = SENTENCE_LEGAL_LARGEST,
+	[LEGAL_LANE_GENERATION] = SENTENCE_LEGAL_LANE_GENERATION,
+	[LEGAL_GLOBAL_GENERATION] = SENTENCE_LEGAL_GLOBAL_GENERATION,
+};
+
+/* ---- what a refused call tries */
+
+static enum sentence cause_sentence(uint32_t cause)
+{
+	if (cause == PT_BAD_SIZE || cause == PT_SHORT_MEMORY)
+		return SENTENCE_CAUSE_SET_UP;
+	return cause == PT_NOT_LEGAL ? SENTENCE_CAUSE_NOT_LEGAL : SENTENCE_CAUSE_OTHERS;
+}
+
+static void refused_tries(struct tally *tally, struct tries *tries, const struct beside *beside)
+{
+	uint32_t cause = beside->expected.status;
+	uint32_t causes = causes_of(beside->before, beside->words, &beside->call);
+
+	tries->of[SENTENCE_CAUSE_RETURNED] = true;
+	tries->of[cause_sentence(cause)] = true;
+	if (cause == PT_NOT_LEGAL) {
+		enum legal_sentence broken = ref_broken(beside->before, beside->words);
+
+		tries->of[broken < LEGAL_SENTENCES ? legal_sentences[broken] : SENTENCE_LEGAL] = true;
+	}
+	tally->refused[beside->call.name][cause]++;
+	for (uint32_t other = 1; other <= LAST_CAUSE; other++)
+		if (other != cause && causes >> other & 1u) {
+			tries->of[SENTENCE_CAUSE_LOWEST] = true;
+			tally->before[beside->call.name][cause][other]++;
+		}
+}
+
+/* ---- what an accepted call tries */
+
+static bool ends_differ(struct queue a, struct queue b)
+{
+	return a.first != b.first || a.last != b.last;
+}
+
+static bool retired_differ(const struct retired *a, const struct retired *b)
+{
+	return ends_differ(a->next, b->next) || ends_differ(a->current, b->current) ||
+		ends_differ(a->done, b->done);
+}
+
+/* What becomes of an owner's lines in a clock or an off. */
+static void owner_tries(struct tries *tries, const struct table *then, const struct table *now,
+		const struct retired *before, const struct retired *after)
+{
+	bool begun = after->current.first != PT_NONE && after->current.first != before->current.first;
+
+	tries->of[SENTENCE_ADVANCE] |= retired_differ(before, after);
+	tries->of[SENTENCE_LATER] |= before->current.first != PT_NONE;
+	tries->of[SENTENCE_STEP_2] |= begun;
+	tries->of[SENTENCE_TRAP_JOINED] |= begun && then->pending_cabinets != 0 &&
+		after->generation == now->current + 1;
+}
+
+static void period_tries(struct tries *tries, const struct table *then, const struct table *now,
+		uint32_t lane)
+{
+	bool ended = now->current != then->current;
+
+	tries->of[SENTENCE_PERIOD_RUNS] = true;
+	tries->of[SENTENCE_END_PERIOD] = ended;
+	tries->of[SENTENCE_BEGIN_PERIOD] = now->pending_cabinets != 0 &&
+		(ended || then->pending_cabinets == 0);
+	tries->of[SENTENCE_CABINET_BIT_GOES] = ended ||
+		(then->pending_cabinets & ~now->pending_cabinets) != 0;
+	tries->of[SENTENCE_TRAP_SNAPSHOT] = ended && then->lane[lane].flags & FLAG_SNAPSHOT;
+	owner_tries(tries, then, now, &then->lane[lane].retired, &now->lane[lane].retired);
+	owner_tries(tries, then, now, &then->global, &now->global);
+}
+
+/* Whether a slot stands in a chain. */
+static bool chained(const struct table *table, uint32_t slot)
+{
+	uint32_t s = table->heads[table->slot[slot].code % CHAINS];
+
+	while (s != PT_NONE && s != slot)
+		s = table->slot[s].chain_link;
+	return s == slot;
+}
+
+static void table_tries(struct tries *tries, const struct table *then, const struct call *call,
+		const uint32_t *answer, uint32_t lane)
+{
+	uint32_t removed = call->name == CALL_DELETE ? answer[1] : answer[2];
+
+	switch (call->name) {
+	case CALL_ADD:
+		tries->of[SENTENCE_ADD] = true;
+		break;
+	case CALL_REPLACE:
+		tries->of[SENTENCE_REPLACE] = true;
+		tries->of[SENTENCE_TRAP_REPLACE] =
+			then->heads[call_argument(call, KIND_CODE, 0) % CHAINS] != removed;
+		/* fall through */
+	case CALL_DELETE:
+		tries->of[SENTENCE_REMOVED] = true;
+		tries->of[SENTENCE_TRAP_CHAINED] = then->slot[removed].chain_link != PT_NONE;
+		break;
+	case CALL_START:
+		tries->of[SENTENCE_START] = true;
+		break;
+	case CALL_STEP:
+		tries->of[SENTENCE_STEP] = true;
+		tries->of[SENTENCE_STEP_ENDS] = true;
+		tries->of[SENTENCE_TRAP_CHAINED] = then->lane[lane].position != PT_NONE &&
+			!chained(then, then->lane[lane].position);
+		break;
+	case CALL_HAND_BACK:
+		tries->of[SENTENCE_HAND_BACK] = true;
+		break;
+	default:
+		break;
+	}
+}
+
+static void lane_tries(struct tries *tries, const struct table *then, const struct table *now,
+		const struct call *call, uint32_t lane)
+{
+	tries->of[SENTENCE_LANE_NUMBER] = lane >= then->lanes;
+	switch (call->name) {
+	case CALL_PASS:
+		tries->of[SENTENCE_PASS] = true;
+		tries->of[SENTENCE_COUNTS] = true;
+		break;
+	case CALL_CLOCK:
+		tries->of[SENTENCE_CLOCK] = true;
+		tries->of[SENTENCE_COUNTS] = true;
+		period_tries(tries, then, now, lane);
+		break;
+	case CALL_ON:
+		tries->of[SENTENCE_ON] = true;
+		break;
+	case CALL_OFF:
+		tries->of[SENTENCE_OFF] = true;
+		tries->of[SENTENCE_CURRENT_TO_NEXT] =
+			then->lane[lane].retired.current.first != PT_NONE;
+		period_tries(tries, then, now, lane);
+		break;
+	default:
+		break;
+	}
+}
+
+static void accepted_tries(struct tries *tries, const struct beside *beside)
+{
+	static struct table then, now;
+	uint32_t lane = (uint32_t)call_argument(&beside->call, KIND_LANE, 0);
+
+	tries->of[SENTENCE_ANSWER] = true;
+	tries->of[SENTENCE_NONE] = true;
+	for (int record = SENTENCE_CONTENTS; record <= SENTENCE_SLOTS; record++)
+		tries->of[record] = beside->tried != NULL;
+	if (beside->call.name == CALL_SETUP) {
+		tries->of[SENTENCE_SET_UP] = true;
+		tries->of[SENTENCE_TOTAL] = true;
+		return;
+	}
+	tries->of[SENTENCE_LEGAL] = true;
+	table_read(&then, beside->before);
+	table_read(&now, beside->memory);
+	table_tries(tries, &then, &beside->call, beside->expected_answer, lane);
+	lane_tries(tries, &then, &now, &beside->call, lane);
+}
+
+static void call_tries(struct tally *tally, struct tries *tries, const struct beside *beside)
+{
+	tries->of[SENTENCE_CALLED] = beside->tried != NULL;
+	tries->of[SENTENCE_LISTING_PROGRAM] = beside->tried == NULL;
+	tries->of[SENTENCE_LISTING_WORDS] = beside->tried == NULL;
+	if (beside->expected.status == PT_SHORT_ANSWER) {
+		tries->of[SENTENCE_SHORT_ANSWER] = true;
+		return;
+	}
+	tries->of[SENTENCE_FIVE_WORDS] = true;
+	tries->of[SENTENCE_WIDTHS] = call_argument(&beside->call, KIND_CODE, 0) > UINT32_MAX;
+	if (beside->words > CONTENTS_WORDS && beside->tried != NULL) {
+		size_t total = total_of(beside->memory);
+
+		tries->of[SENTENCE_PAST_TOTAL] = total != 0 && beside->words > total;
+	}
+	if (beside->expected.status == PT_OK) {
+		tally->accepted[beside->call.name]++;
+		accepted_tries(tries, beside);
+	} else {
+		refused_tries(tally, tries, beside);
+	}
+}
+
+/* ---- what a difference breaks */
+
+/* The records that hold words which differ. */
+static void blame_records(struct tries *broken, const struct beside *beside)
+{
+	static const enum sentence records[BODIES] = {
+		[BODY_GLOBAL] = SENTENCE_HOUSE,
+		[BODY_CABINETS] = SENTENCE_CABINETS,
+		[BODY_LANES] = SENTENCE_LANES,
+		[BODY_SLOTS] = SENTENCE_SLOTS,
+	};
+	struct layout layout = layout_of(beside->memory[CONTENTS_CABINETS],
+			beside->memory[CONTENTS_LANES], beside->memory[CONTENTS_SLOTS]);
+
+	for (uint32_t n = 0; n < layout.total && n < beside->words; n++) {
+		int body = BODIES - 1;
+
+		if (beside->memory[n] == beside->left.memory[n])
+			continue;
+		while (body >= 0 && n < layout.first[body])
+			body--;
+		broken->of[body < 0 ? SENTENCE_CONTENTS : records[body]] = true;
+	}
+}
+
+/* The rules that the call tries: of generations, of the table, and the traps. */
+static void blame_rules(struct tries *broken, const struct tries *tries, const struct beside *beside)
+{
+	uint32_t generation = beside->before[CONTENTS_WORDS + GLOBAL_CURRENT_GENERATION];
+
+	for (int n = 0; n < SENTENCES; n++)
+		if (n == SENTENCE_STEP_2 || n == SENTENCE_CURRENT_TO_NEXT || n >= SENTENCE_TRAP_CHAINED ||
+				(n >= SENTENCE_CABINET_BIT_GOES && n <= SENTENCE_STEP_ENDS))
+			broken->of[n] |= tries->of[n];
+	/* The order of generations, where the plain order is another. */
+	broken->of[SENTENCE_LATER] |= tries->of[SENTENCE_LATER] && generation + 2 < 4;
+}
+
+static void blame_status(struct tries *broken, const struct tries *tries, const struct beside *beside)
+{
+	uint32_t expected = beside->expected.status, status = beside->left.status;
+
+	if (expected == PT_SHORT_ANSWER || status == PT_SHORT_ANSWER) {
+		broken->of[SENTENCE_SHORT_ANSWER] = true;
+	} else if (expected == PT_OK) {
+		broken->of[status == PT_NOT_LEGAL ? SENTENCE_LEGAL : SENTENCE_ANSWER] = true;
+		blame_rules(broken, tries, beside);
+	} else {
+		broken->of[cause_sentence(expected)] = true;
+		for (int n = SENTENCE_LEGAL_CONTENTS; n <= SENTENCE_LEGAL_GLOBAL_GENERATION; n++)
+			broken->of[n] |= tries->of[n];
+		broken->of[SENTENCE_CAUSE_LOWEST] |= status != PT_OK && status <= LAST_CAUSE &&
+			tries->of[SENTENCE_CAUSE_LOWEST];
+	}
+}
+
+static void blame(struct tries *broken, const struct tries *tries, const struct beside *beside)
+{
+	switch (beside->difference) {
+	case SAME: break;
+	case DIFFERS_STATUS: blame_status(broken, tries, beside); break;
+	case DIFFERS_RETURNED: broken->of[SENTENCE_FIVE_WORDS] = true; break;
+	case DIFFERS_PAST_ANSWER:
+		broken->of[beside->expected.status == PT_SHORT_ANSWER ? SENTENCE_SHORT_ANSWER :
+			SENTENCE_FIVE_WORDS] = true;
+		break;
+	case DIFFERS_REFUSED: broken->of[SENTENCE_CAUSE_RETURNED] = true; break;
+	case DIFFERS_PAST_TOTAL: broken->of[SENTENCE_PAST_TOTAL] = true; break;
+	case DIFFERS_OUTSIDE: broken->of[SENTENCE_CALLED] = true; break;
+	case DIFFERS_ANSWER:
+		broken->of[SENTENCE_ANSWER] = true;
+		blame_rules(broken, tries, beside);
+		break;
+	case DIFFERS_WORDS:
+		blame_records(broken, beside);
+		blame_rules(broken, tries, beside);
+		break;
+	case DIFFERS_NOT_LEGAL: broken->of[SENTENCE_LEGAL] = true; break;
+	default: broken->of[SENTENCE_LEDGER_DEMAND] = true; break;
+	}
+}
+
+static void tally_add(struct tally *tally, struct tries *tries, const struct tries *broken)
+{
+	tally->calls++;
+	for (int n = 0; n < SENTENCES; n++) {
+		tally->tried[n] += tries->of[n] || broken->of[n] ? 1u : 0u;
+		tally->broken[n] += broken->of[n] ? 1u : 0u;
+	}
+}
+
+void tally_call(struct tally *tally, const struct beside *beside)
+{
+	struct tries tries = { { false } }, broken = { { false } };
+
+	call_tries(tally, &tries, beside);
+	blame(&broken, &tries, beside);
+	tally_add(tally, &tries, &broken);
+}
+
+/* ---- the ledger's */
+
+void tally_judged(struct tally *tally, const struct call *call, const uint32_t *answer, bool fault)
+{
+	struct tries tries = { { false } }, broken = { { false } };
+	bool answered = call->name == CALL_STEP && answer[1] != PT_GOING;
+
+	tries.of[SENTENCE_LEDGER_FED] = true;
+	tries.of[SENTENCE_LEDGER_DEMAND] = true;
+	broken.of[SENTENCE_LEDGER_DEMAND] = fault;
+	if (answer[0] != PT_OK) {
+		tries.of[SENTENCE_LEDGER_REFUSED] = true;
+		broken.of[SENTENCE_LEDGER_REFUSED] = fault;
+		tally_add(tally, &tries, &broken);
+		return;
+	}
+	switch (call->name) {
+	case CALL_ADD: tries.of[SENTENCE_LEDGER_ADD] = true; break;
+	case CALL_REPLACE:
+	case CALL_DELETE:
+		tries.of[SENTENCE_LEDGER_REPLACE] = true;
+		tries.of[SENTENCE_LEDGER_OUT] = true;
+		break;
+	case CALL_BEGIN:
+	case CALL_END: tries.of[SENTENCE_LEDGER_SECTIONS] = true; break;
+	case CALL_START: tries.of[SENTENCE_LEDGER_START] = true; break;
+	case CALL_STEP:
+		tries.of[SENTENCE_LEDGER_STEP] = answered;
+		tries.of[SENTENCE_LEDGER_SEARCH] = answered;
+		tries.of[SENTENCE_LEDGER_INSTANT] = answered;
+		break;
+	case CALL_HAND_BACK: tries.of[SENTENCE_LEDGER_BACK] = true; break;
+	default: tries.of[SENTENCE_LEDGER_OTHERS] = true; break;
+	}
+	for (int n = SENTENCE_LEDGER_ADD; n <= SENTENCE_LEDGER_INSTANT; n++)
+		broken.of[n] = fault && tries.of[n];
+	tally_add(tally, &tries, &broken);
+}
+
+/* ---- the report */
+
+static void print_line(uint64_t tried, uint64_t broken, const char *text)
+{
+	if (tried == 0)
+		printf("%13s  not tried      %s\n", "-", text);
+	else if (broken == 0)
+		printf("%13" PRIu64 "  held           %s\n", tried, text);
+	else
+		printf("%13" PRIu64 "  DIFFERS %6" PRIu64 " %s\n", tried, broken, text);
+}
+
+bool tally_print(const struct tally *tally)
+{
+	bool held = true;
+
+	printf("        tried\n");
+#define SECTION(text) printf("%s\n", text);
+#define SENTENCE(NAME, text) \
+	print_line(tally->tried[SENTENCE_##NAME], tally->broken[SENTENCE_##NAME], text); \
+	held = held && tally->broken[SENTENCE_##NAME] == 0;
+#include "sentences.def"
+	return held;
+}

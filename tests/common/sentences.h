@@ -1,0 +1,41 @@
+/*
+ * sentences.h - which sentences of document 01 a call tries, and which of them a difference
+ * breaks. What is tried is read off the memory before and after the call as the judge left
+ * it; the engine that is tried is not asked.
+ */
+#ifndef COMMON_SENTENCES_H
+#define COMMON_SENTENCES_H
+
+#include <stdbool.h>
+#include <stdint.h>
+
+#include "beside.h"
+
+enum sentence {
+#define SECTION(text)
+#define SENTENCE(NAME, text) SENTENCE_##NAME,
+#include "sentences.def"
+	SENTENCES
+};
+
+/* How often each was tried, and how often it did not hold. */
+struct tally {
+	uint64_t tried[SENTENCES];
+	uint64_t broken[SENTENCES];
+	uint64_t calls;
+	uint64_t accepted[CALLS];
+	uint64_t refused[CALLS][LAST_CAUSE + 1];
+	/* how often a cause was answered while another of the call's applied as well */
+	uint64_t before[CALLS][LAST_CAUSE + 1][LAST_CAUSE + 1];
+};
+
+/* Adds the last call of a run that has a judge, and its difference. */
+void tally_call(struct tally *tally, const struct beside *beside);
+
+/* Adds the last call of a list that is judged by the ledger alone. */
+void tally_judged(struct tally *tally, const struct call *call, const uint32_t *answer, bool fault);
+
+/* The report: a line a sentence. Returns whether all that were tried held. */
+bool tally_print(const struct tally *tally);
+
+#endif /* COMMON_SENTENCES_H */

@@ -1,0 +1,139 @@
+/*
+ * words.c - the records of a memory, field by field, with document 01's names.
+ */
+#include "words.h"
+
+#include <inttypes.h>
+#include <stdio.h>
+
+#include "layout.h"
+#include "table.h"
+
+/* A field of a record: where it begins, and what its words are. */
+struct field {
+	uint32_t first;
+	const char *name;
+	const char *const *parts; /* of its words; none: their number */
+};
+
+static const char *const ends[] = { "first", "last" };
+static const char *const halves[] = { "low word", "high word" };
+static const char *const kinds[] = {
+	"kind 0 idle", "kind 1 bottle dropped", "kind 2 door open", "kind 3 changed over"
+};
+static const char *const bodies[] = {
+	"first word of the house", "length of the house", "first word of the cabinets",
+	"length of the cabinets", "first word of the lanes", "length of the lanes",
+	"first word of the slots", "length of the slots",
+};
+
+/* Each list ends at the record's length. */
+static const struct field contents[] = {
+	{ CONTENTS_VERSION, "version", NULL },
+	{ CONTENTS_CABINETS, "cabinets", NULL },
+	{ CONTENTS_LANES, "lanes per cabinet", NULL },
+	{ CONTENTS_SLOTS, "slots", NULL },
+	{ CONTENTS_BODIES, "bodies", bodies },
+	{ CONTENTS_WORDS, NULL, NULL },
+};
+
+static const struct field house[] = {
+	{ GLOBAL_CURRENT_GENERATION, "current generation", NULL },
+	{ GLOBAL_LARGEST_GENERATION, "largest generation requested", NULL },
+	{ GLOBAL_PENDING, "cabinet mask", NULL },
+	{ GLOBAL_CHAINS, "chain head", NULL },
+	{ GLOBAL_FREE, "free line", ends },
+	{ GLOBAL_NEXT, "next line", ends },
+	{ GLOBAL_CURRENT, "current line", ends },
+	{ GLOBAL_DONE, "done line", ends },
+	{ GLOBAL_GENERATION, "house generation", NULL },
+	{ GLOBAL_WORDS, NULL, NULL },
+};
+
+static const struct field cabinet[] = {
+	{ CABINET_PENDING, "lane mask", NULL },
+	{ CABINET_WORDS, NULL, NULL },
+};
+
+static const struct field lane[] = {
+	{ LANE_FLAGS, "flags", NULL },
+	{ LANE_COUNTS, "pass count", kinds },
+	{ LANE_SNAPSHOT, "snapshot count", kinds },
+	{ LANE_GENERATION, "generation", NULL },
+	{ LANE_NEXT, "next line", ends },
+	{ LANE_CURRENT, "current line", ends },
+	{ LANE_DONE, "done line", ends },
+	{ LANE_CODE, "lookup code", halves },
+	{ LANE_POSITION, "lookup position", NULL },
+	{ LANE_WORDS, NULL, NULL },
+};
+
+static const struct field slot[] = {
+	{ SLOT_CODE, "code", halves },
+	{ SLOT_DEPOSIT, "deposit", NULL },
+	{ SLOT_MATERIAL, "material", NULL },
+	{ SLOT_CHAIN_LINK, "chain link", NULL },
+	{ SLOT_QUEUE_LINK, "line link", NULL },
+	{ SLOT_WORDS, NULL, NULL },
+};
+
+/* The name of word @at of a record that is called @record. */
+static void field_name(const struct field *field, const char *record, uint32_t at,
+		char text[WORD_TEXT])
+{
+	uint32_t part;
+
+	while (at >= field[1].first)
+		field++;
+	part = at - field->first;
+	if (field->parts != NULL)
+		snprintf(text, WORD_TEXT, "%s, %s, %s", record, field->name, field->parts[part]);
+	else if (field[1].first - field->first > 1)
+		snprintf(text, WORD_TEXT, "%s, %s %" PRIu32, record, field->name, part);
+	else
+		snprintf(text, WORD_TEXT, "%s, %s", record, field->name);
+}
+
+void word_name(const uint32_t *memory, size_t address, char text[WORD_TEXT])
+{
+	static const struct {
+		const char *record;
+		const struct field *fields;
+		uint32_t words;
+	} body[BODIES] = {
+		[BODY_GLOBAL] = { "house", house, GLOBAL_WORDS },
+		[BODY_CABINETS] = { "cabinet", cabinet, CABINET_WORDS },
+		[BODY_LANES] = { "lane", lane, LANE_WORDS },
+		[BODY_SLOTS] = { "slot", slot, SLOT_WORDS },
+	};
+	struct layout layout = { .total = 0 };
+	char record[WORD_TEXT / 2] = "house";
+	int n = BODIES - 1;
+
+	if (sizes_in_range(memory[CONTENTS_CABINETS], memory[CONTENTS_LANES], memory[CONTENTS_SLOTS]))
+		layout = layout_of(memory[CONTENTS_CABINETS], memory[CONTENTS_LANES],
+				memory[CONTENTS_SLOTS]);
+	if (address >= layout.total) {
+		snprintf(text, WORD_TEXT, layout.total == 0 ? "word %zu" : "word %zu, past the total",
+			address);
+		return;
+	}
+	if (address < CONTENTS_WORDS) {
+		field_name(contents, "contents", (uint32_t)address, text);
+		return;
+	}
+	while (address < layout.first[n])
+		n--;
+	address -= layout.first[n];
+	if (n != BODY_GLOBAL)
+		snprintf(record, sizeof record, "%s %zu", body[n].record, address / body[n].words);
+	field_name(body[n].fields, record, (uint32_t)(address % body[n].words), text);
+}
+
+void word_value(uint32_t value, char text[WORD_TEXT])
+{
+	if (value == PT_NONE)
+		snprintf(text, WORD_TEXT, "none");
+	else
+		snprintf(text, WORD_TEXT, "%" PRIu32, value);
+}

@@ -1,0 +1,366 @@
+/*
+ * parts.c - the lists of a trial: document 01's cases, every cause with its neighbours,
+ * damaged memories, lengths at the edge of a page, and lists that are drawn.
+ */
+#include "trial.h"
+
+#include <inttypes.h>
+#include <stdio.h>
+#include <stdlib.h>
+#include <string.h>
+
+#include "causes.h"
+#include "codes.h"
+#include "damages.h"
+#include "draw.h"
+#include "layout.h"
+
+#define COUNT(list) (uint32_t)(sizeof(list) / sizeof((list)[0]))
+
+/* ---- the listings and the cases that document 01 marks */
+
+enum { CASE_STEPS = 20 };
+
+/* Cases of document 01, "A listing, and edges"; the answers are the judge's. */
+static const char *const stars[][CASE_STEPS] = {
+	{ "lend 7455", "setup 8 8 1024", "lend 7456", "setup 8 8 1024", "awaited" },
+	{ "setup 1 1 0", "setup 1 1 1025", "setup 8 8 1024" },
+	{ "setup 1 1 2", "add 0 9999999999999 1 1", "add 0 10000000000000 1 1", "del 0 9999999999999" },
+	{ "setup 1 2 2", "clock 2", "clock 1" },
+	{ "setup 1 1 2", "poke 12 4294967295", "poke 13 4294967294", "add 0 17 1 1", "del 0 17",
+		"clock 0", "pass 0 0", "clock 0", "back 0", "add 0 17 1 1", "del 0 17", "clock 0" },
+	{ "setup 1 1 1", "add 0 17 1 1", "rep 0 24 1 1" },
+	{ "setup 1 1 4", "add 0 192 10 1", "add 0 0 20 2", "begin 0", "start 0 192", "del 0 0",
+		"step 0", "step 0" },
+};
+
+/* The files of tests/listing that are lists of calls. */
+static const char *const listings[] = { "document-01", "causes" };
+
+static void play_listing(const char *name)
+{
+	char path[400], line[STEP_TEXT];
+	FILE *file;
+
+	snprintf(path, sizeof path, "%s/%s.in", trial.listings, name);
+	file = fopen(path, "r");
+	if (file == NULL) {
+		perror(path);
+		exit(2);
+	}
+	while (fgets(line, sizeof line, file) != NULL) {
+		line[strcspn(line, "\n")] = '\0';
+		player_line(line);
+	}
+	fclose(file);
+}
+
+static bool line_is_call(const char *line)
+{
+	struct step step;
+
+	return step_read(line, &step) && step.kind == STEP_CALL;
+}
+
+/* What a program cannot be told is left out of its lists. */
+static void play_star(const char *const *lines)
+{
+	for (uint32_t n = 0; n < CASE_STEPS && lines[n] != NULL; n++)
+		if (trial.program == NULL || line_is_call(lines[n]))
+			player_line(lines[n]);
+}
+
+static uint32_t case_lists(void)
+{
+	return COUNT(listings) + COUNT(stars) + (trial.program != NULL ? 1 : 0);
+}
+
+/* The sentence counts as broken until the list has come to its end. */
+static void play_case(uint32_t n)
+{
+	enum sentence sentence = n == 0 ? SENTENCE_LISTING : SENTENCE_STARS;
+
+	if (n == COUNT(listings) + COUNT(stars)) {
+		program_text("bad-lines");
+		return;
+	}
+	shared->tally.tried[sentence]++;
+	shared->tally.broken[sentence]++;
+	player_start(false);
+	if (n < COUNT(listings))
+		play_listing(listings[n]);
+	else
+		play_star(stars[n - COUNT(listings)]);
+	player_end();
+	shared->tally.broken[sentence]--;
+}
+
+/* ---- every cause with each of its neighbours */
+
+/* States of a table of two lanes and three slots, one of each group; lane 0 is asked. */
+static const char *const done_states[][CASE_STEPS] = {
+	{ NULL },
+	{ "add 0 31 1 1", "del 0 31", "clock 0", "pass 0 0", "clock 0", "clock 1", "pass 1 0",
+		"clock 1", "clock 0" }, /* lane 0's done line has a slot */
+	{ "add 1 31 1 1", "del 1 31", "off 1", "clock 0", "pass 0 0", "clock 0", "on 1" },
+};
+static const char *const record_states[][CASE_STEPS] = {
+	{ NULL },
+	{ "add 1 17 1 1" },
+	{ "add 1 17 1 1", "add 1 24 1 1", "add 1 48 1 1" },
+	{ "add 1 17 1 1", "add 1 24 1 1", "add 1 48 1 1", "del 1 17" },
+};
+static const char *const lane_states[][CASE_STEPS] = {
+	{ NULL },
+	{ "begin 0" },
+	{ "begin 0", "start 0 17" },
+	{ "off 0" },
+	{ "off 1" },
+	{ "off 1", "begin 0", "start 0 17" },
+};
+
+static uint32_t cause_lists(void)
+{
+	return COUNT(done_states) * COUNT(record_states) * COUNT(lane_states);
+}
+
+/* Values for an argument: in range, at its end, and past it. */
+static uint32_t choices(enum kind kind, uint64_t choice[6])
+{
+	static const struct {
+		uint32_t count;
+		uint64_t value[6];
+	} of[] = {
+		[KIND_CABINETS] = { 4, { 0, 1, PT_MAX_CABINETS, PT_MAX_CABINETS + 1 } },
+		[KIND_LANES] = { 3, { 0, 2, PT_MAX_LANES + 1 } },
+		[KIND_SLOTS] = { 4, { 0, 3, PT_MAX_SLOTS, PT_MAX_SLOTS + 1 } },
+		[KIND_LANE] = { 4, { 0, 1, 2, PT_NONE } },
+		[KIND_CODE] = { 4, { 17, 79, PT_MAX_CODE + 1, UINT64_MAX } },
+		[KIND_DEPOSIT] = { 3, { 0, PT_MAX_DEPOSIT + 1, PT_NONE } },
+		[KIND_MATERIAL] = { 3, { 0, PT_MAX_MATERIAL + 1, PT_NONE } },
+		[KIND_KIND] = { 3, { 0, PT_MAX_KIND + 1, PT_NONE } },
+	};
+
+	memcpy(choice, of[kind].value, sizeof of[kind].value);
+	return of[kind].count;
+}
+
+/* Argument by argument; makes the call if some cause applies, so that the state stays. */
+static void play_refused(struct call *call, uint32_t argument)
+{
+	uint64_t choice[6];
+	uint32_t count;
+
+	if (argument == call_arguments(call->name)) {
+		if (causes_of(player.beside.memory, player.beside.words, call) != 0)
+			player_call(call);
+		return;
+	}
+	count = choices(call_forms[call->name].kind[argument], choice);
+	for (uint32_t n = 0; n < count; n++) {
+		call->argument[argument] = choice[n];
+		play_refused(call, argument + 1);
+	}
+}
+
+static void play_all_refused(void)
+{
+	for (int name = 0; name < CALLS; name++) {
+		struct call call = { .name = (enum call_name)name };
+
+		play_refused(&call, 0);
+	}
+}
+
+static void play_lend(uint32_t words)
+{
+	player_step(&(struct step){ .kind = STEP_LEND, .number = words });
+}
+
+static void play_causes(uint32_t n)
+{
+	uint32_t done = n % COUNT(done_states), rest = n / COUNT(done_states);
+
+	player_start(false);
+	if (n == 0)
+		play_all_refused(); /* a memory that is not set up */
+	player_line("setup 1 2 3");
+	play_star(done_states[done]);
+	play_star(record_states[rest % COUNT(record_states)]);
+	play_star(lane_states[rest / COUNT(record_states)]);
+	play_all_refused();
+	if (trial.program == NULL) {
+		uint32_t words = (uint32_t)player.beside.words;
+
+		play_lend((uint32_t)PT_WORDS(1, 2, 3) - 1);
+		play_all_refused();
+		play_lend(0);
+		play_all_refused();
+		play_lend(words);
+	}
+	player_end();
+}
+
+/* ---- damaged memories */
+
+enum { WORDS_A_LIST = 4, VALUES_A_WORD = 6 };
+
+static const struct list damaged_list = {
+	DAMAGES_CABINETS, DAMAGES_LANES, DAMAGES_SLOTS, 8, 0, 1
+};
+
+static uint32_t damaged_words(void)
+{
+	return (uint32_t)PT_WORDS(DAMAGES_CABINETS, DAMAGES_LANES, DAMAGES_SLOTS);
+}
+
+static uint32_t damage_lists(void)
+{
+	return (uint32_t)damage_count + (damaged_words() + WORDS_A_LIST - 1) / WORDS_A_LIST;
+}
+
+static void play_rich(size_t calls)
+{
+	for (size_t n = 0; n < calls; n++)
+		player_line(rich_calls[n]);
+}
+
+static void play_poke(uint32_t at, uint32_t value)
+{
+	player_step(&(struct step){ .kind = STEP_POKE, .number = at, .value = value });
+}
+
+/* One sentence of legality at a time: each call on the memory, the set-up last. */
+static void play_sentence(const struct damage *damage, uint64_t *seed)
+{
+	play_rich(damage->base == BASE_RICH ? rich_count : 1);
+	for (int n = 0; n < POKES; n++)
+		if (damage->poke[n].address != 0 || damage->poke[n].value != 0)
+			play_poke(damage->poke[n].address, damage->poke[n].value);
+	for (int name = CALL_SETUP + 1; name < CALLS; name++) {
+		struct call call = draw_arguments(seed, &damaged_list, (enum call_name)name);
+
+		player_call(&call);
+	}
+	player_line(rich_calls[0]);
+}
+
+/* Some words of the rich table, each changed to some values. */
+static void play_words(uint32_t first, uint64_t *seed)
+{
+	play_rich(rich_count);
+	for (uint32_t at = first; at < first + WORDS_A_LIST && at < damaged_words(); at++)
+		for (uint32_t n = 0; n < VALUES_A_WORD; n++) {
+			struct call call = { CALL_AWAITED, { 0 } };
+
+			play_poke(at, draw_word(seed, player.beside.memory, damaged_words(), at));
+			player_call(&call);
+			player_step(&(struct step){ .kind = STEP_MEND });
+		}
+}
+
+static void play_damages(uint32_t n)
+{
+	uint64_t seed = trial.seed * 1000 + n;
+
+	player_start(false);
+	if (n < damage_count)
+		play_sentence(&damages[n], &seed);
+	else
+		play_words((n - (uint32_t)damage_count) * WORDS_A_LIST, &seed);
+}
+
+/* ---- memories and answers of every length, at both edges of a page */
+
+static const uint32_t edge_sizes[][3] = { { 1, 1, 1 }, { 1, 2, 3 }, { 2, 2, 4 }, { 8, 8, 1024 } };
+
+static uint32_t edge_lists(void)
+{
+	return 2 * COUNT(edge_sizes);
+}
+
+/* Each call with so many words lent; what is accepted changes the table, which is fine. */
+static void play_lengths(const struct list *list, enum step_kind kind, uint32_t from, uint32_t to,
+		uint64_t *seed)
+{
+	for (uint32_t words = from; words <= to; words++) {
+		player_step(&(struct step){ .kind = kind, .number = words });
+		for (int name = CALL_SETUP + 1; name < CALLS; name++) {
+			struct call call = draw_arguments(seed, list, (enum call_name)name);
+
+			player_call(&call);
+		}
+	}
+}
+
+static void play_edges(uint32_t n)
+{
+	const uint32_t *size = edge_sizes[n / 2];
+	const struct list list = { size[0], size[1], size[2], 6, 0, 1 };
+	const struct call setup = { CALL_SETUP, { size[0], size[1], size[2] } };
+	uint32_t total = (uint32_t)PT_WORDS(size[0], size[1], size[2]);
+	uint64_t seed = trial.seed * 1000 + n;
+
+	player_start(false);
+	player.beside.at_start = n % 2 == 1;
+	for (uint32_t words = total > 200 ? total - 2 : 0; words <= total + 2; words++) {
+		play_lend(words);
+		player_call(&setup);
+	}
+	play_lend(total);
+	play_lengths(&list, STEP_ANSWER, 0, PT_ANSWER_WORDS + 3, &seed);
+	play_lengths(&list, STEP_LEND, total > 200 ? total - 4 : 0, total + 2, &seed);
+	play_lengths(&list, STEP_LEND, 0, 30, &seed);
+}
+
+/* ---- lists that are drawn */
+
+enum { DRAWN_CALLS = 250, DRAWN_LISTS_OF_A_PROGRAM = 12 };
+
+static void play_drawn_list(const struct list *list, uint64_t seed, bool calls_only)
+{
+	static struct drawer drawer;
+	uint32_t calls = 0;
+
+	drawer_start(&drawer, list, seed, calls_only);
+	while (calls < DRAWN_CALLS) {
+		struct step step = drawer_next(&drawer, player.beside.memory, player.beside.words);
+
+		player_step(&step);
+		calls += step.kind == STEP_CALL ? 1u : 0u;
+	}
+}
+
+/* A program is run for several lists at once. */
+static void play_drawn(uint32_t n, bool by_ledger, bool calls_only)
+{
+	uint64_t seed = (trial.seed << 32) + n;
+	uint32_t lists = trial.program != NULL ? DRAWN_LISTS_OF_A_PROGRAM : 1;
+
+	player_start(by_ledger);
+	player.beside.at_start = n % 2 == 1;
+	for (uint32_t m = 0; m < lists; m++)
+		play_drawn_list(&draw_lists[(n * lists + m) % draw_lists_count], seed + m * 7919, calls_only);
+	player_end();
+}
+
+static void play_random(uint32_t n)
+{
+	play_drawn(n, false, trial.program != NULL || n / draw_lists_count % 3 == 2);
+}
+
+static void play_judged(uint32_t n)
+{
+	play_drawn(n, true, true);
+}
+
+const struct part parts[] = {
+	{ "the listings and the cases of document 01", true, false, case_lists, play_case, 0 },
+	{ "every cause with each of its neighbours", true, false, cause_lists, play_causes, 0 },
+	{ "damaged memories, a sentence of legality at a time", false, false, damage_lists, play_damages, 0 },
+	{ "every length at the edge of a page", false, false, edge_lists, play_edges, 0 },
+	{ "drawn lists, on a dozen sizes", true, false, NULL, play_random, 0.75 },
+	{ "drawn lists, judged by the ledger of demand 3", true, true, NULL, play_judged, 0.25 },
+};
+
+const uint32_t part_count = COUNT(parts);

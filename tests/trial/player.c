@@ -1,0 +1,77 @@
+/*
+ * player.c - a list, step by step: the engine beside the judge, or before the ledger.
+ */
+#define _GNU_SOURCE
+#include "trial.h"
+
+#include <stdio.h>
+#include <stdlib.h>
+#include <string.h>
+#include <unistd.h>
+
+struct player player;
+
+void player_start(bool by_ledger)
+{
+	player.record = &shared->record;
+	player.by_ledger = by_ledger;
+	record_start(player.record);
+	beside_start(&player.beside, trial.program != NULL ? NULL : trial.engine,
+		by_ledger && trial.program == NULL ? NULL : &judge);
+	player.beside.all_lent = trial.program != NULL;
+}
+
+static void count(void)
+{
+	if (player.tally == NULL)
+		return;
+	if (player.by_ledger && trial.program == NULL)
+		tally_judged(player.tally, &player.beside.call, player.beside.left.answer,
+			player.record->difference != SAME);
+	else if (!player.by_ledger)
+		tally_call(player.tally, &player.beside);
+}
+
+void player_step(const struct step *step)
+{
+	enum difference difference;
+
+	shared->ticks++;
+	difference = record_step(player.record, &player.beside, step);
+	shared->ticks++;
+	if (step->kind != STEP_CALL)
+		return;
+	count();
+	if (difference != SAME)
+		_exit(EXIT_DONE + END_DIFFERS);
+}
+
+void player_line(const char *line)
+{
+	struct step step;
+
+	if (!step_read(line, &step)) {
+		fprintf(stderr, "trial: no step: %s\n", line);
+		exit(2);
+	}
+	player_step(&step);
+}
+
+void player_call(const struct call *call)
+{
+	player_step(&(struct step){ .kind = STEP_CALL, .call = *call });
+}
+
+void player_end(void)
+{
+	if (trial.program != NULL)
+		program_play(&player);
+}
+
+void player_steps(const struct steps *steps, bool by_ledger)
+{
+	player_start(by_ledger);
+	for (uint32_t n = 0; n < steps->count; n++)
+		player_step(&steps->step[n]);
+	player_end();
+}
