@@ -5,7 +5,7 @@ use mathlib.Core.Logic.{_⊎_}
 use mathlib.Core.Bool.{Bool, true, false}
 use mathlib.Core.List.{List, [], _++_, map}
 use lib.ListN.{length, getD, take}
-use Rattle.model.specs.Word.{none, up, down, later}
+use Rattle.model.specs.Word.{wordLimit, none, up, down, later}
 use Rattle.model.specs.Lists.{isEmpty, last, concat, count, distinct}
 use Rattle.model.specs.State.{Sizes, laneCount, isRunning, isHeld, Queues, Lane, State}
 use Rattle.model.specs.Layout.{maxCabinets, maxPlaces, maxSlots, kinds, chainCount, contentsLength, lastOffset, currentOffset, doneOffset, cabinetMaskAt, headsAt, freeAt, globalQueuesAt, lookupBit, snapshotBit, flagCount, flagsAt, snapshotAt, queuesAt, lookupAt, positionAt, depositAt, materialAt, chainLinkAt, queueLinkAt, laneAddress, slotAddress, total}
@@ -34,6 +34,10 @@ pub record ContentsFit (m : List ℕ) : Type 0 where
   pub long : total (sizes m) ≤ length m
 
 -- ---- the facts of a memory m that reads as the state s
+
+-- all below t are words
+abbrev pub WordsTo : ℕ → List ℕ → Type 0
+WordsTo t m = (i : ℕ) → i < t → at m i < wordLimit
 
 -- first and last of a queue, which stand at k among these words, are slots or none
 pub record EndsInRange (slots : ℕ) (word : ℕ → ℕ) (k : ℕ) : Type 0 where

@@ -1,5 +1,5 @@
 -- The lanes of a legal memory are as a well-formed state has them.
-use Prim.Native.Nat.{ℕ, zero, suc, _+_, _<_}
+use Prim.Native.Nat.{ℕ, zero, suc, _+_, _≤_, _<_}
 use mathlib.Core.Path.{_≡_, refl, sym, ap, _∙_}
 use mathlib.Core.Bool.{Bool, true, false}
 use mathlib.Core.List.{List}
@@ -8,16 +8,16 @@ use native.Mathlib.Decide.{decLt}
 use lib.ListN.{getD, List·getD-eq-default}
 use Rattle.model.specs.Lists.{isEmpty}
 use Rattle.model.specs.State.{Sizes, laneCount, isRunning, isHeld, Lane, Engine, Table, State}
-use Rattle.model.specs.Layout.{lookupBit, snapshotBit, quiescentAt, snapshotAt, lookupAt, positionAt, countLimit, laneAddress}
+use Rattle.model.specs.Layout.{lookupBit, snapshotBit, quiescentAt, snapshotAt, lookupAt, positionAt, countLimit, kinds, laneLength, laneAddress, total}
 use Rattle.model.specs.Engine.{freshLane, laneAt}
-use Rattle.model.specs.Memory.{Words, at, wide, flag, sizes, readLane, readLookup, readSnapshot, readCounts, state}
+use Rattle.model.specs.Memory.{at, wide, flag, sizes, readLane, readLookup, readSnapshot, readCounts, state}
 use Rattle.representation.specs.WellFormed.{LaneFits, Counts, LookupFits, SnapshotFits, Off}
 use Rattle.representation.specs.Ranges.{code-fits}
-use Rattle.representation.specs.Facts.{Facts, Legal}
+use Rattle.representation.specs.Facts.{WordsTo, Facts, Legal}
 use Rattle.representation.specs.Reading.{state-lanes, state-lane}
 use Rattle.representation.specs.Fresh.{fresh-fits}
 
-module _ (m : List ℕ) (l : Legal m) (word : Words m) where
+module _ (m : List ℕ) (l : Legal m) (word : WordsTo (total (sizes m)) m) where
   abbrev s : State
   s = state m
 
@@ -42,15 +42,19 @@ module _ (m : List ℕ) (l : Legal m) (word : Words m) where
         | no b ↦ rw (List·getD-eq-default (e .lanes) freshLane {n = i} (omega (arith, state-lanes m))) d
       ]
 
-  counts-fit : (a : ℕ) → Counts (readCounts m a)
-  counts-fit a = record { four = refl; words = words }
+  -- counts that stand at k in lane i's record
+  counts-fit : (i : ℕ) → i < laneCount z → (k : ℕ) → k + kinds ≤ laneLength → Counts (readCounts m (laneAddress z i + k))
+  counts-fit i b k h = record { four = refl; words = words }
     where
-      words : (k : ℕ) → getD (readCounts m a) k 0 < countLimit
-      words zero = word _
-      words (suc zero) = word _
-      words (suc (suc zero)) = word _
-      words (suc (suc (suc zero))) = word _
-      words (suc (suc (suc (suc k)))) = omega arith
+      a : ℕ
+      a = laneAddress z i + k
+
+      words : (j : ℕ) → getD (readCounts m (laneAddress z i + k)) j 0 < countLimit
+      words zero = word a (omega arith)
+      words (suc zero) = word (a + 1) (omega arith)
+      words (suc (suc zero)) = word (a + 2) (omega arith)
+      words (suc (suc (suc zero))) = word (a + 3) (omega arith)
+      words (suc (suc (suc (suc j)))) = omega arith
 
   lookup-fits : (i : ℕ) → LookupFits (z .slots) (laneAt e i .reading) (laneAt e i .lookup)
   unfolding readLane isRunning
@@ -69,12 +73,12 @@ module _ (m : List ℕ) (l : Legal m) (word : Words m) where
   snapshot-fits : (i : ℕ) → SnapshotFits (laneAt e i .pending) (laneAt e i .snapshot)
   unfolding readLane isHeld
   snapshot-fits = over-lanes (λ (l : Lane). SnapshotFits (l .pending) (l .snapshot)) tt (λ i b q.
-      go i (flag snapshotBit (at m (laneAddress z i))) (readLane m i .pending)
+      go i b (flag snapshotBit (at m (laneAddress z i))) (readLane m i .pending)
       (λ h. sym (ap (λ (l : Lane). l .pending) q) ∙ f .snapshots i (ap (λ (l : Lane). isHeld (l .snapshot)) q ∙ h)))
     where
-      go : (i : ℕ) (c p : Bool) → (isHeld (readSnapshot m (laneAddress z i + snapshotAt) c) ≡ true → p ≡ true) → SnapshotFits p (readSnapshot m (laneAddress z i + snapshotAt) c)
-      go i false p h = tt
-      go i true p h = (h refl, counts-fit (laneAddress z i + snapshotAt))
+      go : (i : ℕ) → i < laneCount z → (c p : Bool) → (isHeld (readSnapshot m (laneAddress z i + snapshotAt) c) ≡ true → p ≡ true) → SnapshotFits p (readSnapshot m (laneAddress z i + snapshotAt) c)
+      go i b false p h = tt
+      go i b true p h = (h refl, counts-fit i b snapshotAt (omega arith))
 
   off-of : (i : ℕ) → laneAt e i .online ≡ false → Off (laneAt e i)
   unfolding isEmpty
@@ -89,7 +93,7 @@ module _ (m : List ℕ) (l : Legal m) (word : Words m) where
   pub lane-fits : (i : ℕ) → LaneFits (z .slots) (laneAt e i)
   unfolding readLane
   lane-fits i = record {
-    counts = over-lanes (λ (l : Lane). Counts (l .quiescent)) (fresh-fits (z .slots) .counts) (λ i b q. counts-fit (laneAddress z i + quiescentAt)) i;
+    counts = over-lanes (λ (l : Lane). Counts (l .quiescent)) (fresh-fits (z .slots) .counts) (λ i b q. counts-fit i b quiescentAt (omega arith)) i;
     lookup = lookup-fits i;
     snapshot = snapshot-fits i;
     off = off-of i;

@@ -12,7 +12,7 @@ use Rattle.model.specs.Lists.{concat, count, member}
 use Rattle.model.specs.State.{Sizes, Engine, Table, State}
 use Rattle.model.specs.Layout.{chainCount, chainLinkAt}
 use Rattle.model.specs.Table.{blank, productAt}
-use Rattle.model.specs.Memory.{Words, at, sizes, allQueues, slotWord, readProduct, state}
+use Rattle.model.specs.Memory.{at, sizes, allQueues, slotWord, readProduct, state}
 use Rattle.model.specs.Legal.{codeOf}
 use Rattle.laws.specs.Counts.{count-concat, member-true, member-false}
 use Rattle.laws.specs.Repeats.{distinct-map}
@@ -24,7 +24,7 @@ use Rattle.representation.specs.Reading.{state-chains, state-products, s
 use Rattle.representation.specs.Walked.{stands-once, stands-below}
 use Rattle.representation.specs.Standing.{count-queues}
 
-module _ (m : List ℕ) (l : Legal m) (word : Words m) where
+module _ (m : List ℕ) (l : Legal m) where
   abbrev s : State
   s = state m
 

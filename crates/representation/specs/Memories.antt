@@ -13,8 +13,8 @@ use Rattle.model.specs.Legal.{legal}
 use Rattle.model.specs.Calls.{Call, set-up, on-state, sized, stored, refusalOf, replyOf, leftOf, reply, left, leftAll}
 use Rattle.representation.specs.Passed.{sizes-performed, sizes-next}
 use Rattle.representation.specs.Writes.{length-words}
-use Rattle.representation.specs.Round.{ready, legal-wellFormed, words-state, state-words}
-use Rattle.representation.specs.MemoryCalls.{left-illegal, refusal-legal, reply-legal, left-legal, next-legal, next-words, left-setUp, setUp-legal, setUp-words}
+use Rattle.representation.specs.Round.{ready, legal-wellFormed, words-state, state-words, Agree, legal-past, one-to-one}
+use Rattle.representation.specs.MemoryCalls.{reply-illegal, left-illegal, refusal-legal, reply-legal, left-legal, next-legal, next-words, left-setUp, setUp-legal, setUp-words}
 
 -- ---- every call
 
@@ -122,6 +122,19 @@ past-total m rest k h w = record { legality = legality; answer = same-answer; me
         ap (λ (n : ℕ). leftOf other n (on-state k)) (refusal-legal other k legality ∙ ap (λ (s : State). refusal s k) read)
         ∙ by-refusal (refusal (state m) k)
         ∙ sym (ap (λ (n : ℕ). take t (leftOf m n (on-state k)) ++ rest) (refusal-legal m k h))
+
+-- so a call answers alike on any two memories, legal or not, that agree up to their totals
+pub reply-past : (m n : List ℕ) → Agree m n → Words m → Words n → (k : Op) → reply m (on-state k) ≡ reply n (on-state k)
+reply-past m n a w v k = go (legal m) refl
+  where
+    same : legal m ≡ legal n
+    same = legal-past m n a (λ i b. w i)
+
+    go : (b : Bool) → legal m ≡ b → reply m (on-state k) ≡ reply n (on-state k)
+    go true e =
+        let f = sym same ∙ e in
+        reply-legal m k e ∙ ap (λ (s : State). answer s k) (one-to-one .whole m n e w f v a) ∙ sym (reply-legal n k f)
+    go false e = reply-illegal m k e ∙ sym (reply-illegal n k (sym same ∙ e))
 
 -- set-up looks at the length alone
 pub reply-setUp : (m n : List ℕ) (c p s : ℕ) → length m ≡ length n → reply m (set-up c p s) ≡ reply n (set-up c p s)

@@ -7,14 +7,14 @@ use native.Mathlib.Omega.{arith}
 use lib.Dec.{eqb}
 use Rattle.model.specs.Word.{wordLimit}
 use Rattle.model.specs.State.{Sizes, Engine, Table, State}
-use Rattle.model.specs.Layout.{currentGenerationAt, largestGenerationAt, cabinetMaskAt}
+use Rattle.model.specs.Layout.{currentGenerationAt, largestGenerationAt, cabinetMaskAt, total}
 use Rattle.model.specs.Engine.{laneAt, runs}
-use Rattle.model.specs.Memory.{Words, sizes, contents, state}
+use Rattle.model.specs.Memory.{sizes, contents, state}
 use Rattle.model.specs.Legal.{periodRuns}
 use Rattle.laws.specs.Tests.{not-not}
 use Rattle.representation.specs.Ages.{Level}
 use Rattle.representation.specs.WellFormed.{WellFormed}
-use Rattle.representation.specs.Facts.{Facts, Legal}
+use Rattle.representation.specs.Facts.{WordsTo, Facts, Legal}
 use Rattle.representation.specs.Sentences.{sizes-fit}
 use Rattle.representation.specs.Fields.{top}
 use Rattle.representation.specs.Reading.{state-lanes}
@@ -24,7 +24,7 @@ use Rattle.representation.specs.LegalGenerations.{level, strict, clean}
 use Rattle.representation.specs.LegalLanes.{lane-fits}
 use Rattle.representation.specs.LegalTable.{once, range, unlinked, table-fits}
 
-module _ (m : List ℕ) (l : Legal m) (word : Words m) where
+module _ (m : List ℕ) (l : Legal m) (word : WordsTo (total (sizes m)) m) where
   abbrev s : State
   s = state m
 
@@ -51,11 +51,11 @@ module _ (m : List ℕ) (l : Legal m) (word : Words m) where
 
   current-word : e .current < wordLimit
   unfolding state
-  current-word = word currentGenerationAt
+  current-word = word currentGenerationAt (omega arith)
 
   largest-level : Level e
   unfolding state
-  largest-level = level e current-word (periodRuns m) runs-is (word largestGenerationAt) (f .largest)
+  largest-level = level e current-word (periodRuns m) runs-is (word largestGenerationAt (omega arith)) (f .largest)
 
   pub legal-wellFormed-facts : WellFormed s
   unfolding state
@@ -63,10 +63,10 @@ module _ (m : List ℕ) (l : Legal m) (word : Words m) where
     sizes = l .contents .inRange;
     lanes = state-lanes m;
     fits = lane-fits m l word;
-    table = table-fits m l word;
-    once = once m l word;
-    range = range m l word;
-    unlinked = unlinked m l word;
+    table = table-fits m l;
+    once = once m l;
+    range = range m l;
+    unlinked = unlinked m l;
     generations = record {
       word = current-word;
       largest = largest-level;

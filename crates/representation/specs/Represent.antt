@@ -8,12 +8,12 @@ use lib.ListN.{getD}
 use lib.Arith.{digits-lt, digits-div, digits-mod}
 use Rattle.model.specs.Lists.{first, last, from, mask as maskOf}
 use Rattle.model.specs.State.{Sizes, State, Product, Lane, laneCount}
-use Rattle.model.specs.Layout.{chainCount, kinds, queueWidth, currentOffset, doneOffset, lastOffset, contentsLength, headsAt, freeAt, globalQueuesAt, currentGenerationAt, largestGenerationAt, cabinetMaskAt, onlineBit, readingBit, lookupBit, snapshotBit, flagCount, flagsAt, quiescentAt, snapshotAt, generationAt, queuesAt, lookupAt, positionAt, chainLinkAt, queueLinkAt, laneLength, slotLength, slotAddress, laneAddress}
-use Rattle.model.specs.Memory.{Words, at, wide, flag, flags, pendingAt, isNotZero, maskWord, laneMask, laneMasks, cabinetMask, laneWords, laneWord, slotWords, slotWord, low, high, headOf, readLookup, readSnapshot, snapshotCount, lookupCode, lookupPosition, state, sizes, contents, readProduct, readQueue, readLane}
+use Rattle.model.specs.Layout.{chainCount, kinds, queueWidth, currentOffset, doneOffset, lastOffset, contentsLength, headsAt, freeAt, globalQueuesAt, currentGenerationAt, largestGenerationAt, cabinetMaskAt, onlineBit, readingBit, lookupBit, snapshotBit, flagCount, flagsAt, quiescentAt, snapshotAt, generationAt, queuesAt, lookupAt, positionAt, chainLinkAt, queueLinkAt, laneLength, slotLength, slotAddress, laneAddress, total}
+use Rattle.model.specs.Memory.{at, wide, flag, flags, pendingAt, isNotZero, maskWord, laneMask, laneMasks, cabinetMask, laneWords, laneWord, slotWords, slotWord, low, high, headOf, readLookup, readSnapshot, snapshotCount, lookupCode, lookupPosition, state, sizes, contents, readProduct, readQueue, readLane}
 use Rattle.laws.specs.Lists.{map-from-alike, map-map-from, getD-map-below, take-map-from}
 use Rattle.laws.specs.Masks.{mask-flags}
 use Rattle.representation.specs.WellFormed.{SlotOrNone}
-use Rattle.representation.specs.Facts.{Facts, Legal}
+use Rattle.representation.specs.Facts.{WordsTo, Facts, Legal}
 use Rattle.representation.specs.Reading.{state-lane, state-chain, state-product, isRunning-readLookup, isHeld-readSnapshot}
 use Rattle.representation.specs.Walked.{slotWalk-first, chain-link, queue-link}
 use Rattle.representation.specs.Fields.{top, head, end, mask, lane, slot, value, endsLength, endWords, topWords}
@@ -22,7 +22,7 @@ use Rattle.representation.specs.Writes.{Image}
 cons : {x y : ℕ} {xs ys : List ℕ} → x ≡ y → xs ≡ ys → x ∷ xs ≡ y ∷ ys
 cons e f = ap₂ (λ (a : ℕ) (r : List ℕ). a ∷ r) e f
 
-module _ (m : List ℕ) (l : Legal m) (w : Words m) where
+module _ (m : List ℕ) (l : Legal m) (w : WordsTo (total (sizes m)) m) where
   abbrev s : State
   s = state m
 
@@ -81,11 +81,11 @@ module _ (m : List ℕ) (l : Legal m) (w : Words m) where
 
   -- ---- a lane's words
 
-  low-wide : (a : ℕ) → low (wide m a) ≡ at m a
-  low-wide a = omega (arith, w a)
+  low-wide : (a : ℕ) → a < total z → low (wide m a) ≡ at m a
+  low-wide a b = omega (arith, w a b)
 
-  high-wide : (a : ℕ) → high (wide m a) ≡ at m (a + 1)
-  high-wide a = omega (arith, w a)
+  high-wide : (a : ℕ) → a < total z → high (wide m a) ≡ at m (a + 1)
+  high-wide a b = omega (arith, w a b)
 
   module _ (i : ℕ) (b : i < laneCount z) where
     abbrev a : ℕ
@@ -121,7 +121,7 @@ module _ (m : List ℕ) (l : Legal m) (w : Words m) where
 
     lookup-is : (c : Bool) → flag lookupBit (at m a) ≡ c → LookupIs c
     unfolding lookupCode lookupPosition
-    lookup-is true e = record { low = low-wide _; high = high-wide _ ∙ word _ (lookupAt + 1) (omega arith); position = word _ positionAt (omega arith) }
+    lookup-is true e = record { low = low-wide (a + lookupAt) (omega arith); high = high-wide (a + lookupAt) (omega arith) ∙ word _ (lookupAt + 1) (omega arith); position = word _ positionAt (omega arith) }
     lookup-is false e = let r = f .lookupsRest i b (flag-clear lookupBit e) in record { low = sym (r .low); high = sym (r .high); position = sym (r .position) }
 
     end-is : (k : ℕ) → SlotOrNone (z .slots) (laneWord m i k) → (x : ℕ) → x ≡ a + k → first (readQueue m x) ≡ laneWord m i k
@@ -162,8 +162,8 @@ module _ (m : List ℕ) (l : Legal m) (w : Words m) where
   slot-words i b =
       let p = state-product m i b in
       let a = slotAddress z i in
-      cons (ap (λ (q : Product). low (q .code)) p ∙ low-wide a ∙ ap (at m) (omega arith))
-      (cons (ap (λ (q : Product). high (q .code)) p ∙ high-wide a)
+      cons (ap (λ (q : Product). low (q .code)) p ∙ low-wide a (omega arith) ∙ ap (at m) (omega arith))
+      (cons (ap (λ (q : Product). high (q .code)) p ∙ high-wide a (omega arith))
       (cons (ap (λ (q : Product). q .deposit) p)
       (cons (ap (λ (q : Product). q .material) p)
       (cons (chain-link m l i b)

@@ -1,17 +1,18 @@
 -- Legal memories of words, up to what follows the total, and well-formed states are one to one: `words` and `state` carry them to each other.
-use Prim.Native.Nat.{ℕ, _≤_}
+use Prim.Native.Nat.{ℕ, _≤_, _<_}
 use mathlib.Core.Path.{_≡_, refl, sym, ap, subst, _∙_}
-use mathlib.Core.Bool.{true}
+use mathlib.Core.Bool.{Bool, true, false}
 use mathlib.Core.List.{List, [], _++_}
 use native.Mathlib.Omega.{arith}
-use lib.ListN.{length, take, drop, length-append}
-use lib.Seq.{take-at, drop-at}
+use lib.ListN.{length, take, drop, length-append, take-append-drop}
+use lib.Seq.{take-at, drop-at, getD-take}
 use Rattle.model.specs.State.{State}
-use Rattle.model.specs.Layout.{total}
-use Rattle.model.specs.Memory.{Words, sizes, words, state}
+use Rattle.model.specs.Layout.{cabinetsAt, placesAt, slotsAt, total}
+use Rattle.model.specs.Memory.{at, Words, sizes, words, state}
 use Rattle.model.specs.Legal.{legal}
 use Rattle.model.specs.Calls.{stored}
 use Rattle.representation.specs.WellFormed.{WellFormed}
+use Rattle.representation.specs.Facts.{WordsTo}
 use Rattle.representation.specs.Fields.{value}
 use Rattle.representation.specs.Writes.{Image, length-words, length-stored, stored-image, writes-none, writes-done}
 use Rattle.representation.specs.Sentences.{legal-facts}
@@ -29,25 +30,33 @@ pub record Ready (m : List ℕ) : Type 0 where
   pub image : Image (sizes m) m (value (state m))
   pub wellFormed : WellFormed (state m)
 
-pub ready : (m : List ℕ) → legal m ≡ true → Words m → Ready m
-ready m h w =
+ready-to : (m : List ℕ) → legal m ≡ true → WordsTo (total (sizes m)) m → Ready m
+ready-to m h w =
     let l = legal-facts m h in
     record { long = l .contents .long; image = state-image m l w; wellFormed = legal-wellFormed-facts m l w }
+
+pub ready : (m : List ℕ) → legal m ≡ true → Words m → Ready m
+ready m h w = ready-to m h (λ i b. w i)
 
 pub legal-wellFormed : (m : List ℕ) → legal m ≡ true → Words m → WellFormed (state m)
 legal-wellFormed m h w = ready m h w .wellFormed
 
 -- the state's words, then what follows the total, are the memory
-pub stored-state : (m : List ℕ) → legal m ≡ true → Words m → stored (state m) m ≡ m
+stored-ready : (m : List ℕ) → Ready m → stored (state m) m ≡ m
 unfolding state
-stored-state m h w =
-    let r = ready m h w in
-    sym (writes-done (state m) m m (value (state m)) (r .long) (writes-none (sizes m) m (r .long) (value (state m)) (r .image)) (λ f p. refl))
+stored-ready m r = sym (writes-done (state m) m m (value (state m)) (r .long) (writes-none (sizes m) m (r .long) (value (state m)) (r .image)) (λ f p. refl))
+
+pub stored-state : (m : List ℕ) → legal m ≡ true → Words m → stored (state m) m ≡ m
+stored-state m h w = stored-ready m (ready m h w)
 
 -- a legal memory holds the words of its state
-pub words-state : (m : List ℕ) → legal m ≡ true → Words m → words (state m) ≡ take (total (sizes m)) m
+words-ready : (m : List ℕ) → Ready m → words (state m) ≡ take (total (sizes m)) m
 unfolding state
-words-state m h w = sym (take-at (words (state m)) (drop (total (sizes m)) m) (total (sizes m)) (length-words (state m))) ∙ ap (take (total (sizes m))) (stored-state m h w)
+words-ready m r =
+    sym (take-at (words (state m)) (drop (total (sizes m)) m) (total (sizes m)) (length-words (state m))) ∙ ap (take (total (sizes m))) (stored-ready m r)
+
+pub words-state : (m : List ℕ) → legal m ≡ true → Words m → words (state m) ≡ take (total (sizes m)) m
+words-state m h w = words-ready m (ready m h w)
 
 -- ---- from a state to a memory
 
@@ -85,11 +94,42 @@ state-words s rest w = record {
     kept : stored s m ≡ m
     kept = ap (λ (n : List ℕ). words s ++ n) (drop-at (words s) rest (total (s .sizes)) (length-words s))
 
--- ---- one to one
+-- ---- what follows the total
 
 -- two memories agree up to their totals
 abbrev pub Agree : List ℕ → List ℕ → Type 0
 Agree m n = take (total (sizes m)) m ≡ take (total (sizes n)) n
+
+module _ (m n : List ℕ) (a : Agree m n) where
+  -- word i of both, where each total is past it
+  agree-at : (i : ℕ) → i < total (sizes m) → i < total (sizes n) → at m i ≡ at n i
+  agree-at i b c = sym (getD-take (total (sizes m)) m i 0 b) ∙ ap (λ (x : List ℕ). at x i) a ∙ getD-take (total (sizes n)) n i 0 c
+
+  -- the contents are below every total: so the sizes are the same, and so are the totals
+  agree-total : total (sizes m) ≡ total (sizes n)
+  agree-total = rw (agree-at cabinetsAt (omega arith) (omega arith), agree-at placesAt (omega arith) (omega arith), agree-at slotsAt (omega arith) (omega arith))
+
+  agree-words : WordsTo (total (sizes m)) m → WordsTo (total (sizes n)) n
+  agree-words w i b = let c : i < total (sizes m) = omega (arith, agree-total) in rw (agree-at i c b) at (w i c)
+
+  -- m is legal: n begins with the words of its state, and those are legal whatever follows them
+  agree-legal : WordsTo (total (sizes m)) m → legal m ≡ true → legal n ≡ true
+  agree-legal w h =
+      let r = ready-to m h w in
+      let e : words (state m) ++ drop (total (sizes n)) n ≡ n =
+      ap (λ (x : List ℕ). x ++ drop (total (sizes n)) n) (words-ready m r ∙ a) ∙ take-append-drop (total (sizes n)) n in
+      subst (λ (x : List ℕ). legal x ≡ true) e (state-words (state m) (drop (total (sizes n)) n) (r .wellFormed) .lawful)
+
+-- legality does not depend on what follows the total, words or not: memories that agree up to it are legal together
+pub legal-past : (m n : List ℕ) → Agree m n → WordsTo (total (sizes m)) m → legal m ≡ legal n
+legal-past m n a w = go (legal m) (legal n) (agree-legal m n a w) (agree-legal n m (sym a) (agree-words m n a w))
+  where
+    go : (b c : Bool) → (b ≡ true → c ≡ true) → (c ≡ true → b ≡ true) → b ≡ c
+    go true c f g = sym (f refl)
+    go false true f g = g refl
+    go false false f g = refl
+
+-- ---- one to one
 
 pub record OneToOne : Type 0 where
   -- every legal memory of words reads as a well-formed state
