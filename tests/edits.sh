@@ -3,7 +3,8 @@
 #
 #   edit_value KEY EDIT         the value of the line 'KEY: VALUE'
 #   edit_apply EDIT DIR         puts an edit into the copy of a crate's folder; says what is wrong with it, if anything is
-#   edit_place LOG              where a log's first error is, FILE:LINE:COLUMN
+#   edit_first LOG              a log's first error
+#   edit_place LOG              where that is, FILE:LINE:COLUMN
 #   edit_misfit LOG             says why a log's first error shows no fact that fails, if it shows none: the edit changed the code's shape, and the proof is of another
 #   edit_list DIR [NAME ..]     the edits of a folder, or those named, in edits
 #   edit_begin TOP              a copy of the crates with what rt has proved already, $edit_room/base; it is removed at the end
@@ -61,17 +62,19 @@ edit_apply() { # EDIT DIR
     [ "$pairs" -gt 0 ] || { echo "it has no 'old:' and 'new:' pair"; return 1; }
 }
 
+# An error that only says that another was not admitted is none of its own. A function without a proof file has a note in place of an error.
+edit_first() { # LOG
+    grep -E '^[^ ]+:[0-9]+:[0-9]+: error' "$1" | grep -m 1 -v 'was not admitted' || grep -m 1 -E '^note: [^ ]+:[0-9]+:[0-9]+: it is not proved' "$1" ||
+        grep -m 1 -E '^([^ ]+:[0-9]+:[0-9]+: error|note: [^ ]+:[0-9]+:[0-9]+:)' "$1"
+}
+
 edit_place() { # LOG
-    local found
-    found=$(grep -m 1 -oE '^[^ ]+:[0-9]+:[0-9]+: error' "$1")
-    [ -n "$found" ] || found=$(grep -m 1 -oE '^note: [^ ]+:[0-9]+:[0-9]+:' "$1" | sed 's/^note: //')
-    found=${found%: error}
-    printf '%s\n' "${found%:}"
+    edit_first "$1" | sed -E 's/^note: //; s/^([^ ]+:[0-9]+:[0-9]+):.*/\1/'
 }
 
 edit_misfit() { # LOG
     local first
-    first=$(grep -m 1 -E '^[^ ]+:[0-9]+:[0-9]+: error' "$1")
+    first=$(edit_first "$1")
     case $first in
     *"that can be named from here"* | *"not in scope"*) echo "a name is missing" ;;
     *"expected type \`tie.Need-"*"but this has type \`tie.Need-"*) echo "the code has other needs" ;;
