@@ -10,6 +10,7 @@ use Rattle.model.specs.Engine.{setOnline, setReading, setLookup}
 use Rattle.model.specs.Rules.{laneOf}
 use Rattle.model.specs.Memory.{at, flag, flags, laneWords, sizes, state}
 use Rattle.laws.specs.Masks.{flag-mask}
+use Rattle.words.specs.Flags.{onlineBit, readingBit, lookupBit}
 use Rattle.masks.specs.Bits.{withBit, withoutBit}
 use Rattle.masks.proofs.BitLaws.{withBit-mask, withoutBit-mask}
 use Rattle.representation.specs.Fields.{lane}
@@ -17,15 +18,6 @@ use Rattle.representation.specs.Memories.{Sound}
 use Rattle.access.specs.Ways.{shown}
 
 -- ---- the bits
-
-abbrev pub onlineBit : ℕ
-onlineBit = 0
-
-abbrev pub readingBit : ℕ
-readingBit = 1
-
-abbrev pub lookupBit : ℕ
-lookupBit = 2
 
 abbrev bits : Lane → List Bool
 bits l = l .online ∷ l .reading ∷ isRunning (l .lookup) ∷ isHeld (l .snapshot) ∷ []

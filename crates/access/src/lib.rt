@@ -14,13 +14,6 @@ ghost use Rattle.masks.specs.Bits.{width};
 ghost use Rattle.access.specs.Contract.{five};
 ghost use Rattle.access.specs.Lanes.{LaneIn, flagSet, flagCleared};
 
-// the bits of a lane's flags
-pub const ONLINE: u32 = 0;
-
-pub const READING: u32 = 1;
-
-pub const LOOKUP: u32 = 2;
-
 // ---- answers
 
 // The five words of an answer.
@@ -106,7 +99,7 @@ pub fn is_online(m: &[u32], lane: u32) -> bool
     requires { ⌜ LaneIn (now m) lane ⌝ }
     ensures { λ r. ⌜ r ≡ laneOf (state (now (m .entry))) lane .online ⌝ }
 {
-    lane_flag(m, lane, ONLINE)
+    lane_flag(m, lane, words::ONLINE)
 }
 
 // Whether a lane's section is open.
@@ -114,7 +107,7 @@ pub fn is_reading(m: &[u32], lane: u32) -> bool
     requires { ⌜ LaneIn (now m) lane ⌝ }
     ensures { λ r. ⌜ r ≡ laneOf (state (now (m .entry))) lane .reading ⌝ }
 {
-    lane_flag(m, lane, READING)
+    lane_flag(m, lane, words::READING)
 }
 
 // Whether a lane's lookup is running.
@@ -122,7 +115,7 @@ pub fn is_running(m: &[u32], lane: u32) -> bool
     requires { ⌜ LaneIn (now m) lane ⌝ }
     ensures { λ r. ⌜ r ≡ isRunning (laneOf (state (now (m .entry))) lane .lookup) ⌝ }
 {
-    lane_flag(m, lane, LOOKUP)
+    lane_flag(m, lane, words::LOOKUP)
 }
 
 // Sets bit p of a lane's flags. All other words stay.

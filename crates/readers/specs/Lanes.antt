@@ -19,7 +19,8 @@ use Rattle.access.specs.declared.Answer.{Answer}
 use Rattle.access.specs.Contract.{five, Does}
 use Rattle.access.specs.Ways.{performs, shown, wellFormed}
 use Rattle.access.specs.Refusals.{applies, lacks}
-use Rattle.access.specs.Flags.{onlineBit, readingBit, flags-shown, flags-online, flags-reading, flags-closed}
+use Rattle.words.specs.Flags.{onlineBit, readingBit}
+use Rattle.access.specs.Flags.{flags-shown, flags-online, flags-reading, flags-closed}
 use Rattle.access.specs.Lanes.{LaneIn, flagSet, flagCleared, unknown, known, lane-of, lane-refused, lane-rest, begin-lane}
 
 -- ---- what the tests say of the causes

@@ -28,7 +28,8 @@ use Rattle.access.specs.declared.Answer.{Answer}
 use Rattle.access.specs.Contract.{five, Does}
 use Rattle.access.specs.Ways.{performs, shown, wellFormed}
 use Rattle.access.specs.Refusals.{first-of-some, first-of-rest, applies, lacks}
-use Rattle.access.specs.Flags.{lookupBit, word-shown, flags-shown, flags-running}
+use Rattle.words.specs.Flags.{lookupBit}
+use Rattle.access.specs.Flags.{word-shown, flags-shown, flags-running}
 use Rattle.access.specs.Lanes.{LaneIn}
 
 -- flags f, code c and position p in the record that begins at a; all other words stay

@@ -27,7 +27,8 @@ use Rattle.changes.specs.LaneCalls.{step-stored, step-going-stored}
 use Rattle.access.specs.declared.Answer.{Answer}
 use Rattle.access.specs.Contract.{five, Does}
 use Rattle.access.specs.Ways.{performs, shown, wellFormed}
-use Rattle.access.specs.Flags.{lookupBit, flags-shown, flags-idle}
+use Rattle.words.specs.Flags.{lookupBit}
+use Rattle.access.specs.Flags.{flags-shown, flags-idle}
 use Rattle.readers.specs.Lookups.{Looking, lookupStored, lookupStored-from, lookup-shown}
 
 -- a lane of a legal memory whose lookup goes on

@@ -1,0 +1,2 @@
+-- What contracts over the lent words cite besides the model's Layout.
+pub mod Flags
