@@ -8,7 +8,7 @@ use native.Mathlib.Omega.{arith}
 use lib.ListN.{length, getD, set}
 use Rattle.model.specs.Lists.{mask}
 use Rattle.model.specs.State.{laneCount, Lookup, isRunning, isHeld, Lane}
-use Rattle.model.specs.Layout.{flagsAt, laneLength, laneAddress}
+use Rattle.model.specs.Layout.{flagsAt, laneLength, laneAddress, onlineBit, readingBit, lookupBit}
 use Rattle.model.specs.Engine.{setOnline, setReading, setLookup}
 use Rattle.model.specs.Rules.{laneOf}
 use Rattle.model.specs.Memory.{at, flag, flags, laneWords, sizes, state}
@@ -46,15 +46,6 @@ put-mask bs p true fits h = withBit-mask bs fits p h
 put-mask bs p false fits h = withoutBit-mask bs fits p h
 
 -- ---- the bits
-
-abbrev pub onlineBit : ℕ
-onlineBit = 0
-
-abbrev pub readingBit : ℕ
-readingBit = 1
-
-abbrev pub lookupBit : ℕ
-lookupBit = 2
 
 abbrev bits : Lane → List Bool
 bits l = l .online ∷ l .reading ∷ isRunning (l .lookup) ∷ isHeld (l .snapshot) ∷ []

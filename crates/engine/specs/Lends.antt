@@ -10,7 +10,7 @@ use Rattle.changes.specs.Queues.{next, endsAt}
 use Rattle.changes.specs.Owners.{Owner, allLanes, oneLane, Known, queueBy, generationBy}
 use Rattle.engine.specs.Period.{Lent}
 use Rattle.engine.specs.Advance.{OwnerLent}
-use Rattle.engine.specs.Off.{OffLent}
+use Rattle.engine.specs.Release.{TableLent}
 
 module _ (s : State) (m : List ℕ) (shows : Shows m s) where
   -- begin, end, request and release
@@ -25,7 +25,7 @@ module _ (s : State) (m : List ℕ) (shows : Shows m s) where
   owner-lent-shown (oneLane i) h =
       record { queues = omega (arith, shows .long); stamp = omega (arith, shows .long); masks = omega (arith, shows .long); records = shows .long }
 
-  -- off
-  pub off-lent-shown : SizesFit (s .sizes) → (c p : ℕ) → c < s .sizes .cabinets → p < s .sizes .places
-      → OffLent m (s .sizes .cabinets) (s .sizes .places) (slotsBody (s .sizes)) (s .sizes .slots) c p
-  off-lent-shown f c p h k = record { table = lent-shown f; records = shows .long; cabinet = h; place = k }
+  -- off, and the clock
+  pub table-lent-shown : SizesFit (s .sizes) → (c p : ℕ) → c < s .sizes .cabinets → p < s .sizes .places
+      → TableLent m (s .sizes .cabinets) (s .sizes .places) (slotsBody (s .sizes)) (s .sizes .slots) c p
+  table-lent-shown f c p h k = record { lane = record { part = record { lent = lent-shown f; known = h }; place = k }; records = shows .long }

@@ -25,3 +25,10 @@ pub mod OffSteps
 pub mod OffLaws
 -- what a memory that shows a state holds
 pub mod Lends
+-- the clock of a lane: its words, laws of those, what compare reads, what copy does, the steps on the state, and the call
+pub mod Clock
+pub mod ClockWords
+pub mod CompareLaws
+pub mod SampleLaws
+pub mod ClockSteps
+pub mod ClockLaws

@@ -1,13 +1,11 @@
 -- What off does to the words of a memory: the lane at place p of cabinet c leaves. The slots' records stand from `base` on. No legality is needed.
-use Prim.Native.Nat.{ℕ, _+_, _*_, _<_, _≤_}
+use Prim.Native.Nat.{ℕ, _+_, _*_, _≤_}
 use mathlib.Core.List.{List}
 use lib.ListN.{length, set}
 use Rattle.model.specs.Layout.{doneOffset, currentOffset, masksAt, globalQueuesAt, globalGenerationAt, queuesAt, generationAt, laneLength, slotLength}
-use Rattle.model.specs.Memory.{at}
-use Rattle.masks.specs.Bits.{withoutBit}
 use Rattle.queues.specs.Queue.{joined}
-use Rattle.lanes.specs.Record.{onlineBit}
-use Rattle.engine.specs.Period.{Lent}
+use Rattle.lanes.specs.declared.Change.the-variants.{Leave}
+use Rattle.lanes.specs.Changes.{changedAt}
 use Rattle.engine.specs.Release.{laneIn, releasedWords}
 use Rattle.engine.specs.Advance.{advancedWords}
 
@@ -17,17 +15,6 @@ pub record HandLent (m : List ℕ) (base slots a : ℕ) : Type 0 where
   pub lane : a + laneLength ≤ length m
   pub records : base + slotLength * slots ≤ length m
 
--- the memory holds the table and the lane
-pub record OffLent (m : List ℕ) (cabinets places base slots c p : ℕ) : Type 0 where
-  pub table : Lent m cabinets places
-  pub records : base + slotLength * slots ≤ length m
-  pub cabinet : c < cabinets
-  pub place : p < places
-
--- the lane whose record begins at a is marked off
-abbrev pub markedWords : List ℕ → ℕ → List ℕ
-markedWords m a = set m a (withoutBit onlineBit (at m a))
-
 -- its current queue, then its next, are appended to the global next queue, its done queue to the global done queue, and its generation is at rest
 unfoldable pub handedWords : List ℕ → ℕ → ℕ → ℕ → List ℕ
 handedWords m base slots a =
@@ -36,9 +23,9 @@ handedWords m base slots a =
     let z = joined y base slots (globalQueuesAt + doneOffset) (a + queuesAt + doneOffset) in
     set z (a + generationAt) 0
 
--- then it drops its snapshot and its bit, and the global queues advance
+-- the lane is marked off and hands its queues over, then it drops its snapshot and its bit, and the global queues advance
 unfoldable pub offWords : List ℕ → ℕ → ℕ → ℕ → ℕ → ℕ → ℕ → List ℕ
 offWords m cabinets places base slots c p =
     let a = laneIn cabinets places c p in
-    let n = releasedWords (handedWords (markedWords m a) base slots a) cabinets places c p in
+    let n = releasedWords (handedWords (changedAt m a Leave) base slots a) cabinets places c p in
     advancedWords n cabinets places base slots globalQueuesAt globalGenerationAt

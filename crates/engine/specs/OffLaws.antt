@@ -13,6 +13,8 @@ use Rattle.model.specs.Calls.{stored}
 use Rattle.representation.specs.Passed.{clear, within}
 use Rattle.representation.specs.WellFormed.{WellFormed}
 use Rattle.representation.specs.Standing.{fit}
+use Rattle.lanes.specs.declared.Change.the-variants.{Leave}
+use Rattle.lanes.specs.Changes.{changedAt}
 use Rattle.lanes.specs.CabinetLaws.{cabinetAt-lane}
 use Rattle.changes.specs.Shows.{Shows, shows-then, stored-then}
 use Rattle.changes.specs.Shape.{wellFormed-shape}
@@ -22,7 +24,7 @@ use Rattle.engine.specs.Release.{releasedWords}
 use Rattle.engine.specs.ReleaseLaws.{released-stored, shape-released}
 use Rattle.engine.specs.Advance.{advancedWords}
 use Rattle.engine.specs.AdvanceLaws.{advanced-stored}
-use Rattle.engine.specs.Off.{markedWords, handedWords, offWords}
+use Rattle.engine.specs.Off.{handedWords, offWords}
 use Rattle.engine.specs.OffSteps.{gone, leftWords, left-stored, shape-left}
 
 module _ (s : State) (m : List ℕ) (shows : Shows m s) (w : WellFormed s) (c p : ℕ) (inCabinets : c < s .sizes .cabinets) (inPlaces : p < s .sizes .places) where
@@ -44,7 +46,7 @@ module _ (s : State) (m : List ℕ) (shows : Shows m s) (w : WellFormed s) (c p 
 
   -- the steps, for the lane whose record begins at a
   abbrev stepsAt : ℕ → List ℕ
-  stepsAt a = advancedAll (releasedWords (handedWords (markedWords m a) (slotsBody (s .sizes)) (s .sizes .slots) a) C P c p)
+  stepsAt a = advancedAll (releasedWords (handedWords (changedAt m a Leave) (slotsBody (s .sizes)) (s .sizes .slots) a) C P c p)
 
   pub off-stored : offWords m C P (slotsBody (s .sizes)) (s .sizes .slots) c p ≡ stored (performed s (off lane-number)) m
   unfolding offWords performed wentOff

@@ -7,7 +7,7 @@ use native.Mathlib.Omega.{arith}
 use lib.ListN.{set}
 use Rattle.model.specs.Lists.{update}
 use Rattle.model.specs.State.{Sizes, laneCount, isRunning, isHeld, Queues, Lane, State}
-use Rattle.model.specs.Layout.{flagsAt, generationAt, laneAddress, slotsBody}
+use Rattle.model.specs.Layout.{flagsAt, generationAt, laneAddress, slotsBody, onlineBit}
 use Rattle.model.specs.Engine.{freshLane, laneAt, setOnline, withLanes, withGlobal, atLane, taken, emptied}
 use Rattle.model.specs.Rules.{withEngine, withLane}
 use Rattle.model.specs.Memory.{at, flags, laneWords}
@@ -17,14 +17,16 @@ use Rattle.masks.specs.Bits.{withoutBit}
 use Rattle.masks.proofs.BitLaws.{withoutBit-mask}
 use Rattle.representation.specs.Fields.{lane}
 use Rattle.representation.specs.Passed.{within}
-use Rattle.lanes.specs.Record.{onlineBit}
+use Rattle.lanes.specs.declared.Change.the-variants.{Leave}
+use Rattle.lanes.specs.Changes.{changedAt}
+use Rattle.lanes.specs.CabinetLaws.{changed-offline}
 use Rattle.changes.specs.Shows.{Shows, shows-then, stored-then}
 use Rattle.changes.specs.Shape.{Shape}
 use Rattle.changes.specs.Engines.{atGeneration}
 use Rattle.changes.specs.LaneWords.{lane-flags, lane-generation}
 use Rattle.changes.specs.Lanes.{shape-lane}
 use Rattle.changes.specs.HandOver.{unqueued, handedOver, handedOverWords, hand-over, shape-hand-over}
-use Rattle.engine.specs.Off.{markedWords, handedWords}
+use Rattle.engine.specs.Off.{handedWords}
 
 -- ---- mark off
 
@@ -42,11 +44,12 @@ module _ (s : State) (m : List ℕ) (shows : Shows m s) (w : Shape s) (i : ℕ) 
   abbrev marked : State
   marked = withLane s i (setOnline false)
 
-  marked-stored : markedWords m a ≡ stored marked m
+  marked-stored : changedAt m a Leave ≡ stored marked m
   unfolding laneWords
   marked-stored =
       let e : a ≡ a + flagsAt = omega arith in
-      ap (set m a) (ap (withoutBit onlineBit) (ap (at m) e ∙ shows .image (lane i flagsAt) (within, omega arith)) ∙ flags-off (laneAt (s .engine) i))
+      changed-offline m a
+      ∙ ap (set m a) (ap (withoutBit onlineBit) (ap (at m) e ∙ shows .image (lane i flagsAt) (within, omega arith)) ∙ flags-off (laneAt (s .engine) i))
       ∙ lane-flags s m shows (w .lanes) i within (setOnline false) refl refl refl
 
   shape-marked : Shape marked
@@ -92,19 +95,19 @@ module _ (s : State) (w : Shape s) (i : ℕ) (within : i < laneCount (s .sizes))
 
   module _ (m : List ℕ) (shows : Shows m s) where
     abbrev pub leftWords : List ℕ
-    leftWords = handedWords (markedWords m (laneAddress (s .sizes) i)) (slotsBody (s .sizes)) (s .sizes .slots) (laneAddress (s .sizes) i)
+    leftWords = handedWords (changedAt m (laneAddress (s .sizes) i) Leave) (slotsBody (s .sizes)) (s .sizes .slots) (laneAddress (s .sizes) i)
 
-    marked-shows : Shows (markedWords m (laneAddress (s .sizes) i)) (withLane s i (setOnline false))
-    marked-shows = shows-then (withLane s i (setOnline false)) m (markedWords m (laneAddress (s .sizes) i)) (shows .long) (marked-stored s m shows w i within)
+    marked-shows : Shows (changedAt m (laneAddress (s .sizes) i) Leave) (withLane s i (setOnline false))
+    marked-shows = shows-then (withLane s i (setOnline false)) m (changedAt m (laneAddress (s .sizes) i) Leave) (shows .long) (marked-stored s m shows w i within)
 
     pub left-stored : leftWords ≡ stored gone m
     left-stored =
         let t = withLane s i (setOnline false) in
-        let n = markedWords m (laneAddress (s .sizes) i) in
+        let n = changedAt m (laneAddress (s .sizes) i) Leave in
         stored-then t left m n leftWords refl (marked-stored s m shows w i within) (handed-stored t n marked-shows (shape-marked s m shows w i within) i within)
         ∙ ap (λ (u : State). stored u m) left-gone
 
     pub shape-left : Shape gone
     shape-left =
         rw (sym left-gone)
-        (shape-handed (withLane s i (setOnline false)) (markedWords m (laneAddress (s .sizes) i)) marked-shows (shape-marked s m shows w i within) i within)
+        (shape-handed (withLane s i (setOnline false)) (changedAt m (laneAddress (s .sizes) i) Leave) marked-shows (shape-marked s m shows w i within) i within)

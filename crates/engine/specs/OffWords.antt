@@ -1,15 +1,16 @@
 -- Laws of the words of Off: what the code's steps give. Assumes nothing.
-use Prim.Native.Nat.{ℕ, _+_, _≤_}
+use Prim.Native.Nat.{ℕ, _+_}
 use mathlib.Core.Path.{_≡_, ap, _∙_}
 use mathlib.Core.List.{List}
-use native.Mathlib.Omega.{arith}
-use lib.ListN.{length, set}
-use Rattle.model.specs.Layout.{currentOffset, doneOffset, globalQueuesAt, globalGenerationAt, queuesAt, generationAt, laneLength}
+use lib.ListN.{set}
+use Rattle.model.specs.Layout.{currentOffset, doneOffset, globalQueuesAt, globalGenerationAt, masksAt, queuesAt, generationAt}
 use Rattle.queues.specs.Queue.{joined}
-use Rattle.engine.specs.PeriodWords.{cabinet-lent}
-use Rattle.engine.specs.Release.{laneIn, releasedWords}
+use Rattle.lanes.specs.declared.Change.the-variants.{Leave}
+use Rattle.lanes.specs.Changes.{changedAt}
+use Rattle.lanes.specs.Cabinet.{placeAt, cabinetAt}
+use Rattle.engine.specs.Release.{releasedWords}
 use Rattle.engine.specs.Advance.{advancedWords}
-use Rattle.engine.specs.Off.{OffLent, markedWords, handedWords, offWords}
+use Rattle.engine.specs.Off.{handedWords, offWords}
 
 -- the three queues, then the generation
 module _ (m : List ℕ) (base slots a : ℕ) where
@@ -23,14 +24,10 @@ module _ (m : List ℕ) (base slots a : ℕ) where
       ∙ ap (λ (l : List ℕ). joined l base slots (globalQueuesAt + doneOffset) (a + queuesAt + doneOffset))
       (q ∙ ap (λ (l : List ℕ). joined l base slots globalQueuesAt (a + queuesAt)) p))
 
-module _ (m : List ℕ) (cabinets places base slots c p i j : ℕ) (e : i ≡ c) (f : j ≡ p) where
-  -- the lane's record stands in the memory
-  pub lane-inside : OffLent m cabinets places base slots c p → laneIn cabinets places i j + laneLength ≤ length m
-  lane-inside l = rw (e, f) (omega (arith, cabinet-lent m cabinets places (l .table) c (l .cabinet) .lanes, l .place))
-
+module _ (m : List ℕ) (cabinets places base slots c p : ℕ) where
   -- marked off, handed over, released, advanced
-  pub off-by : (a : ℕ) → a ≡ laneIn cabinets places i j → (x y z n : List ℕ) → x ≡ markedWords m a → y ≡ handedWords x base slots a
-      → z ≡ releasedWords y cabinets places c p
+  pub off-by : (a : ℕ) → a ≡ cabinetAt cabinets places c → (x y z n : List ℕ) → x ≡ changedAt m (a + placeAt p) Leave
+      → y ≡ handedWords x base slots (a + placeAt p) → z ≡ releasedWords y cabinets places c p
       → n ≡ advancedWords z cabinets places base slots globalQueuesAt globalGenerationAt
       → n ≡ offWords m cabinets places base slots c p
   unfolding offWords
@@ -39,5 +36,5 @@ module _ (m : List ℕ) (cabinets places base slots c p i j : ℕ) (e : i ≡ c)
       ∙ ap (λ (l : List ℕ). advancedWords l cabinets places base slots globalQueuesAt globalGenerationAt)
       (t
       ∙ ap (λ (l : List ℕ). releasedWords l cabinets places c p)
-      (s ∙ ap (λ (l : List ℕ). handedWords l base slots a) r
-      ∙ ap (λ (k : ℕ). handedWords (markedWords m k) base slots k) (q ∙ rw (e, f))))
+      (s ∙ ap (λ (l : List ℕ). handedWords l base slots (a + placeAt p)) r
+      ∙ ap (λ (b : ℕ). handedWords (changedAt m (b + placeAt p) Leave) base slots (b + placeAt p)) q))

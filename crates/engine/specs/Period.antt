@@ -8,10 +8,9 @@ use lib.Dec.{eqb}
 use Rattle.model.specs.Word.{up, later}
 use Rattle.model.specs.Lists.{from, mask}
 use Rattle.model.specs.Layout.{maxCabinets, maxPlaces, currentGenerationAt, largestGenerationAt, cabinetMaskAt, masksAt, laneLength}
-use Rattle.model.specs.Memory.{at, flag, isNotZero}
+use Rattle.model.specs.Memory.{at, isNotZero}
 use Rattle.masks.specs.Bits.{withBit}
-use Rattle.lanes.specs.Record.{onlineBit}
-use Rattle.lanes.specs.Cabinet.{placeAt, cabinetAt}
+use Rattle.lanes.specs.Cabinet.{cabinetAt, onlineAt}
 
 -- the memory holds the masks and the lanes, and these sizes are in range
 pub record Lent (m : List ℕ) (cabinets places : ℕ) : Type 0 where
@@ -19,23 +18,17 @@ pub record Lent (m : List ℕ) (cabinets places : ℕ) : Type 0 where
   pub fewPlaces : places ≤ maxPlaces
   pub long : masksAt + cabinets + laneLength * (cabinets * places) ≤ length m
 
--- the memory holds the mask and the lanes of cabinet c
-pub record CabinetLent (m : List ℕ) (cabinets places c : ℕ) : Type 0 where
-  pub known : c < maxCabinets
-  pub fewPlaces : places ≤ maxPlaces
-  pub mask : masksAt + c < length m
-  pub lanes : cabinetAt (masksAt + cabinets) places c + laneLength * places ≤ length m
+-- the same, and there is a cabinet c
+pub record CabinetKnown (m : List ℕ) (cabinets places c : ℕ) : Type 0 where
+  pub lent : Lent m cabinets places
+  pub known : c < cabinets
 
 -- ---- begin period
 
 module _ (m : List ℕ) (cabinets places : ℕ) where
-  -- the lane at place p of cabinet c is on
-  abbrev pub onlineIn : ℕ → ℕ → Bool
-  onlineIn c p = flag onlineBit (at m (cabinetAt (masksAt + cabinets) places c + placeAt p))
-
   -- the mask of the lanes of cabinet c that are on
   unfoldable pub onlineWord : ℕ → ℕ
-  onlineWord c = mask (map (onlineIn c) (from 0 places))
+  onlineWord c = mask (map (onlineAt m (cabinetAt cabinets places c)) (from 0 places))
 
   abbrev pub someOnline : ℕ → Bool
   someOnline c = isNotZero (onlineWord c)

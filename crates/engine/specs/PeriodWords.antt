@@ -13,18 +13,16 @@ use borrow.Author.Tests.{eq-eqb, ne-eqb}
 use native.Mathlib.Numerals.{add-one}
 use Rattle.model.specs.Word.{up, later}
 use Rattle.model.specs.Lists.{from, mask}
-use Rattle.model.specs.Layout.{maxCabinets, currentGenerationAt, largestGenerationAt, cabinetMaskAt, masksAt, laneLength}
+use Rattle.model.specs.Layout.{maxCabinets, currentGenerationAt, largestGenerationAt, cabinetMaskAt, masksAt, laneLength, onlineBit}
 use Rattle.model.specs.Memory.{at, flag, isNotZero}
 use Rattle.laws.specs.Tests.{same, other, decide}
 use Rattle.laws.specs.Lists.{map-from-alike}
 use Rattle.laws.specs.Masks.{mask-from-lt, mask-from-suc}
 use Rattle.laws.specs.MaskFlags.{shl-bit}
-use Rattle.masks.specs.Bits.{withBit}
-use Rattle.masks.proofs.BitLaws.{or-withBit}
-use Rattle.lanes.specs.Record.{onlineBit}
-use Rattle.lanes.specs.Cabinet.{placeAt, cabinetAt, onlineAt}
-use Rattle.laws.specs.Stores.{getD-part}
-use Rattle.engine.specs.Period.{Lent, CabinetLent, onlineIn, onlineWord, someOnline, masksSet, waitingFor, startedWords, Awaited, endedWords, raisedWords, requestedWords}
+use Rattle.masks.specs.Bits.{width, withBit}
+use Rattle.lanes.specs.Cabinet.{placeAt, cabinetAt, onlineAt, PartLent}
+use Rattle.lanes.specs.CabinetLaws.{mask-more}
+use Rattle.engine.specs.Period.{Lent, CabinetKnown, onlineWord, someOnline, masksSet, waitingFor, startedWords, Awaited, endedWords, raisedWords, requestedWords}
 
 -- cabinet c's row ends within the rows
 pub row-within : (c n k : ℕ) → c < n → c * k + k ≤ n * k
@@ -71,47 +69,30 @@ module _ (m : List ℕ) (cabinets places : ℕ) where
   unfolding onlineWord
   online-masksSet n c h =
       ap mask
-      (map-from-alike (onlineIn (masksSet m cabinets places n) cabinets places c) (onlineIn m cabinets places c) 0 places
-      (λ p a b. ap (flag onlineBit) (masksSet-else n (cabinetAt (masksAt + cabinets) places c + placeAt p) (λ k q e. omega arith))))
+      (map-from-alike (onlineAt (masksSet m cabinets places n) (cabinetAt cabinets places c)) (onlineAt m (cabinetAt cabinets places c)) 0 places
+      (λ p a b. ap (flag onlineBit) (masksSet-else n (cabinetAt cabinets places c + placeAt p) (λ k q e. omega arith))))
 
   -- one cabinet more
-  pub waiting-more : (n : ℕ) → n < 32 → cond (someOnline m cabinets places n) (withBit n (waitingFor m cabinets places n)) (waitingFor m cabinets places n) ≡ waitingFor m cabinets places (suc n)
+  pub waiting-more : (n : ℕ) → n < width → cond (someOnline m cabinets places n) (withBit n (waitingFor m cabinets places n)) (waitingFor m cabinets places n) ≡ waitingFor m cabinets places (suc n)
   unfolding waitingFor
-  waiting-more n h =
-      let w : ℕ = mask (map (someOnline m cabinets places) (from 0 n)) in
-      let below : w < 2 ^ 32 = omega (arith, mask-from-lt (someOnline m cabinets places) n, pow-mono {i = n} {j = 32} (omega arith)) in
-      ap (λ (x : ℕ). cond (someOnline m cabinets places n) x w) (sym (or-withBit w n below h) ∙ ap (bitOr w) (shl-bit n h))
-      ∙ sym (mask-from-suc (someOnline m cabinets places) n)
+  waiting-more n h = mask-more (someOnline m cabinets places) n h
 
   -- each cabinet's part is lent
-  pub cabinet-lent : Lent m cabinets places → (c : ℕ) → c < cabinets → CabinetLent m cabinets places c
-  cabinet-lent l c h = record {
-    known = omega arith;
-    fewPlaces = l .fewPlaces;
-    mask = omega arith;
-    lanes = omega (arith, row-within c cabinets places h);
-  }
+  pub cabinet-part : (c : ℕ) → CabinetKnown m cabinets places c → (a : ℕ) → a ≡ cabinetAt cabinets places c → PartLent m a places
+  cabinet-part c k a e = omega (arith, k .lent .long, row-within c cabinets places (k .known), e)
 
   pub lent-alike : (n : List ℕ) → length n ≡ length m → Lent m cabinets places → Lent n cabinets places
   lent-alike n e l = record { fewCabinets = l .fewCabinets; fewPlaces = l .fewPlaces; long = omega (arith, l .long) }
 
   -- ---- what the code's steps give
 
-  -- the lanes that are on, by the cabinet's part of n words from a on
-  pub online-part : (c n a : ℕ) → a ≡ cabinetAt (masksAt + cabinets) places c → laneLength * places ≤ n
-      → mask (map (onlineAt (take n (drop a m))) (from 0 places)) ≡ onlineWord m cabinets places c
+  -- the lanes that are on, by where their cabinet's part begins
+  pub awaited : (c w a x r : ℕ) → a ≡ cabinetAt cabinets places c → x ≡ mask (map (onlineAt m a) (from 0 places))
+      → r ≡ cond (isNotZero x) (withBit c w) w → Awaited m cabinets places c w r (set m (masksAt + c) x)
   unfolding onlineWord
-  online-part c n a e h =
-      ap mask
-      (map-from-alike (onlineAt (take n (drop a m))) (onlineIn m cabinets places c) 0 places
-      (λ p x y. ap (flag onlineBit) (getD-part m a n (placeAt p) 0 (omega arith) ∙ ap (λ (j : ℕ). at m (j + placeAt p)) e)))
-
-  pub awaited : (c w i x r : ℕ) → i ≡ c → x ≡ onlineWord m cabinets places i → r ≡ cond (isNotZero x) (withBit c w) w
-      → Awaited m cabinets places c w r (set m (masksAt + i) x)
-  awaited c w i x r e f g = record {
-    mask = g ∙ ap (λ (y : ℕ). cond (isNotZero y) (withBit c w) w) (f ∙ ap (onlineWord m cabinets places) e);
-    memory = ap₂ (λ (j y : ℕ). set m (masksAt + j) y) e (f ∙ ap (onlineWord m cabinets places) e);
-  }
+  awaited c w a x r e f g =
+      let y : x ≡ onlineWord m cabinets places c = f ∙ ap (λ (b : ℕ). mask (map (onlineAt m b) (from 0 places))) e in
+      record { mask = g ∙ ap (λ (v : ℕ). cond (isNotZero v) (withBit c w) w) y; memory = ap (set m (masksAt + c)) y }
 
   -- one round of the loop
   pub one-more : (n : ℕ) → n < cabinets → cabinets ≤ maxCabinets → (x y : List ℕ) (w r : ℕ) → x ≡ masksSet m cabinets places n → w ≡ waitingFor m cabinets places n

@@ -11,7 +11,7 @@ use lib.Seq.{sets}
 use lib.Dec.{eqb}
 use Rattle.model.specs.Lists.{update, concatMap}
 use Rattle.model.specs.State.{laneCount, unheld, Lane, State}
-use Rattle.model.specs.Layout.{snapshotAt, laneAddress}
+use Rattle.model.specs.Layout.{snapshotAt, laneAddress, snapshotBit}
 use Rattle.model.specs.Engine.{freshLane, laneAt, setPending, runs, ended}
 use Rattle.model.specs.Rules.{withEngine, withLane}
 use Rattle.model.specs.Memory.{at, flags, snapshotCount, laneWords, laneQueues}
@@ -21,10 +21,14 @@ use Rattle.representation.specs.Fields.{lane}
 use Rattle.changes.specs.Shows.{Shows, stored-shown}
 use Rattle.changes.specs.Shape.{LaneAtEach}
 use Rattle.changes.specs.LaneWords.{lane-snapshot}
+use Rattle.masks.specs.Bits.{withoutBit}
 use Rattle.lanes.specs.declared.LaneRecord.{LaneRecord}
-use Rattle.lanes.specs.Record.{recordAt, heldBit, withFlag, droppedRecord}
+use Rattle.lanes.specs.declared.Change.the-variants.{Drop}
+use Rattle.lanes.specs.Record.{recordAt, droppedRecord}
 use Rattle.lanes.specs.RecordLaws.{recordOf-dropped}
+use Rattle.lanes.specs.Changes.{changedAt}
 use Rattle.lanes.specs.Cabinet.{droppedAt}
+use Rattle.lanes.specs.CabinetLaws.{changed-dropped}
 use Rattle.engine.specs.Period.{endedWords}
 use Rattle.engine.specs.PeriodWords.{row-within}
 use Rattle.engine.specs.PeriodLaws.{mask-shown, mask-runs, ended-stored}
@@ -36,18 +40,19 @@ use Rattle.engine.specs.Release.{overWords}
 abbrev pub unsampled : Lane → Lane
 unsampled k = setPending (k .pending) unheld k
 
-flags-dropped : (l : Lane) → withFlag heldBit false (flags l) ≡ flags (unsampled l)
+flags-dropped : (l : Lane) → withoutBit snapshotBit (flags l) ≡ flags (unsampled l)
 unfolding recordAt droppedRecord laneWords
 flags-dropped l = sym (ap (λ (r : LaneRecord). r .flags) (recordOf-dropped l (l .pending)))
 
 pub dropped-stored : (s : State) (m : List ℕ) → Shows m s → LaneAtEach s → (i : ℕ) → i < laneCount (s .sizes)
-    → droppedAt m (laneAddress (s .sizes) i) ≡ stored (withLane s i unsampled) m
+    → changedAt m (laneAddress (s .sizes) i) Drop ≡ stored (withLane s i unsampled) m
 unfolding droppedAt snapshotCount laneWords
 dropped-stored s m shows each i h =
     let a = laneAddress (s .sizes) i in
     let e : a ≡ a + 0 = omega arith in
-    ap (λ (w : ℕ). sets (set m a w) (a + snapshotAt) (0 ∷ 0 ∷ 0 ∷ 0 ∷ []))
-    (ap (withFlag heldBit false) (ap (at m) e ∙ shows .image (lane i 0) (h, omega arith)) ∙ flags-dropped (laneAt (s .engine) i))
+    changed-dropped m a
+    ∙ ap (λ (w : ℕ). sets (set m a w) (a + snapshotAt) (0 ∷ 0 ∷ 0 ∷ 0 ∷ []))
+    (ap (withoutBit snapshotBit) (ap (at m) e ∙ shows .image (lane i 0) (h, omega arith)) ∙ flags-dropped (laneAt (s .engine) i))
     ∙ lane-snapshot s m shows each i h unheld
 
 -- ---- the bit

@@ -16,7 +16,8 @@ use Rattle.representation.specs.Fields.{lane}
 use Rattle.changes.specs.Shows.{Shows, shows-then, stored-then}
 use Rattle.changes.specs.Shape.{LaneAtEach, Shape}
 use Rattle.changes.specs.Engines.{shape-engine}
-use Rattle.lanes.specs.Cabinet.{droppedAt}
+use Rattle.lanes.specs.declared.Change.the-variants.{Drop}
+use Rattle.lanes.specs.Changes.{changedAt}
 use Rattle.lanes.specs.CabinetLaws.{cabinetAt-lane}
 use Rattle.engine.specs.PeriodWords.{row-within}
 use Rattle.engine.specs.PeriodLaws.{shape-ended}
@@ -35,13 +36,13 @@ module _ (s : State) (m : List ℕ) (shows : Shows m s) (each : LaneAtEach s) (c
   u = withLane s lane-number unsampled
 
   abbrev dropped : List ℕ
-  dropped = droppedAt m (laneIn (s .sizes .cabinets) (s .sizes .places) c p)
+  dropped = changedAt m (laneIn (s .sizes .cabinets) (s .sizes .places) c p) Drop
 
   lane-within : lane-number < laneCount (s .sizes)
   lane-within = omega (arith, row-within c (s .sizes .cabinets) (s .sizes .places) inCabinets)
 
   first-stored : dropped ≡ stored u m
-  first-stored = ap (droppedAt m) (cabinetAt-lane (s .sizes) c p) ∙ dropped-stored s m shows each lane-number lane-within
+  first-stored = ap (λ (a : ℕ). changedAt m a Drop) (cabinetAt-lane (s .sizes) c p) ∙ dropped-stored s m shows each lane-number lane-within
 
   each-u : LaneAtEach u
   each-u = length-update (s .engine .lanes) lane-number unsampled ∙ each

@@ -10,7 +10,7 @@ use lib.Seq.{getD-set-same, getD-set-other}
 use Rattle.model.specs.Lists.{concat, concatMap, count}
 use Rattle.model.specs.Lists.{mask as maskOf}
 use Rattle.model.specs.State.{Sizes, laneCount, isRunning, isHeld, Lane, State}
-use Rattle.model.specs.Layout.{cabinetMaskAt, headsAt, freeAt, masksAt, laneAddress, slotAddress}
+use Rattle.model.specs.Layout.{cabinetMaskAt, headsAt, freeAt, masksAt, laneAddress, slotAddress, onlineBit}
 use Rattle.model.specs.Engine.{freshLane, laneAt, withLanes, awaiting, started}
 use Rattle.model.specs.Rules.{withEngine}
 use Rattle.model.specs.Memory.{at, flag, flags, laneWords, laneQueues, queuesOf, pendingAt, laneMask, cabinetMask, isNotZero}
@@ -24,9 +24,9 @@ use Rattle.representation.specs.Writes.{Image, by-fields}
 use Rattle.changes.specs.Shows.{Shows}
 use Rattle.changes.specs.Shape.{LaneAtEach, Shape}
 use Rattle.changes.specs.Engines.{shape-engine, withPending, maskedValue, value-withPending}
-use Rattle.lanes.specs.Record.{onlineBit}
+use Rattle.lanes.specs.Cabinet.{cabinetAt, onlineAt}
 use Rattle.lanes.specs.CabinetLaws.{cabinetAt-lane}
-use Rattle.engine.specs.Period.{onlineIn, onlineWord, someOnline, masksSet, waitingFor, startedWords}
+use Rattle.engine.specs.Period.{onlineWord, someOnline, masksSet, waitingFor, startedWords}
 use Rattle.engine.specs.PeriodWords.{row-within, masksSet-else, masksSet-there, length-masksSet, length-startedWords}
 
 -- ---- begin period
@@ -73,9 +73,9 @@ module _ (s : State) (m : List ℕ) (shows : Shows m s) (each : LaneAtEach s) wh
 
   mask-started : (c : ℕ) → c < z .cabinets → onlineWord m (z .cabinets) (z .places) c ≡ laneMask t c
   unfolding onlineWord
-  mask-started c h = ap maskOf (map-from-alike (onlineIn m (z .cabinets) (z .places) c) (pendingAt t c) 0 (z .places) go)
+  mask-started c h = ap maskOf (map-from-alike (onlineAt m (cabinetAt (z .cabinets) (z .places) c)) (pendingAt t c) 0 (z .places) go)
     where
-      go : (p : ℕ) → 0 ≤ p → p < 0 + z .places → onlineIn m (z .cabinets) (z .places) c p ≡ pendingAt t c p
+      go : (p : ℕ) → 0 ≤ p → p < 0 + z .places → onlineAt m (cabinetAt (z .cabinets) (z .places) c) p ≡ pendingAt t c p
       go p a b =
           let k : c * z .places + p < laneCount z = omega (arith, row-within c (z .cabinets) (z .places) h) in
           ap (λ (a : ℕ). flag onlineBit (at m a)) (cabinetAt-lane z c p) ∙ online-shown (c * z .places + p) k ∙ sym (pending-started (c * z .places + p) k)

@@ -4,28 +4,18 @@ ghost use mathlib.Core.Path.{_≡_};
 ghost use Prim.Native.Nat.{_<_};
 ghost use lib.ListN.{length};
 ghost use Rattle.model.specs.Layout.{largestGenerationAt};
-ghost use Rattle.lanes.specs.Cabinet.{sampledAt, droppedAt};
-ghost use Rattle.engine.specs.Period.{Lent, CabinetLent, onlineWord, Awaited, startedWords, endedWords, raisedWords, requestedWords};
-ghost use Rattle.engine.specs.Release.{Awaits, LaneLent, laneIn, overWords, clearedWords, passedWords, releasedWords};
-
-// The mask of the lanes of a cabinet that are on.
-fn cabinet_online(m: &[u32], cabinets: usize, places: usize, cabinet: usize) -> u32
-    requires { ⌜ CabinetLent (now m) cabinets places cabinet ⌝ }
-    ensures { λ r. ⌜ r ≡ onlineWord (now (m .entry)) cabinets places cabinet ⌝ }
-{
-    let start = lanes::cabinet::cabinet_start(words::MASKS_AT + cabinets, places, cabinet);
-    let end = start + words::LANE_LENGTH * places;
-    lanes::cabinet::online_mask(&m[start..end], places)
-}
+ghost use Rattle.engine.specs.Period.{Lent, CabinetKnown, Awaited, startedWords, endedWords, raisedWords, requestedWords};
+ghost use Rattle.engine.specs.Release.{Awaits, LaneKnown, overWords, clearedWords, passedWords, releasedWords};
 
 // The period waits for the lanes of a cabinet that are on: its lane mask is theirs. Answers the cabinet mask
 // `waiting`, with the cabinet's bit where there is such a lane.
 fn await_cabinet(m: &mut [u32], cabinets: usize, places: usize, cabinet: u32, waiting: u32) -> u32
-    requires { ⌜ CabinetLent (now m) cabinets places cabinet ⌝ }
+    requires { ⌜ CabinetKnown (now m) cabinets places cabinet ⌝ }
     ensures { λ r. ⌜ Awaited (now (m .entry)) cabinets places cabinet waiting r (now (m .exit)) ⌝ }
 {
-    let c = words::index(cabinet);
-    let online = cabinet_online(m, cabinets, places, c);
+    let c = cabinet as usize;
+    let start = lanes::cabinet::cabinet_start(cabinets, places, c);
+    let online = lanes::cabinet::cabinet_online(m, start, places);
     m[words::MASKS_AT + c] = online;
     if online == 0 {
         return waiting;
@@ -96,7 +86,7 @@ fn clear_pending(m: &mut [u32], cabinet: u32, place: u32)
     requires { ⌜ Awaits (now m) cabinet place ⌝ }
     ensures { λ _. ⌜ now (m .exit) ≡ clearedWords (now (m .entry)) cabinet place ⌝ }
 {
-    let i = words::MASKS_AT + words::index(cabinet);
+    let i = words::MASKS_AT + (cabinet as usize);
     let rest = masks::clear_bit(m[i], place);
     m[i] = rest;
     if rest == 0 {
@@ -104,33 +94,12 @@ fn clear_pending(m: &mut [u32], cabinet: u32, place: u32)
     }
 }
 
-// The lane at a place of a cabinet drops its snapshot: the cabinet's part is handed on.
-fn drop_in(m: &mut [u32], cabinets: usize, places: usize, cabinet: usize, place: usize)
-    requires { ⌜ LaneLent (now m) cabinets places cabinet place ⌝ }
-    ensures { λ _. ⌜ now (m .exit) ≡ droppedAt (now (m .entry)) (laneIn cabinets places cabinet place) ⌝ }
-{
-    let start = lanes::cabinet::cabinet_start(words::MASKS_AT + cabinets, places, cabinet);
-    let end = start + words::LANE_LENGTH * places;
-    lanes::cabinet::drop_snapshot(&mut m[start..end], place);
-}
-
-// The lane at a place of a cabinet copies its counts: the cabinet's part is handed on.
-pub fn sample_in(m: &mut [u32], cabinets: usize, places: usize, cabinet: usize, place: usize)
-    requires { ⌜ LaneLent (now m) cabinets places cabinet place ⌝ }
-    ensures { λ _. ⌜ now (m .exit) ≡ sampledAt (now (m .entry)) (laneIn cabinets places cabinet place) ⌝ }
-{
-    let start = lanes::cabinet::cabinet_start(words::MASKS_AT + cabinets, places, cabinet);
-    let end = start + words::LANE_LENGTH * places;
-    lanes::cabinet::take_snapshot(&mut m[start..end], place);
-}
-
 // The bit of a lane goes if it is set, and the period ends if it was the last.
 fn pass_period(m: &mut [u32], cabinets: usize, places: usize, cabinet: u32, place: u32)
-    requires { ⌜ (Lent (now m) cabinets places) × ((cabinet < cabinets) × (place < places)) ⌝ }
+    requires { ⌜ LaneKnown (now m) cabinets places cabinet place ⌝ }
     ensures { λ _. ⌜ now (m .exit) ≡ passedWords (now (m .entry)) cabinets places cabinet place ⌝ }
 {
-    let c = words::index(cabinet);
-    if masks::test(m[words::MASKS_AT + c], place) {
+    if masks::test(m[words::MASKS_AT + (cabinet as usize)], place) {
         clear_pending(m, cabinet, place);
         end_if_over(m, cabinets, places);
     }
@@ -138,11 +107,10 @@ fn pass_period(m: &mut [u32], cabinets: usize, places: usize, cabinet: u32, plac
 
 // The lane at a place of a cabinet drops its snapshot and its bit, and the period ends if that was the last.
 pub fn release(m: &mut [u32], cabinets: usize, places: usize, cabinet: u32, place: u32)
-    requires { ⌜ (Lent (now m) cabinets places) × ((cabinet < cabinets) × (place < places)) ⌝ }
+    requires { ⌜ LaneKnown (now m) cabinets places cabinet place ⌝ }
     ensures { λ _. ⌜ now (m .exit) ≡ releasedWords (now (m .entry)) cabinets places cabinet place ⌝ }
 {
-    let c = words::index(cabinet);
-    let p = words::index(place);
-    drop_in(m, cabinets, places, c, p);
+    let start = lanes::cabinet::cabinet_start(cabinets, places, cabinet as usize);
+    lanes::cabinet::change_lane(m, start, places, place as usize, lanes::Change::Drop);
     pass_period(m, cabinets, places, cabinet, place);
 }

@@ -1,14 +1,16 @@
 -- A lane's record as the code holds it, and its nineteen words (document 01, "The memory", Lanes, and "Generations and passes").
-use Prim.Native.Nat.{ℕ, _+_, _*_, _-_, _^_}
-use mathlib.Core.Bool.{Bool, true, false}
+use Prim.Native.Nat.{ℕ, _+_}
+use mathlib.Core.Bool.{Bool, true, not, _&&_}
 use mathlib.Core.List.{List, [], _∷_}
 use lib.ListN.{getD}
 use lib.Seq.{sets}
+use lib.Dec.{eqb}
 use Rattle.model.specs.Word.{upTo}
-use Rattle.model.specs.Lists.{update, bit}
+use Rattle.model.specs.Lists.{update}
 use Rattle.model.specs.State.{Lane}
-use Rattle.model.specs.Layout.{countLimit, lastOffset, currentOffset, doneOffset, quiescentAt, snapshotAt, generationAt, queuesAt, lookupAt, positionAt}
+use Rattle.model.specs.Layout.{countLimit, lastOffset, currentOffset, doneOffset, quiescentAt, snapshotAt, generationAt, queuesAt, lookupAt, positionAt, onlineBit, snapshotBit}
 use Rattle.model.specs.Memory.{at, flag, readCounts, laneWords}
+use Rattle.masks.specs.Bits.{withBit, withoutBit}
 use Rattle.lanes.specs.declared.LaneRecord.{LaneRecord}
 
 -- ---- the record in its words
@@ -56,19 +58,6 @@ recordStored m a r = sets m a (recordWords r)
 abbrev pub recordOf : Lane → LaneRecord
 recordOf l = recordAt (laneWords l) 0
 
--- ---- flags
-
--- the bits of the flags for a lane that is on, and for a held snapshot
-abbrev pub onlineBit : ℕ
-onlineBit = 0
-
-abbrev pub heldBit : ℕ
-heldBit = 3
-
--- the word w with its bit p set to b
-abbrev pub withFlag : ℕ → Bool → ℕ → ℕ
-withFlag p b w = w + bit b * 2 ^ p - bit (flag p w) * 2 ^ p
-
 -- ---- what the rules do to a record
 
 -- the record with other quiescent counts
@@ -115,8 +104,26 @@ countedRecord r k = withQuiescent (update (r .quiescent) k (upTo countLimit)) r
 
 -- the counts are copied
 unfoldable pub sampledRecord : LaneRecord → LaneRecord
-sampledRecord r = withSnapshot (withFlag heldBit true (r .flags)) (r .quiescent) r
+sampledRecord r = withSnapshot (withBit snapshotBit (r .flags)) (r .quiescent) r
 
 -- the snapshot is dropped, and its words are at rest
 unfoldable pub droppedRecord : LaneRecord → LaneRecord
-droppedRecord r = withSnapshot (withFlag heldBit false (r .flags)) (0 ∷ 0 ∷ 0 ∷ 0 ∷ []) r
+droppedRecord r = withSnapshot (withoutBit snapshotBit (r .flags)) (0 ∷ 0 ∷ 0 ∷ 0 ∷ []) r
+
+-- the lane is off
+unfoldable pub offlineRecord : LaneRecord → LaneRecord
+offlineRecord r = withSnapshot (withoutBit onlineBit (r .flags)) (r .snapshot) r
+
+-- ---- what the rules ask of a record
+
+-- four counts are these others
+abbrev pub sameCounts : List ℕ → List ℕ → Bool
+sameCounts a b = eqb (at a 0) (at b 0) && (eqb (at a 1) (at b 1) && (eqb (at a 2) (at b 2) && (eqb (at a 3) (at b 3) && true)))
+
+-- it holds a snapshot
+abbrev pub isHolding : LaneRecord → Bool
+isHolding r = flag snapshotBit (r .flags)
+
+-- it holds a snapshot, and some count differs from it
+abbrev pub movedOn : LaneRecord → Bool
+movedOn r = isHolding r && not (sameCounts (r .quiescent) (r .snapshot))

@@ -1,25 +1,22 @@
--- Laws of the lane record: it reads back, all other words stay, and it is the model's lane in its words. Assumes nothing.
-use Prim.Native.Nat.{ℕ, zero, suc, _+_, _*_, _-_, _^_, _<_, _≤_}
-use mathlib.Core.Bool.{Bool, true, false}
+-- Laws of the lane record: it reads back, all other words stay, and it is the model's lane in its words.
+use Prim.Native.Nat.{ℕ, zero, suc, _+_, _<_, _≤_}
+use mathlib.Core.Bool.{Bool}
 use mathlib.Core.Path.{_≡_, refl, ap, ap₂, sym, _∙_}
 use mathlib.Core.List.{List, [], _∷_, map}
 use native.Mathlib.Omega.{arith}
 use lib.ListN.{length, set, take, drop}
 use lib.Seq.{sets, drop-cons}
-use lib.Pow.{pow-lt}
-use lib.Bits.{bitAnd, bitOr, or-add-and}
 use Rattle.model.specs.Word.{upTo}
-use Rattle.model.specs.Lists.{from, update, mask, bit}
-use Rattle.model.specs.State.{Lane, Snapshot, unheld, held, isHeld, isRunning}
-use Rattle.model.specs.Layout.{kinds, countLimit, laneLength, quiescentAt, snapshotAt, generationAt, queuesAt, lastOffset, currentOffset, doneOffset, lookupAt, positionAt}
+use Rattle.model.specs.Lists.{from, update}
+use Rattle.model.specs.State.{Lane, unheld, held, isHeld, isRunning}
+use Rattle.model.specs.Layout.{kinds, countLimit, laneLength, quiescentAt, snapshotAt, generationAt, queuesAt, lastOffset, currentOffset, doneOffset, lookupAt, positionAt, snapshotBit}
 use Rattle.model.specs.Engine.{counted, setPending}
 use Rattle.model.specs.Memory.{at, flags, readCounts, laneWords, snapshotCount}
 use Rattle.laws.specs.Lists.{length-update}
-use Rattle.laws.specs.Masks.{flag-mask}
-use Rattle.laws.specs.MaskFlags.{and-bit, and-complement, mask-set}
 use Rattle.laws.specs.Stores.{getD-sets-below, getD-sets-above, map-sets, sets-same}
+use Rattle.masks.proofs.BitLaws.{withBit-mask, withoutBit-mask}
 use Rattle.lanes.specs.Offsets.{plus-1, plus-2, plus-3, plus-4, plus-5, plus-9, plus-10, plus-16, plus-18}
-use Rattle.lanes.specs.Record.{recordAt, recordWith, recordWords, recordStored, recordOf, withFlag, heldBit, withQuiescent, withSnapshot, countedRecord, sampledRecord, droppedRecord}
+use Rattle.lanes.specs.Record.{recordAt, recordWith, recordWords, recordStored, recordOf, withQuiescent, withSnapshot, countedRecord, sampledRecord, droppedRecord}
 use Rattle.lanes.specs.declared.LaneRecord.{LaneRecord}
 
 -- ---- the words of a record
@@ -111,22 +108,6 @@ pub recordStored-after : (m : List ℕ) (a : ℕ) (r : LaneRecord) (i : ℕ) →
 unfolding recordWords
 recordStored-after m a r i h = getD-sets-above (recordWords r) m a i 0 h
 
--- ---- flags
-
--- a word that is the mask of its flags, with one of them set to b
-pub withFlag-mask : (bs : List Bool) (p : ℕ) (b : Bool) → p < length bs → withFlag p b (mask bs) ≡ mask (set bs p b)
-withFlag-mask bs p b h = omega (arith, mask-set bs p b h, ap (λ (c : Bool). bit c * 2 ^ p) (flag-mask bs p))
-
--- `w & !(1 << p)`
-pub and-withFlag : (p w : ℕ) → p < 32 → w < 2 ^ 32 → bitAnd w ((2 ^ 32 - 1) - 2 ^ p) ≡ withFlag p false w
-unfolding bit
-and-withFlag p w h l = omega (arith, and-complement 32 w (2 ^ p) l (pow-lt h), and-bit w p)
-
--- `w | (1 << p)`
-pub or-withFlag : (p w : ℕ) → bitOr w (2 ^ p) ≡ withFlag p true w
-unfolding bit
-or-withFlag p w = omega (arith, or-add-and w (2 ^ p), and-bit w p)
-
 -- ---- the record of a lane
 
 pub recordWords-recordOf : (l : Lane) → recordWords (recordOf l) ≡ laneWords l
@@ -145,14 +126,15 @@ recordOf-counted l k h hq = ap (λ (c : List ℕ). withQuiescent c (recordOf l))
     go : (c : List ℕ) (k : ℕ) → k < kinds → length c ≡ kinds → readCounts (update c k (upTo countLimit)) 0 ≡ update (readCounts c 0) k (upTo countLimit)
     go c k h hq = counts-back (update c k (upTo countLimit)) (length-update c k (upTo countLimit) ∙ hq) ∙ ap (λ (d : List ℕ). update d k (upTo countLimit)) (sym (counts-back c hq))
 
-flags-snapshot : (l : Lane) (b : Bool) (s : Snapshot) → flags (setPending b s l) ≡ withFlag heldBit (isHeld s) (flags l)
-unfolding flags
-flags-snapshot l b s = sym (withFlag-mask (l .online ∷ l .reading ∷ isRunning (l .lookup) ∷ isHeld (l .snapshot) ∷ []) heldBit (isHeld s) (omega arith))
+-- the flags of a lane, bit 0 first
+abbrev laneFlags : Lane → List Bool
+laneFlags l = l .online ∷ l .reading ∷ isRunning (l .lookup) ∷ isHeld (l .snapshot) ∷ []
 
 pub recordOf-sampled : (l : Lane) (b : Bool) → recordOf (setPending b (held (l .quiescent)) l) ≡ sampledRecord (recordOf l)
-unfolding sampledRecord recordAt laneWords snapshotCount isHeld
-recordOf-sampled l b = ap (λ (w : ℕ). withSnapshot w (readCounts (l .quiescent) 0) (recordOf l)) (flags-snapshot l b (held (l .quiescent)))
+unfolding sampledRecord recordAt laneWords snapshotCount isHeld flags
+recordOf-sampled l b =
+    ap (λ (w : ℕ). withSnapshot w (readCounts (l .quiescent) 0) (recordOf l)) (sym (withBit-mask (laneFlags l) (omega arith) snapshotBit (omega arith)))
 
 pub recordOf-dropped : (l : Lane) (b : Bool) → recordOf (setPending b unheld l) ≡ droppedRecord (recordOf l)
-unfolding droppedRecord recordAt laneWords snapshotCount isHeld
-recordOf-dropped l b = ap (λ (w : ℕ). withSnapshot w (0 ∷ 0 ∷ 0 ∷ 0 ∷ []) (recordOf l)) (flags-snapshot l b unheld)
+unfolding droppedRecord recordAt laneWords snapshotCount isHeld flags
+recordOf-dropped l b = ap (λ (w : ℕ). withSnapshot w (0 ∷ 0 ∷ 0 ∷ 0 ∷ []) (recordOf l)) (sym (withoutBit-mask (laneFlags l) (omega arith) snapshotBit (omega arith)))

@@ -1,5 +1,5 @@
-// A lane's record as a struct, taken apart from its words and written to them, and the count of a
-// quiescent state: by value, and in a record that is lent.
+// A lane's record as a struct, taken apart from its words and written to them, and what the rules do to it: the
+// count of a quiescent state, by value and in a record that is lent, and the snapshot taken, compared and dropped.
 ghost use mathlib.Core.Path.{_≡_};
 ghost use Prim.Native.Nat.{_+_, _<_, _≤_};
 ghost use lib.ListN.{length};
@@ -8,7 +8,9 @@ ghost use Rattle.model.specs.Word.{upTo};
 ghost use Rattle.model.specs.Lists.{update};
 ghost use Rattle.model.specs.Layout.{kinds, countLimit, laneLength};
 ghost use Rattle.model.specs.Memory.{readCounts};
-ghost use Rattle.lanes.specs.Record.{recordAt, recordStored, countedRecord};
+ghost use Rattle.lanes.specs.Record.{recordAt, recordStored, countedRecord, sampledRecord, droppedRecord, offlineRecord};
+ghost use Rattle.lanes.specs.Record.{sameCounts, isHolding, movedOn};
+ghost use Rattle.lanes.specs.Changes.{Fits, changedRecord};
 
 pub mod cabinet;
 
@@ -95,20 +97,15 @@ pub fn write_lane(m: &mut [u32], at: usize, r: LaneRecord)
     m[at + words::POSITION_AT] = r.position;
 }
 
-// One more, wrapping from the largest word to 0.
-fn up(count: u32) -> u32
-    ensures { λ r. ⌜ r ≡ upTo countLimit count ⌝ }
-{
-    std::num::wrapping_add_u32(count, 1)
-}
+// ---- counts
 
-// The counts with that of a kind one up, wrapping.
+// The counts with that of a kind one up, wrapping from the largest word to 0.
 pub fn count(quiescent: [u32; 4], kind: usize) -> [u32; 4]
     requires { ⌜ kind < kinds ⌝ }
     ensures { λ r. ⌜ r ≡ update quiescent kind (upTo countLimit) ⌝ }
 {
     let mut counts = quiescent;
-    counts[kind] = up(counts[kind]);
+    counts[kind] = std::num::wrapping_add_u32(counts[kind], 1);
     counts
 }
 
@@ -140,4 +137,88 @@ pub fn passed(r: LaneRecord, kind: usize) -> LaneRecord
     let mut s = r;
     count_pass(&mut s, kind);
     s
+}
+
+// ---- snapshots
+
+// The record after its counts were copied: the snapshot is held.
+fn sampled(r: LaneRecord) -> LaneRecord
+    ensures { λ s. ⌜ s ≡ sampledRecord r ⌝ }
+{
+    let counts = r.quiescent;
+    let mut s = r;
+    s.flags = masks::set_bit(r.flags, words::SNAPSHOT);
+    s.snapshot = counts;
+    s
+}
+
+// The record without its snapshot: the bit and the counts of it are at rest.
+fn dropped(r: LaneRecord) -> LaneRecord
+    ensures { λ s. ⌜ s ≡ droppedRecord r ⌝ }
+{
+    let mut s = r;
+    s.flags = masks::clear_bit(r.flags, words::SNAPSHOT);
+    s.snapshot = [0, 0, 0, 0];
+    s
+}
+
+// Whether four counts are these others.
+fn same_counts(a: [u32; 4], b: [u32; 4]) -> bool
+    ensures { λ r. ⌜ r ≡ sameCounts a b ⌝ }
+{
+    (a[0] == b[0]) & ((a[1] == b[1]) & ((a[2] == b[2]) & ((a[3] == b[3]) & true)))
+}
+
+// Whether a record holds a snapshot.
+pub fn is_holding(r: LaneRecord) -> bool
+    ensures { λ b. ⌜ b ≡ isHolding r ⌝ }
+{
+    masks::test(r.flags, words::SNAPSHOT)
+}
+
+// Whether a record holds a snapshot from which some count differs: the lane went through a quiescent state since.
+pub fn moved_on(r: LaneRecord) -> bool
+    ensures { λ b. ⌜ b ≡ movedOn r ⌝ }
+{
+    let counts = r.quiescent;
+    let snapshot = r.snapshot;
+    let held = is_holding(r);
+    let same = same_counts(counts, snapshot);
+    held & !same
+}
+
+// ---- what the rules do to a record
+
+// The record of a lane that went off.
+fn offline(r: LaneRecord) -> LaneRecord
+    ensures { λ s. ⌜ s ≡ offlineRecord r ⌝ }
+{
+    let mut s = r;
+    s.flags = masks::clear_bit(r.flags, words::ONLINE);
+    s
+}
+
+// A change of a lane's record.
+pub enum Change {
+    // a quiescent state of a kind is counted
+    Pass(usize),
+    // the counts are copied to the snapshot
+    Sample,
+    // the snapshot is dropped
+    Drop,
+    // the lane goes off
+    Leave,
+}
+
+// The record after a change.
+pub fn changed(r: LaneRecord, change: Change) -> LaneRecord
+    requires { ⌜ Fits change ⌝ }
+    ensures { λ s. ⌜ s ≡ changedRecord change r ⌝ }
+{
+    match change {
+        Change::Pass(kind) => passed(r, kind),
+        Change::Sample => sampled(r),
+        Change::Drop => dropped(r),
+        Change::Leave => offline(r),
+    }
 }

@@ -10,11 +10,12 @@ use Rattle.model.specs.Rules.{off, clock, zeros, accepted, firstOf, ofLane, cau
 use Rattle.model.specs.Memory.{at, sizes, state}
 use Rattle.model.specs.Calls.{on-state, stored}
 use Rattle.representation.specs.Memories.{Sound}
-use Rattle.engine.specs.Off.{OffLent, offWords}
+use Rattle.engine.specs.Release.{TableLent}
+use Rattle.engine.specs.Off.{offWords}
 use Rattle.engine.specs.OffLaws.{off-stored}
-use Rattle.engine.specs.Lends.{off-lent-shown}
-use Rattle.snapshots.specs.Clock.{ClockLent, clockWords}
-use Rattle.snapshots.specs.ClockLaws.{clock-lent, clock-stored, clock-answer}
+use Rattle.engine.specs.Lends.{table-lent-shown}
+use Rattle.engine.specs.Clock.{clockWords}
+use Rattle.engine.specs.ClockLaws.{clock-stored, clock-answer}
 use Rattle.access.specs.declared.Answer.{Answer}
 use Rattle.access.specs.Contract.{five, Does}
 use Rattle.access.specs.Ways.{performs, passed, shown, wellFormed, inRange}
@@ -45,16 +46,12 @@ module _ (m : List ℕ) (i : ℕ) (k : LaneIn m i) where
   stands = stands-at m i (i / z .places) (i % z .places) k refl refl
 
   module _ (cs ps b c p : ℕ) (ec : cs ≡ z .cabinets) (ep : ps ≡ z .places) (eb : b ≡ slotsBody z) (ei : c ≡ i / z .places) (ej : p ≡ i % z .places) where
-    pub off-lent : OffLent m cs ps b (z .slots) c p
+    pub table-lent : TableLent m cs ps b (z .slots) c p
     unfolding state
-    off-lent = rw (ec, ep, eb, ei, ej) (off-lent-shown (state m) m (shown m (k .sound)) (inRange m (k .sound)) _ _ (stands .cabinet) (stands .place))
+    table-lent = rw (ec, ep, eb, ei, ej) (table-lent-shown (state m) m (shown m (k .sound)) (inRange m (k .sound)) _ _ (stands .cabinet) (stands .place))
 
     pub off-by : offWords m cs ps b (z .slots) c p ≡ takenOff m i
     off-by = rw (ec, ep, eb, ei, ej)
-
-    pub clock-lends : ClockLent m cs ps b (z .slots) c p
-    unfolding state
-    clock-lends = rw (ec, ep, eb, ei, ej) (clock-lent (state m) m (shown m (k .sound)) (wellFormed m (k .sound)) _ _ (stands .cabinet) (stands .place))
 
     pub clock-by : clockWords m cs ps b (z .slots) c p ≡ tickWords m i
     clock-by = rw (ec, ep, eb, ei, ej)

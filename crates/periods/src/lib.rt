@@ -103,7 +103,7 @@ fn tick(m: &mut [u32], lane: u32)
     let base = access::slots_start(m);
     let cabinet = access::cabinet_of(m, lane);
     let place = access::place_of(m, lane);
-    snapshots::clock(m, cabinets, places, base, slots, cabinet, place);
+    engine::clock::clock(m, cabinets, places, base, slots, cabinet, place);
 }
 
 // 1 if a grace period runs, else 0.

@@ -5,7 +5,7 @@ use mathlib.Core.Bool.{Bool, true, false}
 use mathlib.Core.List.{List}
 use lib.ListN.{set}
 use Rattle.model.specs.State.{Lane}
-use Rattle.model.specs.Layout.{flagsAt, laneAddress}
+use Rattle.model.specs.Layout.{flagsAt, laneAddress, onlineBit, readingBit}
 use Rattle.model.specs.Engine.{setOnline, setReading}
 use Rattle.model.specs.Rules.{begin, end, on, zeros, refusal, laneOf, withLane, performed, result}
 use Rattle.model.specs.Memory.{flags, laneWords, laneQueues, sizes, state}
@@ -15,7 +15,7 @@ use Rattle.changes.specs.LaneWords.{lane-flags}
 use Rattle.access.specs.declared.Answer.{Answer}
 use Rattle.access.specs.Contract.{five, Does}
 use Rattle.access.specs.Ways.{performs, passed, shown, wellFormed}
-use Rattle.access.specs.Flags.{onlineBit, readingBit, withFlag, flagPut, flags-shown, flags-online, flags-reading}
+use Rattle.access.specs.Flags.{withFlag, flagPut, flags-shown, flags-online, flags-reading}
 use Rattle.access.specs.Lanes.{LaneIn, lane-known}
 
 module _ (m : List ℕ) (v : Sound m) (i : ℕ) where

@@ -7,7 +7,7 @@ use native.Mathlib.Omega.{arith}
 use lib.ListN.{set}
 use Rattle.model.specs.Lists.{first}
 use Rattle.model.specs.State.{Lookup, idle, running, isRunning, State}
-use Rattle.model.specs.Layout.{flagsAt, lookupAt, positionAt, laneAddress, slotsBody}
+use Rattle.model.specs.Layout.{flagsAt, lookupAt, positionAt, laneAddress, slotsBody, lookupBit}
 use Rattle.model.specs.Table.{chainOf}
 use Rattle.model.specs.Engine.{setLookup}
 use Rattle.model.specs.Rules.{start, zeros, refusal, laneOf, outcome, result}
@@ -24,7 +24,7 @@ use Rattle.changes.specs.LaneCalls.{start-stored}
 use Rattle.access.specs.declared.Answer.{Answer}
 use Rattle.access.specs.Contract.{five, Does}
 use Rattle.access.specs.Ways.{performs, passed, shown, wellFormed}
-use Rattle.access.specs.Flags.{lookupBit, withFlag, word-shown, flags-shown, flags-lookup}
+use Rattle.access.specs.Flags.{withFlag, word-shown, flags-shown, flags-lookup}
 use Rattle.access.specs.Lanes.{LaneIn, lane-known}
 
 -- flags f, code c and position p in the record that begins at a; all other words stay

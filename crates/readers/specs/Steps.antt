@@ -9,7 +9,7 @@ use lib.ListN.{set, getD}
 use borrow.Author.Tests.{eq-eqb}
 use Rattle.model.specs.Word.{none}
 use Rattle.model.specs.State.{Lookup, idle, running, isRunning, Table}
-use Rattle.model.specs.Layout.{positionAt, laneAddress, slotsBody}
+use Rattle.model.specs.Layout.{positionAt, laneAddress, slotsBody, lookupBit}
 use Rattle.model.specs.Table.{linkOf}
 use Rattle.model.specs.Engine.{setLookup}
 use Rattle.model.specs.Rules.{Answer as Reply, step, refusal, laneOf, Outcome, going, found, absent, outcome, continued, outcomeAnswer, result}
@@ -26,7 +26,7 @@ use Rattle.access.specs.declared.Answer.{Answer}
 use Rattle.access.specs.Contract.{five, Does}
 use Rattle.access.specs.Ways.{performs, passed, shown, wellFormed}
 use Rattle.access.specs.Lanes.{lane-known}
-use Rattle.access.specs.Flags.{lookupBit, withFlag, flags-shown, flags-lookup}
+use Rattle.access.specs.Flags.{withFlag, flags-shown, flags-lookup}
 use Rattle.readers.specs.Lookups.{Looking, lookupStored, lookupStored-from, lookup-shown}
 
 -- a lane of a legal memory whose lookup goes on

@@ -41,7 +41,7 @@ pub fn begin(m: &mut [u32], lane: u32) -> access::Answer
     if n > 0 {
         return access::refused(n);
     }
-    access::put_flag(m, lane, access::READING, true);
+    access::put_flag(m, lane, words::READING, true);
     access::accepted(0, 0, 0, 0)
 }
 
@@ -74,7 +74,7 @@ pub fn end(m: &mut [u32], lane: u32) -> access::Answer
     if n > 0 {
         return access::refused(n);
     }
-    access::put_flag(m, lane, access::READING, false);
+    access::put_flag(m, lane, words::READING, false);
     access::accepted(0, 0, 0, 0)
 }
 
@@ -103,7 +103,7 @@ pub fn on(m: &mut [u32], lane: u32) -> access::Answer
     if n > 0 {
         return access::refused(n);
     }
-    access::put_flag(m, lane, access::ONLINE, true);
+    access::put_flag(m, lane, words::ONLINE, true);
     access::accepted(0, 0, 0, 0)
 }
 
@@ -154,7 +154,7 @@ pub fn start(m: &mut [u32], lane: u32, code: u64) -> access::Answer
     }
     let a = access::lane_address(m, lane);
     let head = access::chain_head(m, code);
-    let flags = access::with_flag(m[a], access::LOOKUP, true);
+    let flags = access::with_flag(m[a], words::LOOKUP, true);
     put_lookup(m, a, flags, code, head);
     access::accepted(0, 0, 0, 0)
 }
@@ -229,7 +229,7 @@ fn end_lookup(m: &mut [u32], lane: u32)
     ensures { λ _. ⌜ now (m .exit) ≡ lookupEnded (now (m .entry)) lane ⌝ }
 {
     let a = access::lane_address(m, lane);
-    let flags = access::with_flag(m[a], access::LOOKUP, false);
+    let flags = access::with_flag(m[a], words::LOOKUP, false);
     put_lookup(m, a, flags, 0, words::NONE);
 }
 
@@ -288,10 +288,12 @@ pub fn pass(m: &mut [u32], lane: u32, kind: u32) -> access::Answer
     if n > 0 {
         return access::refused(n);
     }
-    let lanes_at = words::MASKS_AT + words::index(m[words::CABINETS_AT]);
+    let cabinets = words::index(m[words::CABINETS_AT]);
     let places = words::index(m[words::PLACES_AT]);
     let cabinet = words::index(access::cabinet_of(m, lane));
     let place = words::index(access::place_of(m, lane));
-    lanes::cabinet::pass_lane(m, lanes_at, places, cabinet, place, words::index(kind));
+    let start = lanes::cabinet::cabinet_start(cabinets, places, cabinet);
+    let pass = lanes::Change::Pass(words::index(kind));
+    lanes::cabinet::change_lane(m, start, places, place, pass);
     access::accepted(0, 0, 0, 0)
 }

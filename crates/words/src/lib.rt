@@ -88,6 +88,15 @@ pub const POSITION_AT: usize = LOOKUP_AT + 2;
 
 pub const LANE_LENGTH: usize = POSITION_AT + 1;
 
+// ---- a lane's flags: bits
+pub const ONLINE: u32 = 0;
+
+pub const READING: u32 = ONLINE + 1;
+
+pub const LOOKUP: u32 = READING + 1;
+
+pub const SNAPSHOT: u32 = LOOKUP + 1;
+
 // ---- a slot's record: offsets
 pub const CODE_AT: usize = 0;
 

@@ -1,4 +1,4 @@
--- `lanes::count` meets its contract: the one store is the change that `update` states. Assumes nothing.
+-- The one store is the change that `update` states.
 use Prim.Native.Nat.{ℕ}
 use mathlib.Core.Path.{ap, sym, _∙_}
 use lib.ListN.{set}
@@ -7,14 +7,14 @@ use Rattle.laws.specs.Updates.{update-set}
 use Rattle.lanes.proofs.count.Statement.{statement}
 use Rattle.lanes.proofs.count.Tie as tie
 
-mul-up : tie.Need-mul-up
-mul-up c = search needs
+mul-wrapping-add-u32 : tie.Need-mul-wrapping-add-u32
+mul-wrapping-add-u32 c = search needs
 
-array-read-up : tie.Need-array-read-up
-array-read-up c = search needs
+array-read-wrapping-add-u32 : tie.Need-array-read-wrapping-add-u32
+array-read-wrapping-add-u32 c = search needs
 
-up-requires : tie.Need-up-requires
-up-requires c κs = search needs
+wrapping-add-u32-requires : tie.Need-wrapping-add-u32-requires
+wrapping-add-u32-requires c κs = search needs
 
 mul-counts : tie.Need-mul-counts
 mul-counts c = search needs
@@ -25,8 +25,8 @@ array-write-counts c = search needs
 returns : tie.Need-returns
 returns c =
     let entry : tie.Start = search in
-    ap (λ (v : ℕ). set (entry .args .quiescent) (entry .args .kind) v) (c .up .ensures) ∙ sym (update-set 0 _ _ _)
+    ap (λ (v : ℕ). set (entry .args .quiescent) (entry .args .kind) v) (c .wrapping-add-u32 .ensures) ∙ sym (update-set 0 _ _ _)
 
 pub count-spec : {M : Type 1} → statement M
 count-spec =
-    tie.close (tie.spec mul-up array-read-up up-requires mul-counts array-write-counts returns)
+    tie.close (tie.spec mul-wrapping-add-u32 array-read-wrapping-add-u32 wrapping-add-u32-requires mul-counts array-write-counts returns)

@@ -2,7 +2,7 @@
 use mathlib.Core.Path.{_∙_}
 use native.Mathlib.Omega.{arith}
 use Rattle.access.specs.Ways.{long}
-use Rattle.periods.specs.Ticks.{off-lent, off-by}
+use Rattle.periods.specs.Ticks.{table-lent, off-by}
 use borrow.Author.Needs.{needs}
 use Rattle.periods.proofs.take_off.Statement.{statement}
 use Rattle.periods.proofs.take_off.Tie as tie
@@ -38,7 +38,7 @@ place-of-requires : tie.Need-place-of-requires
 place-of-requires c κs = search needs
 
 off-requires : tie.Need-off-requires
-off-requires c κs = search (needs, off-lent)
+off-requires c κs = search (needs, table-lent)
 
 same-length : tie.Need-same-length
 same-length c = search needs

@@ -2,7 +2,7 @@
 use mathlib.Core.Path.{_∙_}
 use native.Mathlib.Omega.{arith}
 use Rattle.access.specs.Ways.{long}
-use Rattle.periods.specs.Ticks.{clock-lends, clock-by}
+use Rattle.periods.specs.Ticks.{table-lent, clock-by}
 use borrow.Author.Needs.{needs}
 use Rattle.periods.proofs.tick.Statement.{statement}
 use Rattle.periods.proofs.tick.Tie as tie
@@ -38,7 +38,7 @@ place-of-requires : tie.Need-place-of-requires
 place-of-requires c κs = search needs
 
 clock-requires : tie.Need-clock-requires
-clock-requires c κs = search (needs, clock-lends)
+clock-requires c κs = search (needs, table-lent)
 
 same-length : tie.Need-same-length
 same-length c = search needs

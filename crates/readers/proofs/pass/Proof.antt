@@ -1,9 +1,9 @@
--- `pass` meets its contract: a law for each way out. Assumes nothing.
+-- A law for each way out.
 use mathlib.Core.Path.{_∙_}
 use native.Mathlib.Omega.{arith}
-use Rattle.access.specs.Ways.{refuses, inRange, long}
+use Rattle.access.specs.Ways.{refuses, long}
 use Rattle.access.specs.Lanes.{stands-at}
-use Rattle.readers.specs.Passes.{pass-lane, pass-kind, cabinet-lent, pass-done}
+use Rattle.readers.specs.Passes.{pass-lane, cabinet-known, change-lent, pass-done}
 use borrow.Author.Needs.{needs}
 use Rattle.readers.proofs.pass.Statement.{statement}
 use Rattle.readers.proofs.pass.Tie as tie
@@ -28,11 +28,6 @@ slice-read-index c =
 index-requires : tie.Need-index-requires
 index-requires c κs = search needs
 
-add-lanes-at : tie.Need-add-lanes-at
-add-lanes-at c =
-    let entry : tie.Start = search in
-    omega (arith, (c .index .ensures), inRange _ (entry .pre) .fewCabinets)
-
 slice-read-index-2 : tie.Need-slice-read-index-2
 slice-read-index-2 c =
     let entry : tie.Start = search in
@@ -53,11 +48,8 @@ place-of-requires c κs = search (needs, pass-lane)
 index-requires-4 : tie.Need-index-requires-4
 index-requires-4 c κs = search needs
 
-index-requires-5 : tie.Need-index-requires-5
-index-requires-5 c κs = search needs
-
-pass-lane-requires : tie.Need-pass-lane-requires
-pass-lane-requires c κs =
+cabinet-start-requires : tie.Need-cabinet-start-requires
+cabinet-start-requires c κs =
     let at-index4 : tie.After-index4 = search in
     let at-place-of : tie.After-place-of = search in
     let at-index3 : tie.After-index3 = search in
@@ -69,7 +61,27 @@ pass-lane-requires c κs =
     let entry : tie.Start = search in
     let k = pass-lane _ (entry .pre) (entry .args .lane) (entry .args .kind) _ (at-pass-refusal .pass-refusal .ensures) (at-if1 .if1 .left) in
     let s = stands-at _ _ _ _ k ((at-index3 .index3 .ensures) ∙ (at-cabinet-of .cabinet-of .ensures)) ((at-index4 .index4 .ensures) ∙ (at-place-of .place-of .ensures)) in
-    (cabinet-lent _ (entry .pre) (entry .args .lane) (entry .args .kind) _ (at-pass-refusal .pass-refusal .ensures) (at-if1 .if1 .left) _ _ s _ _ (omega (arith, (at-index .index .ensures))) (at-index2 .index2 .ensures), omega (arith, s .place, (at-index2 .index2 .ensures)), omega (arith, (c .index5 .ensures), pass-kind _ (entry .pre) (entry .args .lane) (entry .args .kind) _ (at-pass-refusal .pass-refusal .ensures) (at-if1 .if1 .left)))
+    cabinet-known _ (entry .pre) (entry .args .lane) (entry .args .kind) _ (at-pass-refusal .pass-refusal .ensures) (at-if1 .if1 .left) _ _ s _ _ (at-index .index .ensures) (at-index2 .index2 .ensures)
+
+index-requires-5 : tie.Need-index-requires-5
+index-requires-5 c κs = search needs
+
+change-lane-requires : tie.Need-change-lane-requires
+change-lane-requires c κs =
+    let at-index5 : tie.After-index5 = search in
+    let at-cabinet-start : tie.After-cabinet-start = search in
+    let at-index4 : tie.After-index4 = search in
+    let at-place-of : tie.After-place-of = search in
+    let at-index3 : tie.After-index3 = search in
+    let at-cabinet-of : tie.After-cabinet-of = search in
+    let at-index2 : tie.After-index2 = search in
+    let at-index : tie.After-index = search in
+    let at-if1 : tie.Else1 = search in
+    let at-pass-refusal : tie.After-pass-refusal = search in
+    let entry : tie.Start = search in
+    let k = pass-lane _ (entry .pre) (entry .args .lane) (entry .args .kind) _ (at-pass-refusal .pass-refusal .ensures) (at-if1 .if1 .left) in
+    let s = stands-at _ _ _ _ k ((at-index3 .index3 .ensures) ∙ (at-cabinet-of .cabinet-of .ensures)) ((at-index4 .index4 .ensures) ∙ (at-place-of .place-of .ensures)) in
+    change-lent _ (entry .pre) (entry .args .lane) (entry .args .kind) _ (at-pass-refusal .pass-refusal .ensures) (at-if1 .if1 .left) _ _ s _ _ (at-index .index .ensures) (at-index2 .index2 .ensures) _ (at-cabinet-start .cabinet-start .ensures) _ (at-index5 .index5 .ensures)
 
 accepted-requires : tie.Need-accepted-requires
 accepted-requires c κs = search needs
@@ -79,8 +91,9 @@ same-length-2 c = search needs
 
 returns-2 : tie.Need-returns-2
 returns-2 c =
-    let at-pass-lane : tie.After-pass-lane = search in
+    let at-change-lane : tie.After-change-lane = search in
     let at-index5 : tie.After-index5 = search in
+    let at-cabinet-start : tie.After-cabinet-start = search in
     let at-index4 : tie.After-index4 = search in
     let at-place-of : tie.After-place-of = search in
     let at-index3 : tie.After-index3 = search in
@@ -92,7 +105,7 @@ returns-2 c =
     let entry : tie.Start = search in
     let k = pass-lane _ (entry .pre) (entry .args .lane) (entry .args .kind) _ (at-pass-refusal .pass-refusal .ensures) (at-if1 .if1 .left) in
     let s = stands-at _ _ _ _ k ((at-index3 .index3 .ensures) ∙ (at-cabinet-of .cabinet-of .ensures)) ((at-index4 .index4 .ensures) ∙ (at-place-of .place-of .ensures)) in
-    pass-done _ (entry .pre) (entry .args .lane) (entry .args .kind) _ (at-pass-refusal .pass-refusal .ensures) (at-if1 .if1 .left) _ _ s _ _ _ _ _ (omega (arith, (at-index .index .ensures))) (at-index2 .index2 .ensures) (at-index5 .index5 .ensures) (c .accepted .ensures) (at-pass-lane .pass-lane .ensures)
+    pass-done _ (entry .pre) (entry .args .lane) (entry .args .kind) _ (at-pass-refusal .pass-refusal .ensures) (at-if1 .if1 .left) _ _ s _ _ (at-index .index .ensures) (at-index2 .index2 .ensures) _ (at-cabinet-start .cabinet-start .ensures) _ (at-index5 .index5 .ensures) _ _ (c .accepted .ensures) (at-change-lane .change-lane .ensures)
 
 pub pass-spec : {M : Type 1} → statement M
 pass-spec =
@@ -104,15 +117,15 @@ pass-spec =
     returns
     slice-read-index
     index-requires
-    add-lanes-at
     slice-read-index-2
     index-requires-2
     cabinet-of-requires
     index-requires-3
     place-of-requires
     index-requires-4
+    cabinet-start-requires
     index-requires-5
-    pass-lane-requires
+    change-lane-requires
     accepted-requires
     same-length-2
     returns-2)

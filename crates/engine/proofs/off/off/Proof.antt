@@ -1,41 +1,44 @@
--- `engine::off::off` meets its contract: the lane is marked off, its queues handed over, then it is released and the global queues advance. Assumes
--- nothing.
+-- The lane is marked off through the cabinet's part, its queues are handed over, then it is released and the global queues advance.
 use denote.Ref.{now}
-use Rattle.engine.specs.OffWords.{lane-inside, off-by}
+use Rattle.lanes.specs.CabinetLaws.{fits-leave}
+use Rattle.engine.specs.PeriodWords.{cabinet-part}
+use Rattle.engine.specs.ReleaseWords.{change-lent}
+use Rattle.engine.specs.OffWords.{off-by}
 use borrow.Author.Needs.{needs}
 use Rattle.engine.proofs.off.off.Statement.{statement}
 use Rattle.engine.proofs.off.off.Tie as tie
 
-index-requires : tie.Need-index-requires
-index-requires c κs = search needs
+cabinet-start-requires : tie.Need-cabinet-start-requires
+cabinet-start-requires c κs = search needs
 
-index-requires-2 : tie.Need-index-requires-2
-index-requires-2 c κs = search needs
+change-lane-requires : tie.Need-change-lane-requires
+change-lane-requires c κs =
+    let at-cabinet-start : tie.After-cabinet-start = search in
+    let entry : tie.Start = search in
+    change-lent _ _ _ _ _ (entry .pre .lane) _ (at-cabinet-start .cabinet-start .ensures) _ fits-leave
 
-lane-start-requires : tie.Need-lane-start-requires
-lane-start-requires c κs =
-    let at-index : tie.After-index = search in
+mul-hand-over : tie.Need-mul-hand-over
+mul-hand-over c =
+    let at-cabinet-start : tie.After-cabinet-start = search in
     let entry : tie.Start = search in
     let s = entry .args in
-    let h = lane-inside (now (s .m)) (s .cabinets) (s .places) (s .base) (s .slots) (s .cabinet) (s .place) (at-index .index .result) (c .index2 .result) (at-index .index .ensures) (c .index2 .ensures) (entry .pre) in
+    let h = cabinet-part (now (s .m)) (s .cabinets) (s .places) (s .cabinet) (entry .pre .lane .part) _ (at-cabinet-start .cabinet-start .ensures) in
     search needs
 
-mark-off-requires : tie.Need-mark-off-requires
-mark-off-requires c κs =
-    let at-index2 : tie.After-index2 = search in
-    let at-index : tie.After-index = search in
+add-hand-over : tie.Need-add-hand-over
+add-hand-over c =
+    let at-cabinet-start : tie.After-cabinet-start = search in
     let entry : tie.Start = search in
     let s = entry .args in
-    let h = lane-inside (now (s .m)) (s .cabinets) (s .places) (s .base) (s .slots) (s .cabinet) (s .place) (at-index .index .result) (at-index2 .index2 .result) (at-index .index .ensures) (at-index2 .index2 .ensures) (entry .pre) in
+    let h = cabinet-part (now (s .m)) (s .cabinets) (s .places) (s .cabinet) (entry .pre .lane .part) _ (at-cabinet-start .cabinet-start .ensures) in
     search needs
 
 hand-over-requires : tie.Need-hand-over-requires
 hand-over-requires c κs =
-    let at-index2 : tie.After-index2 = search in
-    let at-index : tie.After-index = search in
+    let at-cabinet-start : tie.After-cabinet-start = search in
     let entry : tie.Start = search in
     let s = entry .args in
-    let h = lane-inside (now (s .m)) (s .cabinets) (s .places) (s .base) (s .slots) (s .cabinet) (s .place) (at-index .index .result) (at-index2 .index2 .result) (at-index .index .ensures) (at-index2 .index2 .ensures) (entry .pre) in
+    let h = cabinet-part (now (s .m)) (s .cabinets) (s .places) (s .cabinet) (entry .pre .lane .part) _ (at-cabinet-start .cabinet-start .ensures) in
     search needs
 
 release-requires : tie.Need-release-requires
@@ -54,10 +57,10 @@ pub off-spec : {M : Type 1} → statement M
 off-spec =
     tie.close
     (tie.spec
-    index-requires
-    index-requires-2
-    lane-start-requires
-    mark-off-requires
+    cabinet-start-requires
+    change-lane-requires
+    mul-hand-over
+    add-hand-over
     hand-over-requires
     release-requires
     advance-requires

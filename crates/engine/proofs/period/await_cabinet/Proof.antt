@@ -1,25 +1,21 @@
--- `engine::period::await_cabinet` meets its contract: the cabinet's mask is stored, and its bit is set where that mask is not 0.
--- Assumes nothing.
+-- The cabinet's mask is stored, and its bit is set where that mask is not 0.
 use Prim.Native.Nat.{ℕ}
 use mathlib.Core.Bool.{cond}
 use mathlib.Core.Path.{ap, sym}
 use denote.Ref.{now}
 use borrow.Author.Tests.{ne-eqb}
-use borrow.Author.Needs.{needs}
 use Rattle.model.specs.Memory.{isNotZero}
 use Rattle.masks.specs.Bits.{withBit}
-use Rattle.engine.specs.PeriodWords.{awaited}
+use Rattle.engine.specs.PeriodWords.{cabinet-part, awaited}
+use borrow.Author.Needs.{needs}
 use Rattle.engine.proofs.period.await_cabinet.Statement.{statement}
 use Rattle.engine.proofs.period.await_cabinet.Tie as tie
 
-index-requires : tie.Need-index-requires
-index-requires c κs = search needs
+cabinet-start-requires : tie.Need-cabinet-start-requires
+cabinet-start-requires c κs = search needs
 
 cabinet-online-requires : tie.Need-cabinet-online-requires
-cabinet-online-requires c κs =
-    let at-index : tie.After-index = search in
-    let entry : tie.Start = search in
-    rw (at-index .index .ensures) (entry .pre)
+cabinet-online-requires c κs = search (needs, cabinet-part)
 
 add-m : tie.Need-add-m
 add-m c = search needs
@@ -36,11 +32,10 @@ same-length c = search needs
 returns : tie.Need-returns
 returns c =
     let at-cabinet-online : tie.After-cabinet-online = search in
-    let at-index : tie.After-index = search in
+    let at-cabinet-start : tie.After-cabinet-start = search in
     let entry : tie.Start = search in
     let s = entry .args in
-    let x = at-cabinet-online .cabinet-online .result in
-    awaited (now (s .m)) (s .cabinets) (s .places) (s .cabinet) (s .waiting) (at-index .index .result) x (s .waiting) (at-index .index .ensures) (at-cabinet-online .cabinet-online .ensures)
+    awaited (now (s .m)) (s .cabinets) (s .places) (s .cabinet) (s .waiting) _ _ (s .waiting) (at-cabinet-start .cabinet-start .ensures) (at-cabinet-online .cabinet-online .ensures)
     (sym (ap (λ (y : ℕ). cond (isNotZero y) (withBit (s .cabinet) (s .waiting)) (s .waiting)) (c .if1 .taken)))
 
 set-bit-requires : tie.Need-set-bit-requires
@@ -56,7 +51,7 @@ pub await-cabinet-spec : {M : Type 1} → statement M
 await-cabinet-spec =
     tie.close
     (tie.spec
-    index-requires
+    cabinet-start-requires
     cabinet-online-requires
     add-m
     mul-m

@@ -1,16 +1,10 @@
--- `engine::period::clear_pending` meets its contract: its test is that of `clearedWords`, and each arm stores what that says. Assumes nothing.
-use Prim.Native.Nat.{_+_}
+-- The test is that of `clearedWords`, and each arm stores what that says.
+use Rattle.engine.specs.ReleaseWords.{cleared-last, cleared-more}
 use native.Mathlib.Omega.{arith}
 use lib.ListN.{length-set}
-use denote.Ref.{now}
 use borrow.Author.Needs.{needs}
-use Rattle.model.specs.Layout.{masksAt}
-use Rattle.engine.specs.ReleaseWords.{cleared-last, cleared-more}
 use Rattle.engine.proofs.period.clear_pending.Statement.{statement}
 use Rattle.engine.proofs.period.clear_pending.Tie as tie
-
-index-requires : tie.Need-index-requires
-index-requires c κs = search needs
 
 add-i : tie.Need-add-i
 add-i c = search needs
@@ -31,21 +25,13 @@ slice-write-m : tie.Need-slice-write-m
 slice-write-m c = search needs
 
 slice-read-clear-bit-2 : tie.Need-slice-read-clear-bit-2
-slice-read-clear-bit-2 c =
-    let at-clear-bit : tie.After-clear-bit = search in
-    let at-index : tie.After-index = search in
-    let entry : tie.Start = search in
-    omega (arith, length-set (now (entry .args .m)) (masksAt + at-index .index .result) (at-clear-bit .clear-bit .result))
+slice-read-clear-bit-2 c = simp length-set (omega arith)
 
 clear-bit-requires-2 : tie.Need-clear-bit-requires-2
 clear-bit-requires-2 c κs = search needs
 
 slice-write-m-2 : tie.Need-slice-write-m-2
-slice-write-m-2 c =
-    let at-clear-bit : tie.After-clear-bit = search in
-    let at-index : tie.After-index = search in
-    let entry : tie.Start = search in
-    omega (arith, length-set (now (entry .args .m)) (masksAt + at-index .index .result) (at-clear-bit .clear-bit .result))
+slice-write-m-2 c = simp length-set (omega arith)
 
 same-length : tie.Need-same-length
 same-length c = search needs
@@ -63,7 +49,6 @@ pub clear-pending-spec : {M : Type 1} → statement M
 clear-pending-spec =
     tie.close
     (tie.spec
-    index-requires
     add-i
     mul-clear-bit
     slice-read-clear-bit

@@ -1,11 +1,8 @@
--- `engine::period::pass_period` meets its contract: its test is that of `passedWords`. Assumes nothing.
-use borrow.Author.Needs.{needs}
+-- The test is that of `passedWords`.
 use Rattle.engine.specs.ReleaseWords.{passed-set, passed-clear}
+use borrow.Author.Needs.{needs}
 use Rattle.engine.proofs.period.pass_period.Statement.{statement}
 use Rattle.engine.proofs.period.pass_period.Tie as tie
-
-index-requires : tie.Need-index-requires
-index-requires c κs = search needs
 
 add-test : tie.Need-add-test
 add-test c = search needs
@@ -38,7 +35,6 @@ pub pass-period-spec : {M : Type 1} → statement M
 pass-period-spec =
     tie.close
     (tie.spec
-    index-requires
     add-test
     mul-test
     slice-read-test

@@ -1,17 +1,18 @@
--- `engine::period::release` meets its contract: the snapshot is dropped, then the bit. Assumes nothing.
+-- The snapshot is dropped through the cabinet's part, then the bit goes.
+use Rattle.lanes.specs.CabinetLaws.{fits-drop}
+use Rattle.engine.specs.ReleaseWords.{change-lent, released-by}
 use borrow.Author.Needs.{needs}
-use Rattle.engine.specs.ReleaseWords.{lane-lent, released-by}
 use Rattle.engine.proofs.period.release.Statement.{statement}
 use Rattle.engine.proofs.period.release.Tie as tie
 
-index-requires : tie.Need-index-requires
-index-requires c κs = search needs
+cabinet-start-requires : tie.Need-cabinet-start-requires
+cabinet-start-requires c κs = search needs
 
-index-requires-2 : tie.Need-index-requires-2
-index-requires-2 c κs = search needs
-
-drop-in-requires : tie.Need-drop-in-requires
-drop-in-requires c κs = search (needs, lane-lent)
+change-lane-requires : tie.Need-change-lane-requires
+change-lane-requires c κs =
+    let at-cabinet-start : tie.After-cabinet-start = search in
+    let entry : tie.Start = search in
+    change-lent _ _ _ _ _ (entry .pre) _ (at-cabinet-start .cabinet-start .ensures) _ fits-drop
 
 pass-period-requires : tie.Need-pass-period-requires
 pass-period-requires c κs = search needs
@@ -26,9 +27,8 @@ pub release-spec : {M : Type 1} → statement M
 release-spec =
     tie.close
     (tie.spec
-    index-requires
-    index-requires-2
-    drop-in-requires
+    cabinet-start-requires
+    change-lane-requires
     pass-period-requires
     same-length
     returns)

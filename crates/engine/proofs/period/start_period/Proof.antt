@@ -1,6 +1,5 @@
--- `engine::period::start_period` meets its contract: the loop's invariant is that the first c lane masks are those of the lanes that are on, and the cabinet mask is theirs. The measure
+-- The loop's invariant is that the first c lane masks are those of the lanes that are on, and the cabinet mask is theirs. The measure
 -- is the number of cabinets left.
--- Assumes nothing.
 use Prim.Native.Nat.{ℕ, _≤_, _-_}
 use mathlib.Core.Path.{ap, ap₂, _∙_, _≡_, refl}
 use mathlib.Core.List.{List}
@@ -10,7 +9,7 @@ use denote.Ref.{now}
 use borrow.Author.Needs.{needs}
 use Rattle.model.specs.Layout.{cabinetMaskAt}
 use Rattle.model.specs.Lists.{from, mask}
-use Rattle.engine.specs.PeriodWords.{cabinet-lent, lent-alike, one-more}
+use Rattle.engine.specs.PeriodWords.{lent-alike, one-more}
 use Rattle.engine.specs.Period.{masksSet, waitingFor, startedWords}
 use Rattle.engine.proofs.period.start_period.Statement.{statement}
 use Rattle.engine.proofs.period.start_period.Tie as tie
@@ -29,7 +28,7 @@ cast-await-cabinet : tie.Need-cast-await-cabinet Inv-loop μ-loop
 cast-await-cabinet c = omega arith
 
 await-cabinet-requires : tie.Need-await-cabinet-requires Inv-loop μ-loop
-await-cabinet-requires c κs = search (needs, cabinet-lent, lent-alike)
+await-cabinet-requires c κs = search (needs, lent-alike)
 
 add-c : tie.Need-add-c Inv-loop μ-loop
 add-c c = omega arith
