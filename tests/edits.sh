@@ -8,13 +8,17 @@
 #   edit_misfit LOG             says why a log's first error shows no fact that fails, if it shows none: the edit changed the code's shape, and the proof is of another
 #   edit_list DIR [NAME ..]     the edits of a folder, or those named, in edits
 #   edit_begin TOP              a copy of the crates with what rt has proved already, $edit_room/base; it is removed at the end
+#   edit_copy TO                a copy of that
 #   edit_prove CRATE ..         proves them there: without an edit all have to be proved
-#   edit_all TRY EDIT ..        TRY EDIT COPY LOG for each, in a copy of its own, two at a time; TRY prints what it found, and its status says whether that is right
+#   edit_together TRY EDIT ..   TRY EDIT COPY LOG for each, in a copy of its own, all at once; TRY prints what it found, and its status says whether that is right
+#   edit_line NAME              what it found, after 'ok NAME: ' or 'FAILED NAME: '
+#   edit_count NAME LINE        prints that line and counts it
+#   edit_all TRY EDIT ..        these three for every edit, $edit_jobs at a time
 #   edit_finish                 prints what failed and last 'N passed, M failed', and ends, with status 0 only if M is 0
 
 . "$(dirname "${BASH_SOURCE[0]}")/progress.sh"
 
-edit_command=${0#"$PWD"/} edit_passed=0 edit_failed=0 edit_batch=()
+edit_command=${0#"$PWD"/} edit_passed=0 edit_failed=0
 
 edit_value() { # KEY EDIT
     sed -n "s/^$1: *//p" "$2" | head -n 1
@@ -113,12 +117,19 @@ edit_prove() { # CRATE ..
     return 1
 }
 
+# What was proved is linked and not copied: rt replaces a crate's folder there and writes in none.
+edit_copy() { # TO
+    mkdir -p "$1/target" && cp -R "$edit_room/base/crates.txt" "$edit_room/base/crates" "$1/" || return 1
+    [ ! -d "$edit_room/base/target/stamp" ] || cp -R "$edit_room/base/target/stamp" "$1/target/" || return 1
+    [ ! -d "$edit_room/base/target/rlib" ] || cp -R -l "$edit_room/base/target/rlib" "$1/target/"
+}
+
 # one edit in its own copy; its line is left in ROOM/NAME.line
 edit_one() { # TRY EDIT NAME
     local copy=$edit_room/$3 said
     if [ ! -d "$edit_room/base/crates/$(edit_value crate "$2")" ] || [ -z "$(edit_value crate "$2")" ]; then
         said="FAILED $3: its 'crate:' line names no crate"
-    elif ! cp -R "$edit_room/base" "$copy"; then
+    elif ! edit_copy "$copy"; then
         said="FAILED $3: the tree could not be copied"
     elif said=$(edit_apply "$2" "$copy/crates/$(edit_value crate "$2")" && "$1" "$2" "$copy" "$edit_room/$3.log"); then
         said="ok $3: $said"
@@ -129,37 +140,43 @@ edit_one() { # TRY EDIT NAME
     printf '%s\n' "$said" >"$edit_room/$3.line"
 }
 
-# waits for the edits that were started, prints their lines and counts them
-edit_flush() {
-    local name line
-    wait
-    progress_clear
-    for name in "${edit_batch[@]}"; do
-        line=$(cat "$edit_room/$name.line" 2>/dev/null) || line="FAILED $name: it was not tried to its end"
-        printf '%s\n' "$line"
-        if [[ $line == "ok "* ]]; then
-            edit_passed=$((edit_passed + 1))
-        else
-            edit_failed=$((edit_failed + 1))
-            progress_fault "${line#FAILED }" "$edit_command" "$name"
-        fi
+# how many at a time: two, or one where the machine has one processor or RT_JOBS says so
+edit_jobs=${RT_JOBS:-$(nproc 2>/dev/null)}
+[ "$edit_jobs" = 1 ] || edit_jobs=2
+
+edit_together() { # TRY EDIT ..
+    local try=$1 edit
+    shift
+    for edit in "$@"; do
+        edit_one "$try" "$edit" "$(basename "$edit" .edit)" &
     done
-    edit_batch=()
+    wait
 }
 
-# one at a time where the machine has one processor or RT_JOBS says so
+edit_count() { # NAME LINE
+    progress_clear
+    printf '%s\n' "$2"
+    if [[ $2 == "ok "* ]]; then
+        edit_passed=$((edit_passed + 1))
+    else
+        edit_failed=$((edit_failed + 1))
+        progress_fault "${2#FAILED }" "$edit_command" "$1"
+    fi
+}
+
+edit_line() { # NAME
+    cat "$edit_room/$1.line" 2>/dev/null || echo "FAILED $1: it was not tried to its end"
+}
+
 edit_all() { # TRY EDIT ..
-    local try=$1 edit jobs
+    local try=$1 at name names
     shift
-    jobs=${RT_JOBS:-$(nproc 2>/dev/null)}
-    [ "$jobs" = 1 ] || jobs=2
-    for edit in "$@"; do
-        [ "${#edit_batch[@]}" -lt "$jobs" ] || edit_flush
-        edit_batch+=("$(basename "$edit" .edit)")
-        progress_update "${edit_batch[*]}, $((edit_passed + edit_failed)) of $# edits tried"
-        edit_one "$try" "$edit" "${edit_batch[-1]}" &
+    for ((at = 1; at <= $#; at += edit_jobs)); do
+        mapfile -t names < <(basename -s .edit "${@:at:edit_jobs}")
+        progress_update "${names[*]}, $((at - 1)) of $# edits tried"
+        edit_together "$try" "${@:at:edit_jobs}"
+        for name in "${names[@]}"; do edit_count "$name" "$(edit_line "$name")"; done
     done
-    edit_flush
 }
 
 edit_finish() {
