@@ -3,13 +3,16 @@
  */
 #include "lent.h"
 
+#include <inttypes.h>
 #include <stdio.h>
 #include <stdlib.h>
 #include <string.h>
 
 #include "codes.h"
+#include "compare.h"
 #include "line.h"
 #include "reference.h"
+#include "words.h"
 
 void lent_check(bool holds, const char *condition, const char *file, int line)
 {
@@ -23,7 +26,7 @@ void lent_check(bool holds, const char *condition, const char *file, int line)
 void lent_start(struct lent *lent)
 {
 	for (size_t n = 0; n < LENT_WORDS; n++)
-		lent->memory[n] = LENT_FILL;
+		lent->memory[n] = FILL;
 	lent->words = LENT_WORDS;
 	lent->any_code = false;
 }
@@ -48,60 +51,55 @@ struct call lent_call(const char *text)
 	return call;
 }
 
-/* The number of words that belong to the table of a legal memory. */
-static size_t total_of(const uint32_t *memory)
+/* Says what differs, with the first word of the memory that does, and ends the program. */
+static void fault(const struct call *call, enum difference difference, const struct left *left,
+		const uint32_t *expected)
 {
-	return layout_of(memory[CONTENTS_CABINETS], memory[CONTENTS_LANES],
-			memory[CONTENTS_SLOTS]).total;
+	char text[LINE_TEXT], name[WORD_TEXT];
+	size_t n = 0;
+
+	line_text(call, text);
+	fflush(stdout);
+	fprintf(stderr, "%s: %s\n", text, difference_texts[difference]);
+	while (expected != NULL && n < LENT_WORDS && expected[n] == left->memory[n])
+		n++;
+	if (expected != NULL && n < LENT_WORDS) {
+		word_name(expected + CONTENTS_CABINETS, n, name);
+		fprintf(stderr, "%s: %" PRIu32 ", and not %" PRIu32 "\n", name, left->memory[n], expected[n]);
+	}
+	exit(1);
 }
 
-static void check_refusal(const struct lent *lent, const uint32_t *before)
+static void fill_answer(uint32_t answer[LENT_ANSWER])
 {
-	for (size_t n = 1; n < PT_ANSWER_WORDS; n++)
-		CHECK(lent->answer[n] == 0);
-	CHECK(memcmp(lent->memory, before, sizeof lent->memory) == 0);
-}
-
-static void check_accepted(const struct lent *lent, const uint32_t *before)
-{
-	size_t total;
-
-	CHECK(ref_legal(lent->memory, lent->words));
-	total = total_of(lent->memory);
-	CHECK(memcmp(lent->memory + total, before + total,
-			sizeof(uint32_t) * (LENT_WORDS - total)) == 0);
-}
-
-/* Makes the call on the memory as it was, by the reference; both did the same. */
-static void check_reference(const struct lent *lent, uint32_t *before, const struct call *call)
-{
-	uint32_t answer[PT_ANSWER_WORDS];
-
-	call_make(&reference, before, lent->words, answer, PT_ANSWER_WORDS, call);
-	CHECK(memcmp(answer, lent->answer, sizeof answer) == 0);
-	CHECK(memcmp(before, lent->memory, sizeof lent->memory) == 0);
+	for (size_t n = 0; n < LENT_ANSWER; n++)
+		answer[n] = FILL;
 }
 
 uint32_t lent_make(struct lent *lent, const struct call *call)
 {
-	uint32_t before[LENT_WORDS];
-	uint32_t status;
+	struct left left = { lent->memory, lent->words, lent->answer, LENT_ANSWER, 0 };
+	uint32_t before[LENT_WORDS], answer[LENT_ANSWER];
+	struct left expected = { before, lent->words, answer, LENT_ANSWER, 0 };
+	enum difference difference;
 
 	CHECK(lent->any_code || code_fits(call));
 	memcpy(before, lent->memory, sizeof before);
-	for (size_t n = 0; n < LENT_ANSWER; n++)
-		lent->answer[n] = LENT_FILL;
-	status = call_make(&tested, lent->memory, lent->words, lent->answer, LENT_ANSWER, call);
-	CHECK(lent->answer[0] == status);
-	for (size_t n = PT_ANSWER_WORDS; n < LENT_ANSWER; n++)
-		CHECK(lent->answer[n] == LENT_FILL);
-	if (status == PT_OK)
-		check_accepted(lent, before);
-	else
-		check_refusal(lent, before);
-	if (tested.setup != reference.setup)
-		check_reference(lent, before, call);
-	return status;
+	fill_answer(lent->answer);
+	left.status = call_make(&tested, lent->memory, lent->words, lent->answer, LENT_ANSWER, call);
+	difference = owed(before, &left);
+	if (difference != SAME)
+		fault(call, difference, &left, NULL);
+	CHECK(memcmp(before + lent->words, lent->memory + lent->words,
+		(LENT_WORDS - lent->words) * sizeof before[0]) == 0);
+	if (tested.setup == reference.setup)
+		return left.status;
+	fill_answer(answer);
+	expected.status = call_make(&reference, before, lent->words, answer, LENT_ANSWER, call);
+	difference = alike(&expected, &left);
+	if (difference != SAME)
+		fault(call, difference, &left, before);
+	return left.status;
 }
 
 void lent_expect(struct lent *lent, const char *line, const char *answer)

@@ -10,6 +10,7 @@
 #include <stdint.h>
 
 #include "calls.h"
+#include "compare.h"
 #include "layout.h"
 #include "product_table.h"
 
@@ -17,9 +18,6 @@ enum {
 	LENT_WORDS = 8000,
 	LENT_ANSWER = PT_ANSWER_WORDS + 3 /* three words more, which stay */
 };
-
-/* The words that stand where no call may write. */
-#define LENT_FILL 0xa5a5a5a5u
 
 struct lent {
 	uint32_t memory[LENT_WORDS];

@@ -6,7 +6,10 @@
 #include <inttypes.h>
 #include <string.h>
 
+#include "layout.h"
 #include "line.h"
+#include "reference.h"
+#include "sentences.h"
 
 void record_start(struct record *record)
 {
@@ -15,6 +18,7 @@ void record_start(struct record *record)
 	record->difference = SAME;
 	record->fault[0] = '\0';
 	record->compared = false;
+	record->silent = false;
 	record->differing = 0;
 }
 
@@ -24,7 +28,7 @@ static void note_words(struct record *record, const struct beside *beside)
 		if (beside->memory[n] == beside->left.memory[n])
 			continue;
 		if (record->differing < RECORD_WORDS) {
-			word_name(beside->memory, n, record->word[record->differing].name);
+			word_name(beside->memory + CONTENTS_CABINETS, n, record->word[record->differing].name);
 			record->word[record->differing].address = n;
 			record->word[record->differing].expected = beside->memory[n];
 			record->word[record->differing].left = beside->left.memory[n];
@@ -46,6 +50,9 @@ static void note_difference(struct record *record, const struct beside *beside)
 	if (!record->compared)
 		return;
 	record->expected_status = beside->expected.status;
+	if (record->expected_status == PT_NOT_LEGAL && record->difference == DIFFERS_STATUS)
+		snprintf(record->fault, RECORD_TEXT, "the memory is not legal, against \"%.110s\"",
+			legal_text(ref_broken(beside->before, beside->words)));
 	memcpy(record->expected_answer, beside->expected.answer,
 		left->answer_words * sizeof left->answer[0]);
 	note_words(record, beside);
@@ -83,9 +90,7 @@ void record_list(const struct record *record, FILE *file)
 	}
 }
 
-/* An answer of any length, with the status that was returned. */
-static void print_answer(const char *who, const uint32_t *answer, uint32_t words, uint32_t status,
-		FILE *file)
+void print_answer(const char *who, const uint32_t *answer, uint32_t words, uint32_t status, FILE *file)
 {
 	fprintf(file, "      %-22s", who);
 	if (words < PT_ANSWER_WORDS)
@@ -118,37 +123,67 @@ static void print_words(const struct record *record, FILE *file)
 		fprintf(file, "      .. and %" PRIu32 " more\n", record->differing - RECORD_WORDS);
 }
 
-/* All steps but the last with what was answered. */
+/* What stands beside a step that is no call. */
+static void remark(const struct step *step, const uint32_t sizes[3], char text[WORD_TEXT + 8])
+{
+	char name[WORD_TEXT];
+
+	switch (step->kind) {
+	case STEP_POKE:
+		word_name(sizes, step->number, name);
+		snprintf(text, WORD_TEXT + 8, "(%s)", name);
+		break;
+	case STEP_LEND:
+		snprintf(text, WORD_TEXT + 8, "(so many words of the memory are lent)");
+		break;
+	case STEP_ANSWER:
+		snprintf(text, WORD_TEXT + 8, "(so many words of answer are lent)");
+		break;
+	default:
+		snprintf(text, WORD_TEXT + 8, "(the words of the last accepted call)");
+	}
+}
+
+/* All steps with what was answered, but for the last if the list ended there. */
 static void print_steps(const struct record *record, FILE *file)
 {
-	char text[STEP_TEXT], answer[LINE_TEXT];
+	uint32_t sizes[3] = { 0, 0, 0 };
+	char text[STEP_TEXT], answer[WORD_TEXT + 8];
+	bool ended = record->under_way || record->difference != SAME;
 
 	for (uint32_t n = 0; n < record->steps.count; n++) {
-		step_text(&record->steps.step[n], text);
-		if (n + 1 == record->steps.count)
-			break;
-		if (record->steps.step[n].kind != STEP_CALL)
-			snprintf(answer, sizeof answer, "(no call)");
+		const struct step *step = &record->steps.step[n];
+
+		step_text(step, text);
+		if (step->kind != STEP_CALL)
+			remark(step, sizes, answer);
+		else if (ended && n + 1 == record->steps.count)
+			snprintf(answer, sizeof answer, "<- here");
 		else if (record->answer[n][0] == PT_SHORT_ANSWER)
 			snprintf(answer, sizeof answer, "returned %" PRIu32, PT_SHORT_ANSWER);
 		else
 			line_answer(record->answer[n], answer);
+		if (step->kind == STEP_CALL && step->call.name == CALL_SETUP && record->answer[n][0] == PT_OK)
+			for (int size = 0; size < 3; size++)
+				sizes[size] = (uint32_t)step->call.argument[size];
 		fprintf(file, "      %-32s %s\n", text, answer);
 	}
-	fprintf(file, "      %s\n", text);
 }
 
 void record_print(const struct record *record, const char *engine, const char *judge, FILE *file)
 {
 	print_steps(record, file);
-	fprintf(file, "  the last call: %s%s%s\n",
-		record->under_way ? "it does not return" : difference_texts[record->difference],
-		record->fault[0] != '\0' ? ": " : "", record->fault);
 	if (record->under_way)
+		fprintf(file, "  it does not return\n");
+	else if (record->difference != SAME)
+		fprintf(file, "  %s%s%s\n", difference_texts[record->difference],
+			record->fault[0] != '\0' ? ": " : "", record->fault);
+	if (record->under_way || record->difference == SAME)
 		return;
 	if (record->compared)
 		print_answer(judge, record->expected_answer, record->answer_words,
 			record->expected_status, file);
-	print_answer(engine, record->left_answer, record->answer_words, record->status, file);
+	if (!record->silent)
+		print_answer(engine, record->left_answer, record->answer_words, record->status, file);
 	print_words(record, file);
 }

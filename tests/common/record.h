@@ -24,6 +24,7 @@ struct record {
 	enum difference difference;
 	char fault[RECORD_TEXT]; /* more about it, or empty */
 	bool compared;		 /* there is an expected answer */
+	bool silent;		 /* there is no other */
 	uint32_t expected_status, status, answer_words;
 	uint32_t expected_answer[BESIDE_ANSWER], left_answer[BESIDE_ANSWER];
 	uint32_t differing; /* words of the memory, of which the first are here */
@@ -40,6 +41,9 @@ enum difference record_step(struct record *record, struct beside *beside, const 
 
 /* Prints the list with its answers and the difference; @engine is what was tried. */
 void record_print(const struct record *record, const char *engine, const char *judge, FILE *file);
+
+/* Prints an answer of any length, with the status that was returned. */
+void print_answer(const char *who, const uint32_t *answer, uint32_t words, uint32_t status, FILE *file);
 
 /* Prints the list alone, a line a step. */
 void record_list(const struct record *record, FILE *file);

@@ -42,6 +42,17 @@ static const enum sentence legal_sentences[LEGAL_SENTENCES] = {
 	[LEGAL_GLOBAL_GENERATION] = SENTENCE_LEGAL_GLOBAL_GENERATION,
 };
 
+static const char *const texts[SENTENCES] = {
+#define SECTION(text)
+#define SENTENCE(NAME, text) [SENTENCE_##NAME] = text,
+#include "sentences.def"
+};
+
+const char *legal_text(enum legal_sentence sentence)
+{
+	return texts[sentence < LEGAL_SENTENCES ? legal_sentences[sentence] : SENTENCE_LEGAL];
+}
+
 /* ---- what a refused call tries */
 
 static enum sentence cause_sentence(uint32_t cause)
@@ -382,15 +393,28 @@ static void print_line(uint64_t tried, uint64_t broken, const char *text)
 		printf("%13" PRIu64 "  DIFFERS %6" PRIu64 " %s\n", tried, broken, text);
 }
 
+/* Those that did not hold, once more; returns how many. */
+static uint32_t print_broken(const struct tally *tally)
+{
+	uint32_t broken = 0, tried = 0;
+
+	for (int n = 0; n < SENTENCES; n++) {
+		broken += tally->broken[n] > 0 ? 1u : 0u;
+		tried += tally->tried[n] > 0 ? 1u : 0u;
+	}
+	printf("\n%" PRIu32 " sentences tried, %" PRIu32 " held, %" PRIu32 " differ\n", tried,
+		tried - broken, broken);
+	for (int n = 0; n < SENTENCES; n++)
+		if (tally->broken[n] > 0)
+			printf("  differs: %s\n", texts[n]);
+	return broken;
+}
+
 bool tally_print(const struct tally *tally)
 {
-	bool held = true;
-
 	printf("        tried\n");
 #define SECTION(text) printf("%s\n", text);
-#define SENTENCE(NAME, text) \
-	print_line(tally->tried[SENTENCE_##NAME], tally->broken[SENTENCE_##NAME], text); \
-	held = held && tally->broken[SENTENCE_##NAME] == 0;
+#define SENTENCE(NAME, text) print_line(tally->tried[SENTENCE_##NAME], tally->broken[SENTENCE_##NAME], text);
 #include "sentences.def"
-	return held;
+	return print_broken(tally) == 0;
 }

@@ -10,6 +10,7 @@
 #include <stdint.h>
 
 #include "beside.h"
+#include "reference.h"
 
 enum sentence {
 #define SECTION(text)
@@ -29,13 +30,16 @@ struct tally {
 	uint64_t before[CALLS][LAST_CAUSE + 1][LAST_CAUSE + 1];
 };
 
+/* The words of a sentence of legality. */
+const char *legal_text(enum legal_sentence sentence);
+
 /* Adds the last call of a run that has a judge, and its difference. */
 void tally_call(struct tally *tally, const struct beside *beside);
 
 /* Adds the last call of a list that is judged by the ledger alone. */
 void tally_judged(struct tally *tally, const struct call *call, const uint32_t *answer, bool fault);
 
-/* The report: a line a sentence. Returns whether all that were tried held. */
+/* The report: a line a sentence, and then those again that did not hold. Returns whether all that were tried held. */
 bool tally_print(const struct tally *tally);
 
 #endif /* COMMON_SENTENCES_H */

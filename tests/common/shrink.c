@@ -5,6 +5,7 @@
 #include "shrink.h"
 
 #include "codes.h"
+#include "words.h"
 
 struct shrinking {
 	struct steps *steps; /* the best so far */
@@ -93,6 +94,28 @@ static void exchange(struct steps *steps, enum kind kind, uint64_t from, uint64_
 	}
 }
 
+/* After a set-up's sizes changed: pokes up to the next set-up go to the same words as before. */
+static void move_pokes(struct steps *steps, uint32_t setup, const struct call *old)
+{
+	uint32_t from[3], to[3];
+
+	for (int n = 0; n < 3; n++) {
+		from[n] = (uint32_t)old->argument[n];
+		to[n] = (uint32_t)steps->step[setup].call.argument[n];
+	}
+	for (uint32_t n = setup + 1; n < steps->count; n++) {
+		struct step *step = &steps->step[n];
+
+		if (step->kind == STEP_CALL && step->call.name == CALL_SETUP)
+			return;
+		if (step->kind == STEP_POKE) {
+			size_t moved = word_moved(from, step->number, to);
+
+			step->number = moved == SIZE_MAX ? UINT32_MAX : (uint32_t)moved;
+		}
+	}
+}
+
 /* Smaller values for an argument of a kind, from small ones on; false after the last. */
 static bool smaller(enum kind kind, uint64_t value, uint32_t n, uint64_t *to)
 {
@@ -133,6 +156,8 @@ static bool make_smaller(struct shrinking *shrinking, uint32_t at, uint32_t argu
 			exchange(&candidate, kind, value, to);
 		else
 			candidate.step[at].call.argument[argument] = to;
+		if (call->name == CALL_SETUP)
+			move_pokes(&candidate, at, call);
 		if (weight(&candidate) < weight(shrinking->steps) && attempt(shrinking))
 			return true;
 	}

@@ -94,25 +94,41 @@ static void field_name(const struct field *field, const char *record, uint32_t a
 		snprintf(text, WORD_TEXT, "%s, %s", record, field->name);
 }
 
-void word_name(const uint32_t *memory, size_t address, char text[WORD_TEXT])
-{
-	static const struct {
-		const char *record;
-		const struct field *fields;
-		uint32_t words;
-	} body[BODIES] = {
-		[BODY_GLOBAL] = { "house", house, GLOBAL_WORDS },
-		[BODY_CABINETS] = { "cabinet", cabinet, CABINET_WORDS },
-		[BODY_LANES] = { "lane", lane, LANE_WORDS },
-		[BODY_SLOTS] = { "slot", slot, SLOT_WORDS },
-	};
-	struct layout layout = { .total = 0 };
-	char record[WORD_TEXT / 2] = "house";
-	int n = BODIES - 1;
+static const struct {
+	const char *record;
+	const struct field *fields;
+	uint32_t words;
+} records[BODIES] = {
+	[BODY_GLOBAL] = { "house", house, GLOBAL_WORDS },
+	[BODY_CABINETS] = { "cabinet", cabinet, CABINET_WORDS },
+	[BODY_LANES] = { "lane", lane, LANE_WORDS },
+	[BODY_SLOTS] = { "slot", slot, SLOT_WORDS },
+};
 
-	if (sizes_in_range(memory[CONTENTS_CABINETS], memory[CONTENTS_LANES], memory[CONTENTS_SLOTS]))
-		layout = layout_of(memory[CONTENTS_CABINETS], memory[CONTENTS_LANES],
-				memory[CONTENTS_SLOTS]);
+/* The layout for any sizes; its total is 0 where they are out of range. */
+static struct layout layout_for(const uint32_t sizes[3])
+{
+	if (!sizes_in_range(sizes[0], sizes[1], sizes[2]))
+		return (struct layout){ .total = 0 };
+	return layout_of(sizes[0], sizes[1], sizes[2]);
+}
+
+/* The body of an address from the contents' end on, below the total. */
+static int body_of(const struct layout *layout, size_t address)
+{
+	int body = BODIES - 1;
+
+	while (address < layout->first[body])
+		body--;
+	return body;
+}
+
+void word_name(const uint32_t sizes[3], size_t address, char text[WORD_TEXT])
+{
+	struct layout layout = layout_for(sizes);
+	char record[WORD_TEXT / 2] = "house";
+	int body;
+
 	if (address >= layout.total) {
 		snprintf(text, WORD_TEXT, layout.total == 0 ? "word %zu" : "word %zu, past the total",
 			address);
@@ -122,12 +138,26 @@ void word_name(const uint32_t *memory, size_t address, char text[WORD_TEXT])
 		field_name(contents, "contents", (uint32_t)address, text);
 		return;
 	}
-	while (address < layout.first[n])
-		n--;
-	address -= layout.first[n];
-	if (n != BODY_GLOBAL)
-		snprintf(record, sizeof record, "%s %zu", body[n].record, address / body[n].words);
-	field_name(body[n].fields, record, (uint32_t)(address % body[n].words), text);
+	body = body_of(&layout, address);
+	address -= layout.first[body];
+	if (body != BODY_GLOBAL)
+		snprintf(record, sizeof record, "%s %zu", records[body].record,
+			address / records[body].words);
+	field_name(records[body].fields, record, (uint32_t)(address % records[body].words), text);
+}
+
+size_t word_moved(const uint32_t sizes[3], size_t address, const uint32_t other[3])
+{
+	struct layout from = layout_for(sizes), to = layout_for(other);
+	int body;
+
+	if (address >= from.total)
+		return to.total + (address - from.total);
+	if (address < CONTENTS_WORDS)
+		return address;
+	body = body_of(&from, address);
+	address -= from.first[body];
+	return address < to.length[body] ? to.first[body] + address : SIZE_MAX;
 }
 
 void word_value(uint32_t value, char text[WORD_TEXT])

@@ -30,8 +30,10 @@
 #include <string.h>
 
 #include "codes.h"
+#include "compare.h"
 #include "layout.h"
 #include "ledger.h"
+#include "line.h"
 #include "reference.h"
 
 /* A table and its alphabet. */
@@ -68,7 +70,6 @@ enum {
 	MANY_PASSES = CALLS, /* stands for a call's name */
 	CODES = 2,	     /* at most */
 	PACKED_CODE = 100,   /* stands for the first code in a byte; plain words are below */
-	FILL = 0x5a5a5a5a
 };
 
 struct state {
@@ -346,14 +347,14 @@ static void meet(struct state *state, uint32_t parent, uint32_t call, uint32_t l
 
 static void print_call(const struct call *call)
 {
+	char text[LINE_TEXT];
+
 	if (call->name == (enum call_name)MANY_PASSES) {
 		fprintf(stderr, "  many passes of lane %" PRIu64 "\n", call->argument[0]);
 		return;
 	}
-	fprintf(stderr, "  %s", call_forms[call->name].command);
-	for (uint32_t n = 0; n < call_arguments(call->name); n++)
-		fprintf(stderr, " %" PRIu64, call->argument[n]);
-	fprintf(stderr, "\n");
+	line_text(call, text);
+	fprintf(stderr, "  %s\n", text);
 }
 
 static void print_list(uint32_t state)
@@ -373,35 +374,20 @@ static void fault(uint32_t state, const struct call *call, const char *what)
 	exit(1);
 }
 
-/* The C version's answer and words, from the same memory. */
-static const char *alike(const struct call *call, const uint32_t *before, const uint32_t *after,
-		const uint32_t *answer)
+/* What is owed of any call, and how the C version does it, from the same memory. */
+static enum difference judge(const struct call *call, const uint32_t *before, const struct left *left)
 {
-	uint32_t expected[WORDS + PAST];
-	uint32_t words[PT_ANSWER_WORDS];
+	uint32_t memory[WORDS + PAST], answer[PT_ANSWER_WORDS];
+	struct left expected = { memory, total, answer, PT_ANSWER_WORDS, 0 };
+	enum difference difference = owed(before, left);
 
-	memcpy(expected, before, sizeof expected);
-	call_make(&reference, expected, total, words, PT_ANSWER_WORDS, call);
-	if (memcmp(words, answer, sizeof words) != 0)
-		return "the C version answers otherwise";
-	if (memcmp(expected, after, sizeof expected) != 0)
-		return "the C version leaves other words";
-	return NULL;
-}
-
-/* What is owed of any call, whatever the C version does. */
-static const char *owed(const uint32_t *before, const uint32_t *after, const uint32_t *answer,
-		uint32_t status)
-{
-	if (answer[0] != status || status > PT_NOTHING_DONE)
-		return "the status is not the answer's first word, or no status";
-	if (status != PT_OK && memcmp(before, after, (total + PAST) * sizeof *after) != 0)
-		return "a refused call changed a word";
-	if (memcmp(before + total, after + total, PAST * sizeof *after) != 0)
-		return "a word past the total changed";
-	if (status == PT_OK && !ref_legal(after, total))
-		return "an accepted call left a memory that is not legal";
-	return NULL;
+	if (memcmp(before + total, left->memory + total, PAST * sizeof *before) != 0)
+		return DIFFERS_OUTSIDE;
+	if (difference != SAME || !compared)
+		return difference;
+	memcpy(memory, before, sizeof memory);
+	expected.status = call_make(&reference, memory, total, answer, PT_ANSWER_WORDS, call);
+	return alike(&expected, left);
 }
 
 static void count_answer(const struct call *call, const uint32_t *answer)
@@ -436,21 +422,19 @@ static void make(const struct state *from, uint32_t number, uint32_t at)
 	const struct call *call = &alphabet[at];
 	uint32_t answer[PT_ANSWER_WORDS];
 	struct state state = *from;
+	struct left left = { state.memory, total, answer, PT_ANSWER_WORDS, 0 };
+	enum difference difference;
 	const char *what;
-	uint32_t status;
 
-	status = call_make(&tested, state.memory, total, answer, PT_ANSWER_WORDS, call);
-	what = owed(from->memory, state.memory, answer, status);
-	if (what == NULL && compared)
-		what = alike(call, from->memory, state.memory, answer);
-	if (what == NULL)
-		what = ledger_feed(&state.ledger, call, answer);
+	left.status = call_make(&tested, state.memory, total, answer, PT_ANSWER_WORDS, call);
+	difference = judge(call, from->memory, &left);
+	what = difference != SAME ? difference_texts[difference] : ledger_feed(&state.ledger, call, answer);
 	if (what == NULL)
 		what = ledger_kept(&state.ledger, state.memory);
 	if (what != NULL)
 		fault(number, call, what);
 	count_answer(call, answer);
-	if (status == PT_OK)
+	if (left.status == PT_OK)
 		meet(&state, number, at, kept[number].level + 1);
 }
 

@@ -657,7 +657,7 @@ static void test_short_answers(void)
 		"setup 1 1 1", "add 0 62 1 1", "rep 0 55 1 1", "del 0 55", "begin 0", "end 1",
 		"start 1 55", "step 1", "pass 0 0", "clock 0", "on 9", "off 0", "back 0", "awaited",
 	};
-	static const uint32_t fill[4] = { LENT_FILL, LENT_FILL, LENT_FILL, LENT_FILL };
+	static const uint32_t fill[4] = { FILL, FILL, FILL, FILL };
 	uint32_t before[LENT_WORDS];
 
 	memcpy(before, lent.memory, sizeof before);

@@ -53,11 +53,13 @@ static pid_t start(void (*play)(void *context), void *context)
 
 enum end child_run(void (*play)(void *context), void *context, double limit, int *signal)
 {
-	pid_t child = start(play, context);
+	pid_t child;
 	uint64_t ticks = shared->ticks;
 	double since = now();
 	int status;
 
+	shared->limit = limit;
+	child = start(play, context);
 	for (;;) {
 		pid_t ended = waitpid(child, &status, WNOHANG);
 

@@ -203,20 +203,20 @@ static void play_causes(uint32_t n)
 
 /* ---- damaged memories */
 
-enum { WORDS_A_LIST = 4, VALUES_A_WORD = 6 };
+/* Calls on a tiny table after each of which every word is changed. */
+static const char *const tiny_calls[] = {
+	"setup 1 2 3", "add 0 0 1 1", "add 0 192 2 2", "begin 1", "start 1 0", "del 0 192", "clock 0",
+	"step 1", "del 1 0", "clock 1", "step 1", "end 1", "pass 0 0", "clock 0", "pass 1 0", "clock 1",
+	"clock 0", "off 1", "clock 0",
+};
 
 static const struct list damaged_list = {
 	DAMAGES_CABINETS, DAMAGES_LANES, DAMAGES_SLOTS, 8, 0, 1
 };
 
-static uint32_t damaged_words(void)
-{
-	return (uint32_t)PT_WORDS(DAMAGES_CABINETS, DAMAGES_LANES, DAMAGES_SLOTS);
-}
-
 static uint32_t damage_lists(void)
 {
-	return (uint32_t)damage_count + (damaged_words() + WORDS_A_LIST - 1) / WORDS_A_LIST;
+	return COUNT(tiny_calls) + (uint32_t)damage_count;
 }
 
 static void play_rich(size_t calls)
@@ -245,18 +245,25 @@ static void play_sentence(const struct damage *damage, uint64_t *seed)
 	player_line(rich_calls[0]);
 }
 
-/* Some words of the rich table, each changed to some values. */
-static void play_words(uint32_t first, uint64_t *seed)
+/* Every word below the total, each changed to some values; the memory is mended each time. */
+static void play_words(uint32_t calls)
 {
-	play_rich(rich_count);
-	for (uint32_t at = first; at < first + WORDS_A_LIST && at < damaged_words(); at++)
-		for (uint32_t n = 0; n < VALUES_A_WORD; n++) {
-			struct call call = { CALL_AWAITED, { 0 } };
+	uint32_t total = (uint32_t)PT_WORDS(1, 2, 3);
 
-			play_poke(at, draw_word(seed, player.beside.memory, damaged_words(), at));
-			player_call(&call);
-			player_step(&(struct step){ .kind = STEP_MEND });
+	for (uint32_t n = 0; n < calls; n++)
+		player_line(tiny_calls[n]);
+	for (uint32_t at = 0; at < total; at++) {
+		uint32_t word = player.beside.memory[at];
+		const uint32_t values[] = { word + 1, word - 1, word ^ 0x80000000u, 0, 1, 2, 3, PT_NONE };
+
+		for (uint32_t n = 0; n < COUNT(values); n++) {
+			if (values[n] == word)
+				continue;
+			play_poke(at, values[n]);
+			player_line("awaited");
+			play_poke(at, word);
 		}
+	}
 }
 
 static void play_damages(uint32_t n)
@@ -264,10 +271,10 @@ static void play_damages(uint32_t n)
 	uint64_t seed = trial.seed * 1000 + n;
 
 	player_start(false);
-	if (n < damage_count)
-		play_sentence(&damages[n], &seed);
+	if (n < COUNT(tiny_calls))
+		play_words(n + 1);
 	else
-		play_words((n - (uint32_t)damage_count) * WORDS_A_LIST, &seed);
+		play_sentence(&damages[n - COUNT(tiny_calls)], &seed);
 }
 
 /* ---- memories and answers of every length, at both edges of a page */

@@ -17,8 +17,6 @@
 
 enum { PATH = 400, TEXT = 300 };
 
-static const double LIMIT = 20; /* seconds for the lines of one list */
-
 static void path_of(char path[PATH], const char *name)
 {
 	snprintf(path, PATH, "%s/%s", trial.folder, name);
@@ -60,7 +58,7 @@ static bool run_program(const char *in, const char *out)
 		start_program(in, out);
 	while (waitpid(program, &status, WNOHANG) == 0) {
 		shared->ticks++; /* this process does not hang */
-		if (now() - since > LIMIT) {
+		if (now() - since > shared->limit) {
 			kill(-program, SIGKILL);
 			kill(program, SIGKILL);
 			waitpid(program, &status, 0);
@@ -100,8 +98,9 @@ static void differ(struct player *player, uint32_t at, enum difference differenc
 
 	record->steps.count = at + 1;
 	record->difference = difference;
-	record->compared = answer != NULL && !player->by_ledger;
-	record->answer_words = answer != NULL ? PT_ANSWER_WORDS : 0;
+	record->compared = difference != DIFFERS_LEDGER;
+	record->silent = answer == NULL;
+	record->answer_words = PT_ANSWER_WORDS;
 	record->expected_status = record->answer[at][0];
 	memcpy(record->expected_answer, record->answer[at], sizeof record->answer[at]);
 	snprintf(record->fault, RECORD_TEXT, "%s", fault);
@@ -127,8 +126,6 @@ static void blame(struct player *player, uint32_t at, enum difference difference
 	player->beside.left = (struct left){ player->beside.memory, player->beside.words, answer,
 		PT_ANSWER_WORDS, answer[0] };
 	tally_call(player->tally, &player->beside);
-	if (difference == DIFFERS_STATUS || difference == DIFFERS_ANSWER)
-		return;
 }
 
 static enum difference difference_of(const uint32_t *expected, const uint32_t *answer)
@@ -147,7 +144,8 @@ static void judge_line(struct player *player, uint32_t at, const char *text)
 	char fault[RECORD_TEXT];
 
 	if (!read_answer(text, answer)) {
-		player->tally != NULL ? player->tally->broken[SENTENCE_LISTING_PROGRAM]++ : 0;
+		if (player->tally != NULL)
+			player->tally->broken[SENTENCE_LISTING_PROGRAM]++;
 		snprintf(fault, sizeof fault, "the program prints \"%.80s\", which is no five words", text);
 		differ(player, at, DIFFERS_ANSWER, fault, NULL, END_DIFFERS);
 	}

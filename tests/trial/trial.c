@@ -9,6 +9,7 @@
 #include "trial.h"
 
 #include <inttypes.h>
+#include <signal.h>
 #include <stdio.h>
 #include <stdlib.h>
 #include <string.h>
@@ -19,7 +20,9 @@
 
 enum { LISTS_SHRUNK = 3000, PROGRAMS_SHRUNK = 300 };
 
-static const double HANGS_AFTER = 10, HANGS_AFTER_SHRINKING = 1; /* seconds in which no call returned */
+/* Seconds in which no call returned; the shorter ones once a hang was seen, and while it is shrunk. */
+static const double HANGS_AFTER = 10, HANGS_AGAIN_AFTER = 2, HANGS_AFTER_SHRINKING = 1;
+static const double SHRINKING_SECONDS = 60;
 
 /* A part ends early when so many of its lists have ended so. */
 static const uint32_t most[ENDS] = { [END_DIFFERS] = 25, [END_CRASHED] = 25, [END_HANGS] = 2 };
@@ -27,14 +30,16 @@ static const uint32_t most[ENDS] = { [END_DIFFERS] = 25, [END_CRASHED] = 25, [EN
 struct trial trial = { .seed = 1, .seconds = 20 };
 struct shared *shared;
 
-/* The first list that ended so, with what ended it. */
+/* The first list that ended so, with what ended it; what the ledger finds stands apart. */
+enum { FOUND_DIFFERENCE, FOUND_CRASH, FOUND_HANG, FOUND_LEDGER, FOUND };
 static struct found {
 	bool there;
+	enum end end;
 	const struct part *part;
 	uint32_t list, calls;
 	int signal;
 	struct record record;
-} found[ENDS];
+} found[FOUND];
 
 static double begun;
 
@@ -79,7 +84,8 @@ static void play_asked(void *context)
 /* Keeps the first list that ended so. */
 static void keep(const struct asked *asked, enum end end, int signal)
 {
-	struct found *first = &found[end];
+	struct found *first = &found[end == END_DIFFERS && shared->record.difference == DIFFERS_LEDGER ?
+		FOUND_LEDGER : end - END_DIFFERS];
 
 	if (end != END_DIFFERS && shared->record.steps.count > 0) { /* the process did not say so itself */
 		shared->tally.tried[SENTENCE_CALLED]++;
@@ -88,6 +94,7 @@ static void keep(const struct asked *asked, enum end end, int signal)
 	if (first->there)
 		return;
 	first->there = true;
+	first->end = end;
 	first->part = asked->part;
 	first->list = asked->list;
 	first->signal = signal;
@@ -115,7 +122,7 @@ static void run_part(const struct part *part)
 	for (; list < lists && !over(part, since, calls); list++) {
 		struct asked asked = { part, list };
 		int signal;
-		enum end end = child_run(play_asked, &asked, HANGS_AFTER, &signal);
+		enum end end = child_run(play_asked, &asked, found[FOUND_HANG].there ? HANGS_AGAIN_AFTER : HANGS_AFTER, &signal);
 
 		ended[end]++;
 		if (end != END_DONE)
@@ -146,6 +153,8 @@ static void play_wanted(void *context)
 	player_steps(&shared->wanted, shared->by_ledger);
 }
 
+static double shrinking_until;
+
 /* How a list ends, played alone. */
 static enum end end_of(const struct steps *steps, double limit, int *signal)
 {
@@ -158,21 +167,24 @@ static bool ends_so(const struct steps *steps, void *context)
 	const enum end *end = context;
 	int signal;
 
+	if (now() > shrinking_until)
+		return false;
 	return end_of(steps, *end == END_HANGS ? HANGS_AFTER_SHRINKING : HANGS_AFTER, &signal) == *end;
 }
 
 /* Shortens a found list; false if it does not end so again. */
-static bool shorten(struct found *first, enum end end)
+static bool shorten(struct found *first)
 {
 	static struct steps steps;
-	uint32_t tests = trial.program != NULL || end == END_HANGS ? PROGRAMS_SHRUNK : LISTS_SHRUNK;
+	uint32_t tests = trial.program != NULL || first->end == END_HANGS ? PROGRAMS_SHRUNK : LISTS_SHRUNK;
 
 	steps = first->record.steps;
 	shared->by_ledger = first->part->by_ledger;
-	if (steps.count == 0 || !ends_so(&steps, &end))
+	shrinking_until = now() + SHRINKING_SECONDS;
+	if (steps.count == 0 || !ends_so(&steps, &first->end))
 		return false;
-	shrink(&steps, ends_so, &end, tests);
-	if (end_of(&steps, HANGS_AFTER, &first->signal) != end)
+	shrink(&steps, ends_so, &first->end, tests);
+	if (end_of(&steps, HANGS_AFTER, &first->signal) != first->end)
 		return false;
 	first->record = shared->record;
 	return true;
@@ -180,30 +192,35 @@ static bool shorten(struct found *first, enum end end)
 
 /* ---- the report */
 
-static const char *const end_names[ENDS] = {
-	[END_DIFFERS] = "difference", [END_CRASHED] = "crash", [END_HANGS] = "hang",
-};
+static const char *const found_names[FOUND] = { "difference", "crash", "hang", "fault of demand 3" };
+static const char *const found_files[FOUND] = { "difference", "crash", "hang", "fault" };
 
-static void say_end(const struct found *first, enum end end)
+/* How the engine ended, and what the judge answers. */
+static void say_end(const struct record *record, enum end end, int signal)
 {
-	if (end == END_CRASHED && first->signal != 0)
-		printf("  the engine was ended by signal %d (%s)%s\n", first->signal,
-			strsignal(first->signal), first->signal == 11 || first->signal == 7 ?
-			": it may have touched a word that is not lent" : "");
+	static struct beside beside;
+
+	if (end == END_DIFFERS)
+		return;
+	if (end == END_CRASHED && signal != 0)
+		printf("  the engine was ended by signal %d (%s)%s\n", signal, strsignal(signal),
+			signal == SIGSEGV || signal == SIGBUS ? ": it may have touched a word that is not lent" : "");
 	else if (end == END_CRASHED)
 		printf("  the engine ended the process\n");
-	else if (end == END_HANGS)
-		printf("  %s\n", trial.program != NULL ? "the program does not end" :
-			"no call returned for ten seconds");
+	else
+		printf("  %s\n", trial.program != NULL ? "the program does not end" : "no call returned for ten seconds");
+	beside_steps(&beside, NULL, &judge, &record->steps);
+	print_answer(judge_name, beside.expected_answer, (uint32_t)beside.expected.answer_words,
+		beside.expected.status, stdout);
 }
 
 /* Writes the list to a file, and says how to replay it. */
-static void save(const struct record *record, enum end end)
+static void save(const struct record *record, const char *name)
 {
 	char path[400];
 	FILE *file;
 
-	snprintf(path, sizeof path, "%s/first-%s", trial.folder, end_names[end]);
+	snprintf(path, sizeof path, "%s/first-%s", trial.folder, name);
 	file = fopen(path, "w");
 	if (file == NULL) {
 		perror(path);
@@ -217,25 +234,24 @@ static void save(const struct record *record, enum end end)
 		printf("  by the proved program:  ./listing %s\n", path);
 }
 
-static void print_found(struct found *first, enum end end)
+static void print_found(struct found *first, int which)
 {
-	bool again = shorten(first, end);
+	bool again = shorten(first);
 
-	printf("\nThe first %s, in %s, list %" PRIu32 "%s", end_names[end], first->part->name,
-		first->list, first->record.steps.count == 0 ? "\n" : "");
+	printf("\nThe first %s, in: %s, list %" PRIu32, found_names[which], first->part->name, first->list);
 	if (first->record.steps.count == 0) {
-		printf("  %s\n", first->record.fault);
+		printf("\n  %s\n", first->record.fault);
 		return;
 	}
 	if (again)
-		printf(", shrunk from %" PRIu32 " calls to %" PRIu32 ":\n", first->calls,
+		printf(", shrunk from %" PRIu32 " calls to %" PRIu32 "\n", first->calls,
 			steps_calls(&first->record.steps));
 	else
-		printf(", %" PRIu32 " calls, which does not show itself again when played alone:\n",
-			first->calls);
+		printf(", %" PRIu32 " calls; played alone the list does not show it again\n", first->calls);
 	record_print(&first->record, trial.program != NULL ? "the program" : "the engine", judge_name, stdout);
-	say_end(first, end);
-	save(&first->record, end);
+	say_end(&first->record, first->end, first->signal);
+	save(&first->record, found_files[which]);
+	fflush(stdout);
 }
 
 static void print_calls(void)
@@ -260,10 +276,10 @@ static bool report(void)
 {
 	bool conforms = true;
 
-	for (int end = END_DIFFERS; end < ENDS; end++)
-		if (found[end].there) {
+	for (int which = 0; which < FOUND; which++)
+		if (found[which].there) {
 			conforms = false;
-			print_found(&found[end], (enum end)end);
+			print_found(&found[which], which);
 		}
 	print_calls();
 	printf("\nSentences of document 01, as docs/TRACE.md has them\n");
@@ -299,14 +315,14 @@ static void read_list(const char *path)
 
 static bool replay(const char *path)
 {
-	struct found first = { .signal = 0 };
 	enum end end;
+	int signal;
 
 	read_list(path);
-	end = child_run(play_wanted, NULL, HANGS_AFTER, &first.signal);
+	end = child_run(play_wanted, NULL, HANGS_AFTER, &signal);
 	record_print(&shared->record, trial.program != NULL ? "the program" : "the engine", judge_name, stdout);
 	if (end != END_DONE)
-		say_end(&first, end);
+		say_end(&shared->record, end, signal);
 	puts(end == END_DONE ? "no difference" : "differs");
 	return end == END_DONE;
 }

@@ -43,6 +43,7 @@ struct shared {
 	uint64_t ticks;		/* goes on as long as calls return */
 	struct steps wanted;	/* a list to play, while a difference is shrunk */
 	bool by_ledger;		/* that list has no judge but the ledger */
+	double limit;		/* seconds for a program and the lines of one list */
 };
 
 extern struct shared *shared;
