@@ -6,10 +6,10 @@
 #include <stdio.h>
 
 #include "ledger.h"
-#include "trial.h"
+#include "lent.h"
 
 /* The calls after the set-up; instant k is the end of call k. */
-static const struct trial_step listing[] = {
+static const struct lent_step listing[] = {
 	{ "add 0 17 25 1", "0 0 0 0 0" }, { "begin 1", "0 0 0 0 0" },
 	{ "start 1 17", "0 0 0 0 0" }, { "del 0 17", "0 0 0 0 0" },
 	{ "step 1", "0 1 0 25 1" }, { "clock 0", "0 1 1 1 0" },
@@ -49,7 +49,7 @@ static const struct book books[] = {
 
 enum { BOOKS = sizeof(books) / sizeof(books[0]) };
 
-static struct trial trial;
+static struct lent lent;
 static struct ledger ledger;
 
 static void check_slots(const struct book *book)
@@ -83,16 +83,16 @@ int main(void)
 {
 	size_t made = 0;
 
-	trial_start(&trial);
-	trial_expect(&trial, "setup 1 2 3", "0 145 0 0 0");
+	lent_start(&lent);
+	lent_expect(&lent, "setup 1 2 3", "0 145 0 0 0");
 	ledger_reset(&ledger);
 	for (size_t n = 0; n < BOOKS; n++) {
 		for (; made < books[n].instant; made++) {
-			struct call call = trial_call(listing[made].call);
+			struct call call = lent_call(listing[made].call);
 
-			trial_expect(&trial, listing[made].call, listing[made].answer);
-			CHECK(ledger_feed(&ledger, &call, trial.answer) == NULL);
-			CHECK(ledger_kept(&ledger, trial.memory) == NULL);
+			lent_expect(&lent, listing[made].call, listing[made].answer);
+			CHECK(ledger_feed(&ledger, &call, lent.answer) == NULL);
+			CHECK(ledger_kept(&ledger, lent.memory) == NULL);
 		}
 		check_slots(&books[n]);
 		check_lanes(&books[n]);

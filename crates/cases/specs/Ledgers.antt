@@ -1,5 +1,5 @@
 -- The ledger of demand 3, computed: what it holds at instants of document 01's listing, and of a list with an absent code, a replace and a refused call.
--- The ledger in C holds the same at these instants of the listing (tests/replay/listing-ledger.c).
+-- The ledger in C holds the same at these instants of the listing (tests/programs/listing-ledger.c).
 use Prim.Native.Nat.{ℕ}
 use mathlib.Core.Path.{_≡_, refl}
 use mathlib.Core.List.{List, [], _∷_, map}

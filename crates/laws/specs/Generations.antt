@@ -2,7 +2,6 @@
 -- the one before and the one after apart, at the wrap too. Assumes nothing.
 use Prim.Native.Nat.{ℕ, _≤_, _<_}
 use mathlib.Core.Path.{_≡_, refl}
-use mathlib.Core.Logic.{_≢_}
 use mathlib.Core.Bool.{true, false}
 use native.Mathlib.Omega.{arith}
 use lib.Dec.{leb}
@@ -15,24 +14,9 @@ use Rattle.laws.specs.Tests.{and-true, and-false-right}
 pub up-word : (c : ℕ) → up c < wordLimit
 up-word c = omega arith
 
-pub down-word : (c : ℕ) → down c < wordLimit
-down-word c = omega arith
-
 module _ {c : ℕ} (h : c < wordLimit) where
   pub up-down : up (down c) ≡ c
   up-down = omega arith
-
-  pub down-up : down (up c) ≡ c
-  down-up = omega arith
-
-  pub up-apart : up c ≢ c
-  up-apart e = omega arith
-
-  pub down-apart : down c ≢ c
-  down-apart e = omega arith
-
-  pub down-up-apart : down c ≢ up c
-  down-up-apart e = omega arith
 
 -- ---- the order
 
@@ -68,10 +52,6 @@ module _ {c : ℕ} (h : c < wordLimit) where
   unfolding later
   later-down = let e : less c (down c) ≡ 1 = omega arith in rw e
 
-  pub down-later : later (down c) c ≡ false
-  unfolding later
-  down-later = let e : less (down c) c ≡ 4294967295 = omega arith in rw e
-
 pub later-asym : {a b : ℕ} → a < wordLimit → b < wordLimit → later a b ≡ true → later b a ≡ false
 unfolding later
 later-asym {a} {b} ha hb e =
@@ -82,12 +62,6 @@ later-asym {a} {b} ha hb e =
     rw (lt-leb (less b a) 2147483647 r) (and-false-right (leb 1 (less b a)))
 
 -- ---- the wrap
-
-pub up-largest : up 4294967295 ≡ 0
-up-largest = refl
-
-pub down-zero : down 0 ≡ 4294967295
-down-zero = refl
 
 pub zero-later : later 0 4294967295 ≡ true
 unfolding later

@@ -1,6 +1,6 @@
 -- One flag of a mask set, tested and cleared, flags counted, and the first of them, as MIR's operations give them. Assumes nothing.
 use Prim.Native.Nat.{ℕ, zero, suc, _+_, _*_, _-_, _/_, _%_, _^_, _≤_, _<_, min}
-use mathlib.Core.Bool.{Bool, true, false, not, cond, _||_}
+use mathlib.Core.Bool.{Bool, true, false, cond, _||_}
 use mathlib.Core.Path.{_≡_, refl, ap, ap₂, sym, _∙_}
 use mathlib.Core.List.{List, [], _∷_}
 use native.Mathlib.Omega.{arith}
@@ -10,8 +10,6 @@ use lib.Arith.{lt-one}
 use lib.Pow.{pow-pos, pow-lt, pow-mono, split, shl-exact}
 use lib.Bits.{bitAnd, bitOr, and-block, and-step, and-zero-r, and-mask, or-add-and}
 use lib.Count.{ones, ones-step, trailingZeros, under, trailing-of-zero}
-use lib.Dec.{eqb}
-use borrow.Author.Tests.{eq-eqb, ne-eqb}
 use Rattle.model.specs.Lists.{any, mask, bit}
 use Rattle.model.specs.Memory.{flag}
 use Rattle.laws.specs.Tests.{clash}
@@ -36,15 +34,6 @@ and-bit w p =
     ∙ and-block p (w / 2 ^ p) 1 (w % 2 ^ p) 0 (mod-lt w (pow-pos p)) (pow-pos p)
     ∙ ap₂ (λ (x y : ℕ). x * 2 ^ p + y) (and-mask (w / 2 ^ p) 1 ∙ sym (bit-flag p w)) (and-zero-r (w % 2 ^ p))
     ∙ omega arith
-
--- `w & (1 << p)` is 0 exactly when bit p is clear
-pub and-bit-zero : (w p : ℕ) → eqb (bitAnd w (2 ^ p)) 0 ≡ not (flag p w)
-unfolding bit
-and-bit-zero w p = ap (λ (x : ℕ). eqb x 0) (and-bit w p) ∙ go (flag p w)
-  where
-    go : (b : Bool) → eqb (bit b * 2 ^ p) 0 ≡ not b
-    go true = ne-eqb (1 * 2 ^ p) 0 (λ q. omega (arith, pow-pos p))
-    go false = eq-eqb (0 * 2 ^ p) 0 (omega arith)
 
 -- `(w >> p) & 1`
 pub shr-and-one : (w p : ℕ) → bitAnd (w / 2 ^ p) 1 ≡ bit (flag p w)

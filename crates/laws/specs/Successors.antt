@@ -11,10 +11,10 @@ use lib.ListN.{getD, length, length-append}
 use lib.Dec.{eqb}
 use borrow.Author.Tests.{ne-eqb}
 use Rattle.model.specs.Word.{none}
-use Rattle.model.specs.Lists.{update, isEmpty, first, last, count, successor, successorIn, without, concat}
+use Rattle.model.specs.Lists.{update, isEmpty, first, last, count, successor, successorIn, concat}
 use Rattle.laws.specs.Tests.{same, other, decide, eqb-self}
 use Rattle.laws.specs.Elements.{Each}
-use Rattle.laws.specs.Counts.{count-self, count-append, count-concat-getD}
+use Rattle.laws.specs.Counts.{count-append, count-concat-getD}
 
 -- ---- one list
 
@@ -46,12 +46,6 @@ pub count-last : (xs : List ℕ) (i : ℕ) → i ≢ none → i ≡ last xs → 
 unfolding last
 count-last [] i n e = absurd (n e)
 count-last (x ∷ xs) i n e = rw e (count-last-cons x xs)
-
--- a list of slots is empty exactly where its first is none
-pub isEmpty-first : (xs : List ℕ) → count none xs ≡ 0 → isEmpty xs ≡ eqb (first xs) none
-unfolding first isEmpty
-isEmpty-first [] h = refl
-isEmpty-first (x ∷ xs) h = sym (ne-eqb x none (λ e. let k : 0 < count none (none ∷ xs) = omega (arith, count-self none xs) in let k′ : 0 < count none (x ∷ xs) = rw e k in omega arith))
 
 -- ---- lists joined
 
@@ -99,15 +93,6 @@ successor-append-right (x ∷ xs) ys i d h =
       | same e t u ↦ absurd (let k : 1 + count i xs ≡ 0 = rw u at h in omega arith)
       | other e t u ↦ rw t (successor-append-right xs ys i d (omega arith))
     ]
-
-pub successor-snoc-self : (xs : List ℕ) (o d : ℕ) → count o xs ≡ 0 → successor (xs ++ (o ∷ [])) o d ≡ none
-unfolding first successor
-successor-snoc-self xs o d h = successor-append-right xs (o ∷ []) o d h ∙ rw (eqb-self o)
-
-pub successor-snoc : (xs : List ℕ) (o i d : ℕ) → i ≢ o → i ≢ none → count i xs ≤ 1
-    → successor (xs ++ (o ∷ [])) i d ≡ cond (eqb i (last xs)) o (successor xs i d)
-unfolding count first
-successor-snoc xs o i d n f k = successor-append xs (o ∷ []) i d f k (rw (ne-eqb i o n) (omega arith))
 
 -- ---- lists of lists
 

@@ -1,3 +1,2 @@
--- What the contracts of `queues` cite, and which slots the words of a queue stand for.
+-- What the contracts of `queues` cite.
 pub mod Queue
-pub mod Represents

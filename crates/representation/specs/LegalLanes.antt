@@ -7,7 +7,7 @@ use native.Mathlib.Omega.{arith}
 use native.Mathlib.Decide.{decLt}
 use lib.ListN.{getD, List·getD-eq-default}
 use Rattle.model.specs.Lists.{isEmpty}
-use Rattle.model.specs.State.{Sizes, laneCount, isRunning, isHeld, Lane, Engine, Table, State}
+use Rattle.model.specs.State.{Sizes, laneCount, isRunning, isHeld, Lane, Engine, State}
 use Rattle.model.specs.Layout.{lookupBit, snapshotBit, quiescentAt, snapshotAt, lookupAt, positionAt, countLimit, kinds, laneLength, laneAddress, total}
 use Rattle.model.specs.Engine.{freshLane, laneAt}
 use Rattle.model.specs.Memory.{at, wide, flag, sizes, readLane, readLookup, readSnapshot, readCounts, state}
@@ -23,9 +23,6 @@ module _ (m : List ℕ) (l : Legal m) (word : WordsTo (total (sizes m)) m) where
 
   abbrev e : Engine
   e = s .engine
-
-  abbrev t : Table
-  t = s .table
 
   abbrev z : Sizes
   z = sizes m

@@ -31,16 +31,6 @@ refused-keeps m k = go k (refusalOf m k)
     go (set-up c p s) zero f = absurd (f refl)
     go (on-state o) zero f = absurd (f (status (state m) o))
 
--- its answer: the number of the cause and four zeros
-pub refused-reply : (m : List ℕ) (k : Call) → (reply m k .status ≡ 0 → ⊥) → (reply m k .status ≡ refusalOf m k) × (reply m k ≡ refused (reply m k .status))
-unfolding reply replyOf
-refused-reply m k = go k (refusalOf m k)
-  where
-    go : (k : Call) (n : ℕ) → (replyOf m n k .status ≡ 0 → ⊥) → (replyOf m n k .status ≡ n) × (replyOf m n k ≡ refused (replyOf m n k .status))
-    go k (suc n) f = (refl, refl)
-    go (set-up c p s) zero f = absurd (f refl)
-    go (on-state o) zero f = absurd (f (status (state m) o))
-
 -- ---- the thirteen calls on a memory that is not legal
 
 module _ (m : List ℕ) (k : Op) (h : legal m ≡ false) where

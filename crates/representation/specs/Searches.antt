@@ -5,15 +5,12 @@ use mathlib.Core.Logic.{_≢_}
 use mathlib.Core.Bool.{Bool, cond}
 use mathlib.Core.List.{List, [], _∷_}
 use native.Mathlib.Omega.{arith}
-use lib.Dec.{eqb}
-use borrow.Author.Tests.{ne-eqb}
 use Rattle.model.specs.Word.{none}
 use Rattle.model.specs.Lists.{count}
 use Rattle.model.specs.State.{Product}
 use Rattle.model.specs.Table.{slotIn, productAt}
-use Rattle.laws.specs.Tests.{same, other, decide, eqb-self}
+use Rattle.laws.specs.Tests.{same, other, decide}
 use Rattle.laws.specs.Counts.{count-self}
-use Rattle.laws.specs.Removals.{beforeIn}
 
 module _ (ps : List Product) (c : ℕ) where
   abbrev codeIn : ℕ → ℕ
@@ -51,20 +48,4 @@ module _ (ps : List Product) (c : ℕ) where
               | same p t t′ ↦ absurd (q (sym (ap codeIn p) ∙ e))
               | other p t t′ ↦ let k : 0 < 0 + count y xs = rw t at h in omega arith
             ]) e)
-      ]
-
-  -- what stands before the slot of code c; e where it is the first
-  abbrev pub beforeCode : List ℕ → ℕ → ℕ
-  beforeCode [] e = e
-  beforeCode (x ∷ xs) e = cond (eqb (codeIn x) c) e (beforeCode xs x)
-
-  pub beforeCode-slotIn : (xs : List ℕ) (e : ℕ) → slotIn ps c xs ≢ none → beforeCode xs e ≡ beforeIn (slotIn ps c xs) xs e
-  unfolding slotIn
-  beforeCode-slotIn [] e n = refl
-  beforeCode-slotIn (x ∷ xs) e n =
-      elim (decide (codeIn x) c) [
-        | same q u v ↦ rw u (rw (eqb-self x))
-        | other q u v ↦
-            let k : slotIn ps c xs ≢ none = λ r. n (rw u r) in
-            rw u (rw (ne-eqb x (slotIn ps c xs) (λ r. q (ap codeIn r ∙ slotIn-code xs k))) (beforeCode-slotIn xs x k))
       ]
