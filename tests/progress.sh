@@ -4,6 +4,7 @@
 #
 #   progress_part NAME          a heading: the part begins
 #   progress_update TEXT        how far it is
+#   progress_while PID COMMAND ..   as long as the process runs; the command prints how far it is
 #   progress_done [TEXT]        the part ended; its time
 #   progress_fault WHAT [COMMAND ..]   one failure more, and the command that repeats it alone
 #   progress_clear              before the run prints a line of its own
@@ -50,6 +51,15 @@ progress_update() {
     echo "$progress_name: $1, $(progress_time $((SECONDS - progress_since)))" >&2
     progress_last=$SECONDS
   fi
+}
+
+progress_while() {
+  local process=$1
+  shift
+  while kill -0 "$process" 2>/dev/null; do
+    progress_update "$("$@")"
+    sleep 1
+  done
 }
 
 progress_done() {

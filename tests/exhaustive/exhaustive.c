@@ -34,6 +34,7 @@
 #include "layout.h"
 #include "ledger.h"
 #include "line.h"
+#include "progress.h"
 #include "reference.h"
 
 /* A table and its alphabet. */
@@ -100,6 +101,7 @@ static size_t places;
 
 /* Whether the C version is compared; else legality and the ledger judge alone. */
 static bool compared = true;
+static double begun; /* the run */
 
 /* Over all tables. */
 static uint64_t all_states, calls, accepted[CALLS], refused[PT_NOTHING_DONE + 1], outcomes[3];
@@ -367,10 +369,16 @@ static void print_list(uint32_t state)
 
 static void fault(uint32_t state, const struct call *call, const char *what)
 {
+	const char *archive = getenv("ARCHIVE");
+
+	progress_clear();
+	fflush(stdout);
 	fprintf(stderr, "exhaustive: after the set-up and\n");
 	print_list(state);
 	print_call(call);
-	fprintf(stderr, "exhaustive: %s\n", what);
+	fprintf(stderr, "exhaustive: %s\nFAILED exhaustive, table %zu\n  again, alone: tests/exhaustive/run %s--table %zu %s\n",
+		what, (size_t)(form - forms) + 1, compared ? "" : "--ledger ", (size_t)(form - forms) + 1,
+		archive != NULL ? archive : "");
 	exit(1);
 }
 
@@ -484,6 +492,9 @@ static uint32_t search(void)
 		if (form->levels != 0 && level == form->levels)
 			break;
 		unpack(&state, &kept[number]);
+		progress("exhaustive: table %zu of %zu, %" PRIu32 " of %zu states so far, %.0f s",
+			(size_t)(form - forms) + 1, sizeof forms / sizeof forms[0], number, states,
+			seconds_now() - begun);
 		for (uint32_t at = 0; at < letters; at++)
 			if (alphabet[at].name == (enum call_name)MANY_PASSES)
 				many_passes(&state, number, at);
@@ -496,6 +507,7 @@ static uint32_t search(void)
 static void run(void)
 {
 	uint64_t before = calls;
+	double since = seconds_now();
 	uint32_t level;
 
 	room = 0;
@@ -503,14 +515,15 @@ static void run(void)
 	make_alphabet();
 	start();
 	level = search();
+	progress_clear();
 	all_states += states;
 	printf("%" PRIu32 " x %" PRIu32 " x %" PRIu32 ", codes %" PRIu32 ", kinds %" PRIu32
 		"%s, lanes that change %#" PRIx32 ", that read %#" PRIx32 ", generation %" PRIu32
-		": %zu states, %" PRIu64 " calls, %s %" PRIu32 " deep\n",
+		": %zu states, %" PRIu64 " calls, %s %" PRIu32 " deep, %.1f s\n",
 		form->cabinets, form->lanes, form->slots, form->codes, form->kinds,
 		form->around ? " around" : "", form->changing, form->reading, form->generation,
 		states, calls - before, form->levels == 0 ? "all, at most" : "those at most",
-		level);
+		level, seconds_now() - since);
 	fflush(stdout);
 }
 
@@ -528,6 +541,7 @@ int main(int arguments, char **argument)
 		fprintf(stderr, "exhaustive: there are %zu tables\n", tables);
 		return 2;
 	}
+	begun = seconds_now();
 	for (uint32_t n = 0; n < CODES; n++)
 		codes[n] = (uint32_t)CODE_OF_CHAIN(0, n);
 	if (!compared)

@@ -13,14 +13,6 @@
 #include <time.h>
 #include <unistd.h>
 
-double now(void)
-{
-	struct timespec time;
-
-	clock_gettime(CLOCK_MONOTONIC, &time);
-	return (double)time.tv_sec + (double)time.tv_nsec / 1e9;
-}
-
 static void pause_briefly(void)
 {
 	nanosleep(&(struct timespec){ .tv_nsec = 100000 }, NULL);
@@ -55,7 +47,7 @@ enum end child_run(void (*play)(void *context), void *context, double limit, int
 {
 	pid_t child;
 	uint64_t ticks = shared->ticks;
-	double since = now();
+	double since = seconds_now();
 	int status;
 
 	shared->limit = limit;
@@ -67,9 +59,9 @@ enum end child_run(void (*play)(void *context), void *context, double limit, int
 			return end_of(status, signal);
 		if (shared->ticks != ticks) {
 			ticks = shared->ticks;
-			since = now();
+			since = seconds_now();
 		}
-		if (now() - since > limit)
+		if (seconds_now() - since > limit)
 			break;
 		pause_briefly();
 	}

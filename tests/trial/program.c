@@ -46,7 +46,7 @@ static void start_program(const char *in, const char *out)
 /* Runs the program; returns whether it ended in time. */
 static bool run_program(const char *in, const char *out)
 {
-	double since = now();
+	double since = seconds_now();
 	pid_t program;
 	int status;
 
@@ -58,7 +58,7 @@ static bool run_program(const char *in, const char *out)
 		start_program(in, out);
 	while (waitpid(program, &status, WNOHANG) == 0) {
 		shared->ticks++; /* this process does not hang */
-		if (now() - since > shared->limit) {
+		if (seconds_now() - since > shared->limit) {
 			kill(-program, SIGKILL);
 			kill(program, SIGKILL);
 			waitpid(program, &status, 0);

@@ -14,8 +14,8 @@
 #include <stdlib.h>
 #include <string.h>
 #include <sys/mman.h>
-#include <unistd.h>
 
+#include "progress.h"
 #include "shrink.h"
 
 enum { LISTS_SHRUNK = 3000, PROGRAMS_SHRUNK = 300 };
@@ -43,27 +43,14 @@ static struct found {
 
 static double begun;
 
-/* ---- progress, on standard error */
-
-static void progress(const struct part *part, uint32_t lists, uint32_t of)
+static void say_progress(const struct part *part, uint32_t lists, uint32_t of)
 {
-	static double last;
-	static char of_text[24];
+	char of_text[24] = "";
 
-	if (!isatty(2) || now() - last < 0.2)
-		return;
-	last = now();
-	of_text[0] = '\0';
 	if (of != UINT32_MAX)
 		snprintf(of_text, sizeof of_text, " of %" PRIu32, of);
-	fprintf(stderr, "\r\033[K%s: %" PRIu32 "%s lists, %" PRIu64 " calls, %.0f s", part->name, lists,
-		of_text, shared->tally.calls, now() - begun);
-}
-
-static void progress_end(void)
-{
-	if (isatty(2))
-		fprintf(stderr, "\r\033[K");
+	progress("%s: %" PRIu32 "%s lists, %" PRIu64 " calls, %.0f s", part->name, lists, of_text,
+		shared->tally.calls, seconds_now() - begun);
 }
 
 /* ---- lists */
@@ -109,7 +96,7 @@ static bool over(const struct part *part, double since, uint64_t calls)
 		return false;
 	if (trial.calls > 0)
 		return (double)(shared->tally.calls - calls) >= part->share * (double)trial.calls;
-	return now() - since >= part->share * trial.seconds;
+	return seconds_now() - since >= part->share * trial.seconds;
 }
 
 static void run_part(const struct part *part)
@@ -117,7 +104,7 @@ static void run_part(const struct part *part)
 	uint32_t lists = part->lists != NULL ? part->lists() : UINT32_MAX;
 	uint32_t ended[ENDS] = { 0 }, list = 0;
 	uint64_t calls = shared->tally.calls;
-	double since = now();
+	double since = seconds_now();
 
 	for (; list < lists && !over(part, since, calls); list++) {
 		struct asked asked = { part, list };
@@ -129,12 +116,12 @@ static void run_part(const struct part *part)
 			keep(&asked, end, signal);
 		if (end != END_DONE && ended[end] >= most[end])
 			break;
-		progress(part, list, lists);
+		say_progress(part, list, lists);
 	}
-	progress_end();
+	progress_clear();
 	printf("  %-52s %6" PRIu32 " lists %9" PRIu64 " calls %6.1f s", part->name,
 		list < lists && part->lists != NULL ? list + 1 : list, shared->tally.calls - calls,
-		now() - since);
+		seconds_now() - since);
 	if (ended[END_DIFFERS] + ended[END_CRASHED] + ended[END_HANGS] == 0)
 		printf("  no difference\n");
 	else
@@ -167,7 +154,7 @@ static bool ends_so(const struct steps *steps, void *context)
 	const enum end *end = context;
 	int signal;
 
-	if (now() > shrinking_until)
+	if (seconds_now() > shrinking_until)
 		return false;
 	return end_of(steps, *end == END_HANGS ? HANGS_AFTER_SHRINKING : HANGS_AFTER, &signal) == *end;
 }
@@ -180,7 +167,7 @@ static bool shorten(struct found *first)
 
 	steps = first->record.steps;
 	shared->by_ledger = first->part->by_ledger;
-	shrinking_until = now() + SHRINKING_SECONDS;
+	shrinking_until = seconds_now() + SHRINKING_SECONDS;
 	if (steps.count == 0 || !ends_so(&steps, &first->end))
 		return false;
 	shrink(&steps, ends_so, &first->end, tests);
@@ -285,7 +272,7 @@ static bool report(void)
 	printf("\nSentences of document 01, as docs/TRACE.md has them\n");
 	conforms = tally_print(&shared->tally) && conforms;
 	printf("\n%s, beside %s, seed %" PRIu64 ": %" PRIu64 " calls in %.1f s\n%s\n", trial.name, judge_name,
-		trial.seed, shared->tally.calls, now() - begun, conforms ? "conforms" : "differs");
+		trial.seed, shared->tally.calls, seconds_now() - begun, conforms ? "conforms" : "differs");
 	return conforms;
 }
 
@@ -374,7 +361,7 @@ int main(int arguments, char **argument)
 {
 	const char *library, *list = options(arguments, argument, &library);
 
-	begun = now();
+	begun = seconds_now();
 	shared = mmap(NULL, sizeof *shared, PROT_READ | PROT_WRITE, MAP_SHARED | MAP_ANONYMOUS, -1, 0);
 	if (shared == MAP_FAILED) {
 		perror("trial");

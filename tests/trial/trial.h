@@ -9,6 +9,7 @@
 #include <stdbool.h>
 #include <stdint.h>
 
+#include "progress.h"
 #include "record.h"
 #include "sentences.h"
 
@@ -103,7 +104,5 @@ extern const uint32_t part_count;
 
 /* Runs @play in a process of its own, and says how it ended; @signal is what ended it. */
 enum end child_run(void (*play)(void *context), void *context, double limit, int *signal);
-
-double now(void);
 
 #endif /* TRIAL_H */
