@@ -1,5 +1,5 @@
--- `lanes_length` meets its contract. The loop's invariant: n is the sum over the lanes before i, and the ends of lane i stand at ends. The measure:
--- the lanes left. Assumes nothing.
+-- The loop's invariant: n is the sum over the lanes before i, and the ends of lane i stand at ends. The measure:
+-- the lanes left.
 use Prim.Native.Nat.{_+_, _-_, _*_, _≤_}
 use mathlib.Core.Path.{_≡_, ap, _∙_}
 use native.Mathlib.Omega.{arith}
@@ -10,13 +10,13 @@ use Rattle.model.specs.Memory.{sizes}
 use Rattle.access.specs.Ways.{inRange}
 use Rattle.laws.specs.Loops.{Summed, summed-start, summed-on, summed-done}
 use Rattle.awaited.specs.Lengths.{ownerLength, laneLengths}
-use Rattle.awaited.specs.Owners.{lane-at, owner-few, lanes-shown}
+use Rattle.awaited.specs.Owners.{ownerQueues, lane-at, owner-few, lanes-shown}
 use borrow.Author.Needs.{needs}
 use Rattle.awaited.proofs.lanes_length.Statement.{statement}
 use Rattle.awaited.proofs.lanes_length.Tie as tie
 
 abbrev Inv-loop : tie.InvT-loop
-Inv-loop m links lanes ends₀ n₀ i₀ ends n i = (ends ≡ laneAddress (sizes m) i + queuesAt) × Summed (laneLengths m) (laneCount (sizes m)) i n × (n ≤ 3 * maxSlots * i)
+Inv-loop m links lanes ends₀ n₀ i₀ ends n i = (ends ≡ laneAddress (sizes m) i + queuesAt) × Summed (laneLengths m) (laneCount (sizes m)) i n × (n ≤ ownerQueues * maxSlots * i)
 
 abbrev μ-loop : tie.MeasureT-loop
 μ-loop m links lanes ends₀ n₀ i₀ ends n i = lanes - i

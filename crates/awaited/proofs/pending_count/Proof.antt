@@ -1,5 +1,5 @@
--- `pending_count` meets its contract. The loop's invariant: the count is that of the cabinets before c. The measure: the cabinets left.
--- Assumes nothing.
+-- The loop's invariant: the count is that of the cabinets before c. The measure: the cabinets left.
+--
 use Prim.Native.Nat.{_-_, _*_, _≤_}
 use mathlib.Core.Path.{_∙_}
 use native.Mathlib.Omega.{arith}

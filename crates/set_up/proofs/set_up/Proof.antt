@@ -1,4 +1,4 @@
--- `set_up` meets its contract: the causes are tested in their order. Assumes nothing.
+-- The causes are tested in their order, and a law for each way out says what it answers and leaves.
 use mathlib.Core.Path.{sym, _∙_}
 use native.Mathlib.Omega.{arith}
 use denote.Ref.{now}
