@@ -105,7 +105,9 @@ module _ (m : List ℕ) (v : Sound m) where
 
     pub cabinet-below : c < sizes m .cabinets
     cabinet-below =
-        omega (arith, e, ap (λ (w : ℕ). firstTrue (bits w)) cabinets-shown, firstTrue-mask flags (omega (arith, flags-each, inRange m v .fewCabinets)) flags-some, firstTrue-lt flags flags-some, flags-each)
+        let same = ap (λ (w : ℕ). firstTrue (bits w)) cabinets-shown in
+        let masked = firstTrue-mask flags (omega (arith, flags-each, inRange m v .fewCabinets)) flags-some in
+        omega (arith, e, same, masked, firstTrue-lt flags flags-some, flags-each)
 
     -- the lanes of the cabinets before it
     pub before-few : c * sizes m .places ≤ maxCabinets * maxPlaces

@@ -72,7 +72,8 @@ module _ (m : List ℕ) where
     unfolding contentsAgree every bodiesFit
     contents-decided e n k r′ q′ =
         q′ ∙ ap (λ (x : ℕ). bodiesFit m C x S) k
-        ∙ sym (ap (λ (b : Bool). b && every (sizesFit (sizes m) ∷ same (take contentsLength m) (contents (sizes m)) ∷ long ∷ [])) (le-leb contentsLength (length m) l)
+        ∙ sym
+        (ap (λ (b : Bool). b && every (sizesFit (sizes m) ∷ same (take contentsLength m) (contents (sizes m)) ∷ long ∷ [])) (le-leb contentsLength (length m) l)
         ∙ ap (λ (b : Bool). b && (same (take contentsLength m) (contents (sizes m)) && (long && true))) (sym q ∙ e)
         ∙ ap (λ (b : Bool). b && (long && true)) (bodies-eq l)
         ∙ ap (λ (b : Bool). bodies && b) (and-true-right long))

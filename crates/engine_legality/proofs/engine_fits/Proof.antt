@@ -39,4 +39,17 @@ returns-3 : tie.Need-returns-3
 returns-3 c = search (needs, engine-lanes, not-false)
 
 pub engine-fits-spec : {M : Type 1} → statement M
-engine-fits-spec = tie.close (tie.spec shared-slice-read-cabinets shared-slice-read-places shared-slice-read-slots global-words-fit-requires returns cabinets-fit-requires returns-2 cast-lanes-fit add-lanes-fit lanes-fit-requires returns-3)
+engine-fits-spec =
+    tie.close
+    (tie.spec
+    shared-slice-read-cabinets
+    shared-slice-read-places
+    shared-slice-read-slots
+    global-words-fit-requires
+    returns
+    cabinets-fit-requires
+    returns-2
+    cast-lanes-fit
+    add-lanes-fit
+    lanes-fit-requires
+    returns-3)

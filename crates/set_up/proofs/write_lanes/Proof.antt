@@ -42,7 +42,8 @@ loop-again c =
     let a = entry .args in
     let l = at-loop .loop in
     let e : l .at ≡ a .first + length (rows freshLaneWords (l .i)) = omega (arith, length-rows freshLaneWords laneLength (l .i) length-lane) in
-    (omega arith, at-write-lane .write-lane .kept .0 ∙ l .inv .1, omega arith, renamed (after (l .inv .3) (at-write-lane .write-lane .ensures) e) (rows-suc freshLaneWords (l .i)))
+    let run = renamed (after (l .inv .3) (at-write-lane .write-lane .ensures) e) (rows-suc freshLaneWords (l .i)) in
+    (omega arith, at-write-lane .write-lane .kept .0 ∙ l .inv .1, omega arith, run)
 
 same-length : tie.Need-same-length Inv-loop μ-loop
 same-length c = omega arith

@@ -74,4 +74,22 @@ returns-2 : tie.Need-returns-2 Inv-loop μ-loop
 returns-2 c = search (needs, all-end)
 
 pub cabinets-fit-spec : {M : Type 1} → statement M
-cabinets-fit-spec = tie.close (tie.spec Inv-loop μ-loop shared-slice-read-bits loop-holds test-requires cast-cabinet-fits add-cabinet-fits mul-cabinet-fits shared-slice-read-cabinet-fits cabinet-fits-requires returns add-c sub-left loop-less loop-again returns-2)
+cabinets-fit-spec =
+    tie.close
+    (tie.spec
+    Inv-loop
+    μ-loop
+    shared-slice-read-bits
+    loop-holds
+    test-requires
+    cast-cabinet-fits
+    add-cabinet-fits
+    mul-cabinet-fits
+    shared-slice-read-cabinet-fits
+    cabinet-fits-requires
+    returns
+    add-c
+    sub-left
+    loop-less
+    loop-again
+    returns-2)

@@ -54,4 +54,19 @@ returns-2 : tie.Need-returns-2 Inv-loop μ-loop
 returns-2 c = search (needs, all-end)
 
 pub heads-fit-spec : {M : Type 1} → statement M
-heads-fit-spec = tie.close (tie.spec Inv-loop μ-loop loop-holds add-link-fits mul-link-fits shared-slice-read-link-fits link-fits-requires returns add-k sub-left loop-less loop-again returns-2)
+heads-fit-spec =
+    tie.close
+    (tie.spec
+    Inv-loop
+    μ-loop
+    loop-holds
+    add-link-fits
+    mul-link-fits
+    shared-slice-read-link-fits
+    link-fits-requires
+    returns
+    add-k
+    sub-left
+    loop-less
+    loop-again
+    returns-2)

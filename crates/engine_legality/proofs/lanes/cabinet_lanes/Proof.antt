@@ -65,4 +65,20 @@ returns-2 : tie.Need-returns-2 Inv-loop μ-loop
 returns-2 c = search (needs, all-end)
 
 pub cabinet-lanes-spec : {M : Type 1} → statement M
-cabinet-lanes-spec = tie.close (tie.spec Inv-loop μ-loop loop-holds test-requires cast-lane-fits mul-lane-fits add-lane-fits lane-fits-requires returns add-p sub-left loop-less loop-again returns-2)
+cabinet-lanes-spec =
+    tie.close
+    (tie.spec
+    Inv-loop
+    μ-loop
+    loop-holds
+    test-requires
+    cast-lane-fits
+    mul-lane-fits
+    add-lane-fits
+    lane-fits-requires
+    returns
+    add-p
+    sub-left
+    loop-less
+    loop-again
+    returns-2)

@@ -51,4 +51,20 @@ returns c =
     rw (at-test .test .ensures, at-test2 .test2 .ensures, at-test3 .test3 .ensures, at-test4 .test4 .ensures, c .none-queued .ensures)
 
 pub lane-agrees-spec : {M : Type 1} → statement M
-lane-agrees-spec = tie.close (tie.spec mul-test shared-slice-read-test test-requires mul-test-2 shared-slice-read-test-2 test-requires-2 mul-test-3 shared-slice-read-test-3 test-requires-3 mul-test-4 shared-slice-read-test-4 test-requires-4 none-queued-requires returns)
+lane-agrees-spec =
+    tie.close
+    (tie.spec
+    mul-test
+    shared-slice-read-test
+    test-requires
+    mul-test-2
+    shared-slice-read-test-2
+    test-requires-2
+    mul-test-3
+    shared-slice-read-test-3
+    test-requires-3
+    mul-test-4
+    shared-slice-read-test-4
+    test-requires-4
+    none-queued-requires
+    returns)

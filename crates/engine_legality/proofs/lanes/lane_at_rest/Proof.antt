@@ -35,4 +35,15 @@ returns c =
     rw (at-test .test .ensures, at-test2 .test2 .ensures, at-snapshot-blank .snapshot-blank .ensures, c .lookup-blank .ensures)
 
 pub lane-at-rest-spec : {M : Type 1} → statement M
-lane-at-rest-spec = tie.close (tie.spec mul-test shared-slice-read-test test-requires mul-test-2 shared-slice-read-test-2 test-requires-2 snapshot-blank-requires lookup-blank-requires returns)
+lane-at-rest-spec =
+    tie.close
+    (tie.spec
+    mul-test
+    shared-slice-read-test
+    test-requires
+    mul-test-2
+    shared-slice-read-test-2
+    test-requires-2
+    snapshot-blank-requires
+    lookup-blank-requires
+    returns)

@@ -37,4 +37,16 @@ returns c =
     rw (at-fits-in .fits-in .ensures, at-queues-fit .queues-fit .ensures, c .link-fits .ensures)
 
 pub lane-in-range-spec : {M : Type 1} → statement M
-lane-in-range-spec = tie.close (tie.spec mul-fits-in shared-slice-read-fits-in fits-in-requires add-queues-fit queues-fit-requires add-link-fits mul-link-fits shared-slice-read-link-fits link-fits-requires returns)
+lane-in-range-spec =
+    tie.close
+    (tie.spec
+    mul-fits-in
+    shared-slice-read-fits-in
+    fits-in-requires
+    add-queues-fit
+    queues-fit-requires
+    add-link-fits
+    mul-link-fits
+    shared-slice-read-link-fits
+    link-fits-requires
+    returns)

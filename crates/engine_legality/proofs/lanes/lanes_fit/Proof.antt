@@ -89,4 +89,24 @@ returns-2 : tie.Need-returns-2 Inv-loop μ-loop
 returns-2 c = search (needs, all-end)
 
 pub lanes-fit-spec : {M : Type 1} → statement M
-lanes-fit-spec = tie.close (tie.spec Inv-loop μ-loop mul-stride loop-holds cast-mask add-mask mul-mask shared-slice-read-mask cast-cabinet-lanes mul-cabinet-lanes add-cabinet-lanes cabinet-lanes-requires returns add-c sub-left loop-less loop-again returns-2)
+lanes-fit-spec =
+    tie.close
+    (tie.spec
+    Inv-loop
+    μ-loop
+    mul-stride
+    loop-holds
+    cast-mask
+    add-mask
+    mul-mask
+    shared-slice-read-mask
+    cast-cabinet-lanes
+    mul-cabinet-lanes
+    add-cabinet-lanes
+    cabinet-lanes-requires
+    returns
+    add-c
+    sub-left
+    loop-less
+    loop-again
+    returns-2)

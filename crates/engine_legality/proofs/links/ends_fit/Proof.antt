@@ -30,4 +30,14 @@ returns c =
     rw (at-link-fits .link-fits .ensures, c .link-fits2 .ensures)
 
 pub ends-fit-spec : {M : Type 1} → statement M
-ends-fit-spec = tie.close (tie.spec mul-link-fits shared-slice-read-link-fits link-fits-requires add-link-fits mul-link-fits-2 shared-slice-read-link-fits-2 link-fits-requires-2 returns)
+ends-fit-spec =
+    tie.close
+    (tie.spec
+    mul-link-fits
+    shared-slice-read-link-fits
+    link-fits-requires
+    add-link-fits
+    mul-link-fits-2
+    shared-slice-read-link-fits-2
+    link-fits-requires-2
+    returns)
