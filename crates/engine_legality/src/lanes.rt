@@ -5,16 +5,8 @@ ghost use lib.ListN.{length};
 ghost use Rattle.model.specs.Layout.{maxCabinets, maxPlaces, masksAt, laneLength};
 ghost use Rattle.engine_legality.specs.Lanes.{laneInRange, lookupInRange, snapshotBlank, lookupBlank, laneAtRest, noneQueuedAt, laneAgrees, laneFits, cabinetLanes, allLanes};
 
-// the bits of a lane's flags, and their number
-const ONLINE: u32 = 0;
-
-const READING: u32 = ONLINE + 1;
-
-const LOOKUP: u32 = READING + 1;
-
-const SNAPSHOT: u32 = LOOKUP + 1;
-
-const FLAG_COUNT: u32 = SNAPSHOT + 1;
+// how many flags a lane has
+const FLAG_COUNT: u32 = words::SNAPSHOT + 1;
 
 // a lane's words: the firsts of its queues
 const NEXT_FIRST: usize = words::QUEUES_AT;
@@ -67,8 +59,8 @@ fn lane_at_rest(m: &[u32], b: usize) -> bool
     requires { ⌜ b + laneLength ≤ length (now m) ⌝ }
     ensures { λ r. ⌜ r ≡ laneAtRest (now (m .entry)) b ⌝ }
 {
-    let held = masks::test(m[b], SNAPSHOT);
-    let running = masks::test(m[b], LOOKUP);
+    let held = masks::test(m[b], words::SNAPSHOT);
+    let running = masks::test(m[b], words::LOOKUP);
     (held | snapshot_blank(m, b)) & (running | lookup_blank(m, b))
 }
 
@@ -86,10 +78,10 @@ fn lane_agrees(m: &[u32], b: usize, slots: u32, pending: bool) -> bool
     requires { ⌜ b + laneLength ≤ length (now m) ⌝ }
     ensures { λ r. ⌜ r ≡ laneAgrees (now (m .entry)) slots b pending ⌝ }
 {
-    let online = masks::test(m[b], ONLINE);
-    let reading = masks::test(m[b], READING);
-    let running = masks::test(m[b], LOOKUP);
-    let held = masks::test(m[b], SNAPSHOT);
+    let online = masks::test(m[b], words::ONLINE);
+    let reading = masks::test(m[b], words::READING);
+    let running = masks::test(m[b], words::LOOKUP);
+    let held = masks::test(m[b], words::SNAPSHOT);
     (online | (!reading & none_queued(m, b, slots) & !pending))
         & (!running | reading)
         & (!held | pending)
