@@ -65,8 +65,12 @@ module _ (m : List ℕ) (v : Sound m) where
 pub part-at : (m : List ℕ) (a e : ℕ) → OwnerAt m a e → (p : Part) → QueueAt m a (at m (partAt e p))
 part-at m a e k p = record { links = k .links; short = k .short p }
 
--- an owner has at most three queues of 1,024 slots
-pub owner-few : (m : List ℕ) (a e : ℕ) → OwnerAt m a e → ownerLength m e ≤ 3 * maxSlots
+-- the queues of an owner: next, current and done
+abbrev pub ownerQueues : ℕ
+ownerQueues = 3
+
+-- none has more slots than there are
+pub owner-few : (m : List ℕ) (a e : ℕ) → OwnerAt m a e → ownerLength m e ≤ ownerQueues * maxSlots
 owner-few m a e k = omega (arith, k .short next, k .short current, k .short done, inRange m (k .links .sound) .fewSlots)
 
 -- ---- the lanes
@@ -81,8 +85,8 @@ unfolding state readLane
 lanes-shown m = sym (queuedIn-sum (state m .engine .lanes) ∙ sum-of-map (λ (l : Lane). queued (l .queues)) (readLane m) (from 0 (laneCount (sizes m))))
 
 module _ (m : List ℕ) (a : ℕ) (k : LinksAt m a) where
-  lanes-few : sumBelow (laneLengths m) (laneCount (sizes m)) ≤ 3 * maxSlots * laneCount (sizes m)
-  lanes-few = sumBelow-few (laneLengths m) (3 * maxSlots) (laneCount (sizes m)) (λ i h. owner-few m a _ (lane-at m (k .sound) a (k .links) i h _ refl))
+  lanes-few : sumBelow (laneLengths m) (laneCount (sizes m)) ≤ ownerQueues * maxSlots * laneCount (sizes m)
+  lanes-few = sumBelow-few (laneLengths m) (ownerQueues * maxSlots) (laneCount (sizes m)) (λ i h. owner-few m a _ (lane-at m (k .sound) a (k .links) i h _ refl))
 
   -- what the owners have, as it was counted
   module _ (g q : ℕ) (eg : g ≡ ownerLength m globalQueuesAt) (eq : q ≡ queuedIn (state m .engine .lanes)) where

@@ -12,7 +12,7 @@ use borrow.Author.Tests.{eq-eqb, ne-eqb, not-true, not-false}
 use Rattle.model.specs.Word.{none}
 use Rattle.model.specs.Lists.{bit, first}
 use Rattle.model.specs.State.{laneCount, State}
-use Rattle.model.specs.Layout.{masksAt, cabinetMaskAt}
+use Rattle.model.specs.Layout.{maxCabinets, maxPlaces, masksAt, cabinetMaskAt}
 use Rattle.model.specs.Engine.{runs}
 use Rattle.model.specs.Rules.{pendingFrom}
 use Rattle.model.specs.Memory.{at, flag, contents, maskWord, isNotZero, laneMask, laneMasks, cabinetMask, sizes, state}
@@ -105,10 +105,12 @@ module _ (m : List ℕ) (v : Sound m) where
 
     pub cabinet-below : c < sizes m .cabinets
     cabinet-below =
-        omega (arith, e, ap (λ (w : ℕ). firstTrue (bits w)) cabinets-shown, firstTrue-mask flags (omega (arith, flags-each, inRange m v .fewCabinets)) flags-some, firstTrue-lt flags flags-some, flags-each)
+        let same = ap (λ (w : ℕ). firstTrue (bits w)) cabinets-shown in
+        let masked = firstTrue-mask flags (omega (arith, flags-each, inRange m v .fewCabinets)) flags-some in
+        omega (arith, e, same, masked, firstTrue-lt flags flags-some, flags-each)
 
     -- the lanes of the cabinets before it
-    pub before-few : c * sizes m .places ≤ 64
+    pub before-few : c * sizes m .places ≤ maxCabinets * maxPlaces
     before-few = omega (arith, mul-le-mul-right (sizes m .places) (le-of-lt cabinet-below), inRange m v .fewLanes)
 
     same-cabinet : trailingZeros width (cabinetMask s) ≡ c
@@ -119,7 +121,7 @@ module _ (m : List ℕ) (v : Sound m) where
 
     -- p is the lowest place of cabinet j, which is c
     module _ (j p : ℕ) (ej : j ≡ c) (ep : p ≡ firstTrue (bits (maskWord m j))) where
-      pub lowest-few : c * sizes m .places + p ≤ 64 + width
+      pub lowest-few : c * sizes m .places + p ≤ maxCabinets * maxPlaces + width
       lowest-few = omega (arith, before-few, firstTrue-le (bits (maskWord m j)), length-bits (maskWord m j))
 
       pub lowest-shown : c * sizes m .places + p ≡ first pending

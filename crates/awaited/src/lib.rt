@@ -1,8 +1,9 @@
 // The call awaited on a legal memory: how many lanes are pending and the lowest of them, how many slots are free and how many stand
 // in the other queues. It changes no word.
 ghost use mathlib.Core.Path.{_≡_};
-ghost use Prim.Native.Nat.{_+_, _*_, _^_, _<_};
+ghost use Prim.Native.Nat.{_+_, _*_, _<_};
 ghost use lib.ListN.{length};
+ghost use Rattle.model.specs.Word.{wordLimit};
 ghost use Rattle.model.specs.Lists.{first as firstOf};
 ghost use Rattle.model.specs.Rules.{pendingFrom, queuedIn, awaited as awaiting};
 ghost use Rattle.model.specs.Memory.{state};
@@ -30,7 +31,7 @@ fn pending_count(m: &[u32]) -> u32
 
 // The number of the lane at a place of a cabinet.
 fn lane_number(cabinet: u32, places: u32, place: u32) -> u32
-    requires { ⌜ cabinet * places + place < 2 ^ 32 ⌝ }
+    requires { ⌜ cabinet * places + place < wordLimit ⌝ }
     ensures { λ r. ⌜ r ≡ cabinet * places + place ⌝ }
 {
     cabinet * places + place

@@ -1,7 +1,7 @@
--- A loop that asks p of a, a + 1, .., of which n are left, and answers w. Assumes nothing.
+-- A loop that asks p of a, a + 1, .., of which n are left, answers what `all` says of them: each turn takes the first away.
 use Prim.Native.Nat.{ℕ, zero, suc, _+_, _-_, _≤_, _<_}
 use mathlib.Core.Bool.{Bool, true, false, _&&_}
-use mathlib.Core.Path.{_≡_, refl, ap, sym, _∙_}
+use mathlib.Core.Path.{_≡_, ap, sym, _∙_}
 use native.Mathlib.Omega.{arith}
 use Rattle.model.specs.Lists.{all, from}
 

@@ -1,12 +1,12 @@
--- One lane's part of legality's sentences, for a lane whose words begin at b in a memory m of S slots, pending or not. An empty queue is one whose
--- first is no slot's number.
+-- One lane's part of legality's sentences, for a lane whose words begin at b in a memory m of S slots, pending or not; then the cabinets and the global
+-- words. An empty queue is one whose first is no slot's number.
 use Prim.Native.Nat.{ℕ, _+_, _*_, _^_}
 use mathlib.Core.Bool.{Bool, true, not, cond, _&&_, _||_}
 use mathlib.Core.List.{List}
 use lib.Dec.{leb, ltb, eqb}
 use Rattle.model.specs.Word.{none, up, down, later}
 use Rattle.model.specs.Lists.{all, from}
-use Rattle.model.specs.Layout.{chainCount, queueWidth, queuesWidth, headsAt, currentGenerationAt, largestGenerationAt, cabinetMaskAt, globalQueuesAt, globalGenerationAt, snapshotAt, generationAt, queuesAt, currentOffset, doneOffset, lastOffset, lookupAt, positionAt, laneLength}
+use Rattle.model.specs.Layout.{chainCount, headsAt, freeAt, currentGenerationAt, largestGenerationAt, cabinetMaskAt, globalQueuesAt, globalGenerationAt, onlineBit, readingBit, lookupBit, snapshotBit, flagCount, snapshotAt, generationAt, queuesAt, currentOffset, doneOffset, lastOffset, lookupAt, positionAt, laneLength}
 use Rattle.model.specs.Rules.{wrongCode}
 use Rattle.model.specs.Memory.{at, wide, maskWord, flag}
 use Rattle.model.specs.Legal.{implies, largestFits, periodRuns}
@@ -15,51 +15,63 @@ use Rattle.model.specs.Legal.{implies, largestFits, periodRuns}
 abbrev pub slotOrNone : ℕ → ℕ → Bool
 slotOrNone S x = ltb x S || eqb x none
 
+module _ (m : List ℕ) (S a : ℕ) where
+  -- first and last of the queue whose ends stand at a are in range
+  abbrev pub endsFit : Bool
+  endsFit = slotOrNone S (at m a) && slotOrNone S (at m (a + lastOffset))
+
+-- those of the next, current and done queues, whose ends stand from a on
+abbrev pub queuesFit : List ℕ → ℕ → ℕ → Bool
+queuesFit m S a = endsFit m S a && endsFit m S (a + currentOffset) && endsFit m S (a + doneOffset)
+
+-- ---- a lane
+
 module _ (m : List ℕ) (S b : ℕ) where
   -- flags and links are in range
   abbrev pub laneInRange : Bool
-  laneInRange =
-      ltb (at m b) 16
-      && ((slotOrNone S (at m (b + queuesAt))
-      && (slotOrNone S (at m (b + (queuesAt + lastOffset)))
-      && (slotOrNone S (at m (b + (queuesAt + currentOffset)))
-      && (slotOrNone S (at m (b + (queuesAt + currentOffset + lastOffset)))
-      && (slotOrNone S (at m (b + (queuesAt + doneOffset)))
-      && (slotOrNone S (at m (b + (queuesAt + doneOffset + lastOffset))) && true))))))
-      && slotOrNone S (at m (b + positionAt)))
+  laneInRange = ltb (at m b) (2 ^ flagCount) && (queuesFit m S (b + queuesAt) && slotOrNone S (at m (b + positionAt)))
 
 module _ (m : List ℕ) (b : ℕ) where
   -- the lookup code is in range
   abbrev pub lookupInRange : Bool
   lookupInRange = not (wrongCode (wide m (b + lookupAt)))
 
-  -- snapshot counts and lookup words that are not used hold their rest value
-  abbrev pub laneAtRest : Bool
-  laneAtRest =
-      (flag 3 (at m b)
-      || (eqb (at m (b + snapshotAt)) 0 && (eqb (at m (b + (snapshotAt + 1))) 0 && (eqb (at m (b + (snapshotAt + 2))) 0 && (eqb (at m (b + (snapshotAt + 3))) 0 && true)))))
-      && (flag 2 (at m b) || (eqb (at m (b + lookupAt)) 0 && (eqb (at m (b + (lookupAt + 1))) 0 && (eqb (at m (b + positionAt)) none && true))))
+  -- the snapshot's counts, and the lookup's words, hold their rest value
+  abbrev pub snapshotBlank : Bool
+  snapshotBlank =
+      eqb (at m (b + snapshotAt)) 0
+      && (eqb (at m (b + (snapshotAt + 1))) 0 && (eqb (at m (b + (snapshotAt + 2))) 0 && (eqb (at m (b + (snapshotAt + 3))) 0 && true)))
+
+  abbrev pub lookupBlank : Bool
+  lookupBlank = eqb (at m (b + lookupAt)) 0 && (eqb (at m (b + (lookupAt + 1))) 0 && (eqb (at m (b + positionAt)) none && true))
+
+-- those that are not used do
+abbrev pub laneAtRest : List ℕ → ℕ → Bool
+laneAtRest m b = (flag snapshotBit (at m b) || snapshotBlank m b) && (flag lookupBit (at m b) || lookupBlank m b)
 
 -- the queue whose first is x is empty
 abbrev pub emptyFirst : ℕ → ℕ → Bool
 emptyFirst S x = leb S x
 
+-- the lane's queues are empty
+abbrev pub noneQueuedAt : List ℕ → ℕ → ℕ → Bool
+noneQueuedAt m S b =
+    emptyFirst S (at m (b + queuesAt)) && emptyFirst S (at m (b + (queuesAt + currentOffset))) && emptyFirst S (at m (b + (queuesAt + doneOffset)))
+
 module _ (m : List ℕ) (S b : ℕ) (pending : Bool) where
   -- an off lane has no section, no queues and no bit; a lookup runs in a section; a snapshot is held with the bit
   abbrev pub laneAgrees : Bool
   laneAgrees =
-      (flag 0 (at m b)
-      || (not (flag 1 (at m b))
-      && (emptyFirst S (at m (b + queuesAt)) && emptyFirst S (at m (b + (queuesAt + currentOffset))) && emptyFirst S (at m (b + (queuesAt + doneOffset))))
-      && not pending))
-      && implies (flag 2 (at m b)) (flag 1 (at m b))
-      && implies (flag 3 (at m b)) pending
+      (flag onlineBit (at m b) || (not (flag readingBit (at m b)) && noneQueuedAt m S b && not pending))
+      && implies (flag lookupBit (at m b)) (flag readingBit (at m b))
+      && implies (flag snapshotBit (at m b)) pending
 
 -- generation g of a lane's current queue, empty or not, against the current one, the largest requested, and whether a period runs
 abbrev pub generationFits : ℕ → Bool → Bool → ℕ → ℕ → Bool → Bool
 generationFits g empty pending current largest runs =
     (not empty || eqb g 0)
-    && (empty || ((eqb g (down current) || eqb g current || eqb g (up current)) && not (later g largest) && implies (eqb g (down current) && runs) pending))
+    && (empty
+    || ((eqb g (down current) || eqb g current || eqb g (up current)) && not (later g largest) && implies (eqb g (down current) && runs) pending))
 
 -- the same of the global queues
 abbrev pub globalFits : ℕ → Bool → ℕ → ℕ → Bool
@@ -73,7 +85,13 @@ module _ (m : List ℕ) (S b : ℕ) (pending : Bool) where
       && lookupInRange m b
       && laneAtRest m b
       && laneAgrees m S b pending
-      && generationFits (at m (b + generationAt)) (emptyFirst S (at m (b + (queuesAt + currentOffset)))) pending (at m currentGenerationAt) (at m largestGenerationAt) (periodRuns m)
+      && generationFits
+      (at m (b + generationAt))
+      (emptyFirst S (at m (b + (queuesAt + currentOffset))))
+      pending
+      (at m currentGenerationAt)
+      (at m largestGenerationAt)
+      (periodRuns m)
 
 -- the lanes of a cabinet: P of them, the first at b, with this lane mask
 unfoldable pub cabinetLanes : List ℕ → ℕ → ℕ → ℕ → ℕ → Bool
@@ -94,14 +112,23 @@ allCabinets m C P = all (λ (c : ℕ). cabinetFits P (maskWord m c) (flag c (at 
 
 -- ---- global words
 
--- chain heads and the ends of the free and the global queues are in range
+-- chain heads are in range
 unfoldable pub headsFit : List ℕ → ℕ → Bool
-headsFit m S = all (λ (a : ℕ). slotOrNone S (at m a)) (from headsAt (chainCount + queueWidth + queuesWidth))
+headsFit m S = all (λ (k : ℕ). slotOrNone S (at m (headsAt + k))) (from 0 chainCount)
+
+-- the ends of the free and the global queues are in range
+abbrev pub globalEndsFit : List ℕ → ℕ → Bool
+globalEndsFit m S = endsFit m S freeAt && queuesFit m S globalQueuesAt
 
 -- the global words, for C cabinets
 unfoldable pub globalWordsFit : List ℕ → ℕ → ℕ → Bool
 globalWordsFit m C S =
     ltb (at m cabinetMaskAt) (2 ^ C)
     && largestFits (at m currentGenerationAt) (at m largestGenerationAt) (periodRuns m)
-    && globalFits (at m globalGenerationAt) (emptyFirst S (at m (globalQueuesAt + currentOffset))) (at m currentGenerationAt) (at m largestGenerationAt)
+    && globalFits
+    (at m globalGenerationAt)
+    (emptyFirst S (at m (globalQueuesAt + currentOffset)))
+    (at m currentGenerationAt)
+    (at m largestGenerationAt)
     && headsFit m S
+    && globalEndsFit m S

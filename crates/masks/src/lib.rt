@@ -2,7 +2,7 @@
 // lowest of them. Generations, which wrap.
 ghost use mathlib.Core.Path.{_≡_};
 ghost use Prim.Native.Nat.{_<_};
-ghost use Rattle.model.specs.Word.{up as Word·up, later as Word·later};
+ghost use Rattle.model.specs.Word.{up as Word·up, down as Word·down, later as Word·later};
 ghost use Rattle.model.specs.Memory.{flag};
 ghost use Rattle.laws.specs.MaskFlags.{trues, firstTrue};
 ghost use Rattle.masks.specs.Bits.{width, bits, withBit, withoutBit};
@@ -54,6 +54,13 @@ pub fn up(g: u32) -> u32
     ensures { λ r. ⌜ r ≡ Word·up g ⌝ }
 {
     std::num::wrapping_add_u32(g, 1)
+}
+
+// The generation before g.
+pub fn down(g: u32) -> u32
+    ensures { λ r. ⌜ r ≡ Word·down g ⌝ }
+{
+    std::num::wrapping_sub_u32(g, 1)
 }
 
 // Whether generation a is later than b.

@@ -1,5 +1,5 @@
--- The words of a fresh table, body by body. Assumes nothing.
-use Prim.Native.Nat.{ℕ, zero, suc, _+_, _*_, _-_, _≤_, _<_}
+-- The words of a fresh table, body by body, are those of the fresh state: each body is a few runs of one word.
+use Prim.Native.Nat.{ℕ, zero, suc, _+_, _*_, _-_, _^_, _≤_, _<_}
 use mathlib.Core.Path.{_≡_, refl, ap, ap₂, sym, _∙_}
 use mathlib.Core.Bool.{cond}
 use mathlib.Core.List.{List, [], _∷_, _++_, map}
@@ -10,7 +10,7 @@ use borrow.Author.Tests.{lt-ltb, le-ltb}
 use Rattle.model.specs.Word.{none}
 use Rattle.model.specs.Lists.{first, last, from, successor, successorIn, mask, bit}
 use Rattle.model.specs.State.{Sizes, laneCount, Lane, isRunning, isHeld}
-use Rattle.model.specs.Layout.{chainCount, version, total, contentsLength, globalBody, globalLength, masksAt, laneLength, slotLength, lanesBody}
+use Rattle.model.specs.Layout.{chainCount, version, total, contentsLength, queuesWidth, globalBody, globalLength, masksAt, onlineBit, quiescentAt, queuesAt, lookupAt, positionAt, laneLength, chainLinkAt, slotLength, lanesBody}
 use Rattle.model.specs.Engine.{freshLane, laneAt}
 use Rattle.model.specs.Table.{blank, linkOf}
 use Rattle.model.specs.Rules.{fresh}
@@ -24,13 +24,21 @@ use Rattle.set_up.specs.Written.{Written, after, renamed, written-front,
 
 -- ---- the words
 
+-- the current generation, and the flags of a lane, which is on
+abbrev pub freshGeneration : ℕ
+freshGeneration = 1
+
+abbrev pub freshFlags : ℕ
+freshFlags = 2 ^ onlineBit
+
 -- the global words of a table of n slots
 unfoldable pub freshGlobal : ℕ → List ℕ
-freshGlobal n = (1 ∷ 0 ∷ 0 ∷ []) ++ replicate chainCount none ++ (0 ∷ (n - 1) ∷ []) ++ replicate 6 none ++ (0 ∷ [])
+freshGlobal n = (freshGeneration ∷ 0 ∷ 0 ∷ []) ++ replicate chainCount none ++ (0 ∷ (n - 1) ∷ []) ++ replicate queuesWidth none ++ (0 ∷ [])
 
 -- a lane's words
 unfoldable pub freshLaneWords : ℕ → List ℕ
-freshLaneWords i = (1 ∷ []) ++ replicate 9 0 ++ replicate 6 none ++ replicate 2 0 ++ (none ∷ [])
+freshLaneWords i =
+    (freshFlags ∷ []) ++ replicate (queuesAt - quiescentAt) 0 ++ replicate queuesWidth none ++ replicate (positionAt - lookupAt) 0 ++ (none ∷ [])
 
 -- the queue link of slot i of n free slots
 abbrev pub linkAfter : ℕ → ℕ → ℕ
@@ -38,7 +46,7 @@ linkAfter n i = cond (ltb (i + 1) n) (i + 1) none
 
 -- the words of slot i of n
 unfoldable pub freshSlotWords : ℕ → ℕ → List ℕ
-freshSlotWords n i = replicate 4 0 ++ (none ∷ linkAfter n i ∷ [])
+freshSlotWords n i = replicate chainLinkAt 0 ++ (none ∷ linkAfter n i ∷ [])
 
 -- ---- they are the words of the fresh state
 
@@ -118,17 +126,24 @@ module _ (z : Sizes) where
   global-is : 1 ≤ z .slots → freshGlobal (z .slots) ≡ globalWords (fresh z)
   unfolding freshGlobal globalWords fresh from first last
   global-is h =
-      ap₂ (λ (c : ℕ) (es : List ℕ). (1 ∷ 0 ∷ c ∷ []) ++ replicate chainCount none ++ es ++ replicate 6 none ++ (0 ∷ [])) (sym no-cabinet) (ends-are (z .slots) h)
+      ap₂
+      (λ (c : ℕ) (es : List ℕ). (freshGeneration ∷ 0 ∷ c ∷ []) ++ replicate chainCount none ++ es ++ replicate queuesWidth none ++ (0 ∷ []))
+      (sym no-cabinet)
+      (ends-are (z .slots) h)
 
   -- the words of the fresh state, one body after another
   pub fresh-words : 1 ≤ z .slots
-      → contents z ++ freshGlobal (z .slots) ++ replicate (z .cabinets) 0 ++ rows freshLaneWords (laneCount z) ++ rows (freshSlotWords (z .slots)) (z .slots) ≡ words (fresh z)
+      → contents z ++ freshGlobal (z .slots) ++ replicate (z .cabinets) 0 ++ rows freshLaneWords (laneCount z) ++ rows (freshSlotWords (z .slots)) (z .slots)
+      ≡ words (fresh z)
   unfolding words fresh
   fresh-words h = ap₂ _++_ (ap₂ _++_ (ap₂ _++_ (ap (λ (ws : List ℕ). contents z ++ ws) (global-is h)) masks-are) lanes-are) slots-are
 
   -- the contents as they are written: lanes is the number of lanes
   pub contents-are : (lanes : ℕ) → lanes ≡ laneCount z
-      → (version ∷ z .cabinets ∷ z .places ∷ z .slots ∷ globalBody ∷ globalLength ∷ masksAt ∷ z .cabinets ∷ lanesBody z ∷ (laneLength * lanes) ∷ (lanesBody z + laneLength * lanes) ∷ (slotLength * z .slots) ∷ []) ≡ contents z
+      → (version ∷ z .cabinets ∷ z .places ∷ z .slots
+      ∷ globalBody ∷ globalLength ∷ masksAt ∷ z .cabinets
+      ∷ lanesBody z ∷ (laneLength * lanes) ∷ (lanesBody z + laneLength * lanes) ∷ (slotLength * z .slots) ∷ [])
+      ≡ contents z
   unfolding contents
   contents-are lanes e = rw e
 
@@ -156,7 +171,8 @@ set-up-done {m} {n} z w h =
     written-front w (omega arith) ∙ ap (λ (k : ℕ). words (fresh z) ++ drop k m) e
 
 -- the bodies, written one after another: masks is the number of lane masks, records that of lanes
-pub all-written : {m n₁ n₂ n₃ n₄ n₅ : List ℕ} (z : Sizes) (masks records : ℕ) → masks ≡ z .cabinets → records ≡ laneCount z → 1 ≤ z .slots → total z ≤ length m
+pub all-written : {m n₁ n₂ n₃ n₄ n₅ : List ℕ} (z : Sizes) (masks records : ℕ)
+    → masks ≡ z .cabinets → records ≡ laneCount z → 1 ≤ z .slots → total z ≤ length m
     → Written m 0 (contents z) n₁
     → Written n₁ globalBody (freshGlobal (z .slots)) n₂
     → Written n₂ masksAt (replicate masks 0) n₃
@@ -177,5 +193,5 @@ all-written z masks records e f some long w₁ w₂ w₃ w₄ w₅ =
 
     l₄ : masksAt + masks + laneLength * records ≡ 0 + length (contents z ++ freshGlobal (z .slots) ++ replicate masks 0 ++ rows freshLaneWords records)
     l₄ =
-        omega
-        (arith, l₃, length-append (contents z ++ freshGlobal (z .slots) ++ replicate masks 0) (rows freshLaneWords records), length-rows freshLaneWords laneLength records length-lane)
+        let front = length-append (contents z ++ freshGlobal (z .slots) ++ replicate masks 0) (rows freshLaneWords records) in
+        omega (arith, l₃, front, length-rows freshLaneWords laneLength records length-lane)

@@ -27,13 +27,20 @@ module _ (m : List ℕ) (c p s : ℕ) where
 
   pub out-of-range : (r : Answer) → sizesFit (sized c p s) ≡ false → five r ≡ refused 1 → Does (set-up c p s) m r m
   unfolding reply replyOf left leftOf
-  out-of-range r h e = record { answer = e ∙ sym (ap (λ (x : ℕ). replyOf m x (set-up c p s)) (refusal-1 h)); memory = sym (ap (λ (x : ℕ). leftOf m x (set-up c p s)) (refusal-1 h)) }
+  out-of-range r h e = record {
+    answer = e ∙ sym (ap (λ (x : ℕ). replyOf m x (set-up c p s)) (refusal-1 h));
+    memory = sym (ap (λ (x : ℕ). leftOf m x (set-up c p s)) (refusal-1 h));
+  }
 
   pub too-short : (r : Answer) → sizesFit (sized c p s) ≡ true → length m < total (sized c p s) → five r ≡ refused 2 → Does (set-up c p s) m r m
   unfolding reply replyOf left leftOf
-  too-short r h l e = record { answer = e ∙ sym (ap (λ (x : ℕ). replyOf m x (set-up c p s)) (refusal-2 h l)); memory = sym (ap (λ (x : ℕ). leftOf m x (set-up c p s)) (refusal-2 h l)) }
+  too-short r h l e = record {
+    answer = e ∙ sym (ap (λ (x : ℕ). replyOf m x (set-up c p s)) (refusal-2 h l));
+    memory = sym (ap (λ (x : ℕ). leftOf m x (set-up c p s)) (refusal-2 h l));
+  }
 
-  pub written : (x : ℕ) (r : Answer) (n : List ℕ) → sizesFit (sized c p s) ≡ true → total (sized c p s) ≤ length m → x ≡ total (sized c p s) → five r ≡ accepted x 0 0 0
+  pub written : (x : ℕ) (r : Answer) (n : List ℕ) → sizesFit (sized c p s) ≡ true → total (sized c p s) ≤ length m
+      → x ≡ total (sized c p s) → five r ≡ accepted x 0 0 0
       → n ≡ stored (fresh (sized c p s)) m → Does (set-up c p s) m r n
   unfolding reply replyOf left leftOf
   written x r n h l ex e g = record {

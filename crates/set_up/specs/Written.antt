@@ -1,4 +1,4 @@
--- A memory to which a run of words is written, and runs written one after another. Assumes nothing.
+-- A memory to which a run of words is written, and runs written one after another: two runs that meet are one.
 use Prim.Native.Nat.{ℕ, zero, suc, _+_, _*_, _≤_}
 use mathlib.Core.Path.{_≡_, refl, ap, sym, _∙_}
 use mathlib.Core.List.{List, [], _∷_, _++_, append-nil, append-assoc}

@@ -1,4 +1,4 @@
-// The words of a fresh table, one body after another.
+// The call set-up: the words of a fresh table, written one body after another as runs of one word.
 ghost use mathlib.Core.Path.{_≡_};
 ghost use mathlib.Core.Bool.{true};
 ghost use mathlib.Core.List.{[], _∷_};
@@ -23,6 +23,9 @@ const GLOBAL_LENGTH: u32 = MASKS_BODY - GLOBAL_BODY;
 const LANE_LENGTH: u32 = words::LANE_LENGTH as u32;
 
 const SLOT_LENGTH: u32 = words::SLOT_LENGTH as u32;
+
+// where the contents say the lanes' body, past the global one's and the masks' first word and length
+const LANES_BODY_AT: usize = words::BODIES_AT + 2 * 2;
 
 // the largest generation and the cabinet mask
 const REST_LENGTH: usize = words::HEADS_AT - words::LARGEST_GENERATION_AT;
@@ -86,7 +89,7 @@ fn write_contents(m: &mut [u32], cabinets: u32, places: u32, lanes: u32, slots: 
     );
     write_four(
         m,
-        words::BODIES_AT + 4,
+        LANES_BODY_AT,
         lanes_body,
         lanes_length,
         slots_body,

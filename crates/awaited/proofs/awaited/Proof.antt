@@ -1,4 +1,4 @@
--- `awaited` meets its contract: each of the four words is counted by one function, and no word of the memory is written. Assumes nothing.
+-- Each of the four words is counted by one function, and no word of the memory is written.
 use native.Mathlib.Omega.{arith}
 use Rattle.access.specs.Ways.{inRange, long}
 use Rattle.awaited.specs.Owners.{free-at}

@@ -1,5 +1,5 @@
--- `lanes_length` meets its contract. The loop's invariant: n is the sum over the lanes before i, and the ends of lane i stand at ends. The measure:
--- the lanes left. Assumes nothing.
+-- The loop's invariant: n is the sum over the lanes before i, and the ends of lane i stand at ends. The measure:
+-- the lanes left.
 use Prim.Native.Nat.{_+_, _-_, _*_, _≤_}
 use mathlib.Core.Path.{_≡_, ap, _∙_}
 use native.Mathlib.Omega.{arith}
@@ -10,13 +10,14 @@ use Rattle.model.specs.Memory.{sizes}
 use Rattle.access.specs.Ways.{inRange}
 use Rattle.laws.specs.Loops.{Summed, summed-start, summed-on, summed-done}
 use Rattle.awaited.specs.Lengths.{ownerLength, laneLengths}
-use Rattle.awaited.specs.Owners.{lane-at, owner-few, lanes-shown}
+use Rattle.awaited.specs.Owners.{ownerQueues, lane-at, owner-few, lanes-shown}
 use borrow.Author.Needs.{needs}
 use Rattle.awaited.proofs.lanes_length.Statement.{statement}
 use Rattle.awaited.proofs.lanes_length.Tie as tie
 
 abbrev Inv-loop : tie.InvT-loop
-Inv-loop m links lanes ends₀ n₀ i₀ ends n i = (ends ≡ laneAddress (sizes m) i + queuesAt) × Summed (laneLengths m) (laneCount (sizes m)) i n × (n ≤ 3 * maxSlots * i)
+Inv-loop m links lanes ends₀ n₀ i₀ ends n i =
+    (ends ≡ laneAddress (sizes m) i + queuesAt) × Summed (laneLengths m) (laneCount (sizes m)) i n × (n ≤ ownerQueues * maxSlots * i)
 
 abbrev μ-loop : tie.MeasureT-loop
 μ-loop m links lanes ends₀ n₀ i₀ ends n i = lanes - i
@@ -48,7 +49,10 @@ add-n c =
     let at-loop : tie.At-loop Inv-loop μ-loop = search in
     let at-lane-count : tie.After-lane-count Inv-loop μ-loop = search in
     let entry : tie.Start Inv-loop μ-loop = search in
-    omega (arith, c .owner-length .ensures, owner-few _ _ _ (lane-at _ (entry .pre .sound) _ (entry .pre .links) _ (omega (arith, at-lane-count .lane-count .ensures, at-loop-test .loop-test .taken)) _ (at-loop .loop .inv .0)), at-loop .loop .inv .2, at-lane-count .lane-count .ensures, inRange _ (entry .pre .sound) .fewLanes)
+    let k = entry .pre in
+    let count = at-lane-count .lane-count .ensures in
+    let few = owner-few _ _ _ (lane-at _ (k .sound) _ (k .links) _ (omega (arith, count, at-loop-test .loop-test .taken)) _ (at-loop .loop .inv .0)) in
+    omega (arith, c .owner-length .ensures, few, at-loop .loop .inv .2, count, inRange _ (k .sound) .fewLanes)
 
 add-ends-2 : tie.Need-add-ends-2 Inv-loop μ-loop
 add-ends-2 c =
@@ -69,7 +73,13 @@ loop-again c =
     let at-loop : tie.At-loop Inv-loop μ-loop = search in
     let at-lane-count : tie.After-lane-count Inv-loop μ-loop = search in
     let entry : tie.Start Inv-loop μ-loop = search in
-    (omega (arith, at-loop .loop .inv .0), summed-on _ _ _ _ (at-loop .loop .inv .1) (omega (arith, at-lane-count .lane-count .ensures, at-loop-test .loop-test .taken)) _ (c .owner-length .ensures ∙ ap (ownerLength (now (entry .args .m))) (at-loop .loop .inv .0)), omega (arith, c .owner-length .ensures, owner-few _ _ _ (lane-at _ (entry .pre .sound) _ (entry .pre .links) _ (omega (arith, at-lane-count .lane-count .ensures, at-loop-test .loop-test .taken)) _ (at-loop .loop .inv .0)), at-loop .loop .inv .2))
+    let k = entry .pre in
+    let i = at-loop .loop .inv in
+    let count = at-lane-count .lane-count .ensures in
+    let few = owner-few _ _ _ (lane-at _ (k .sound) _ (k .links) _ (omega (arith, count, at-loop-test .loop-test .taken)) _ (i .0)) in
+    let owned = c .owner-length .ensures ∙ ap (ownerLength (now (entry .args .m))) (i .0) in
+    let summed = summed-on _ _ _ _ (i .1) (omega (arith, count, at-loop-test .loop-test .taken)) _ owned in
+    (omega (arith, i .0), summed, omega (arith, c .owner-length .ensures, few, i .2))
 
 returns : tie.Need-returns Inv-loop μ-loop
 returns c =

@@ -1,4 +1,4 @@
--- `lowest_pending` meets its contract: a law for each way out. Assumes nothing.
+-- A law for each way out.
 use mathlib.Core.Path.{_∙_}
 use native.Mathlib.Omega.{arith}
 use Rattle.access.specs.Ways.{long}

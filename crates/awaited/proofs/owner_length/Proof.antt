@@ -1,4 +1,4 @@
--- `owner_length` meets its contract: it adds up the lengths of next, current and done. Assumes nothing.
+-- It adds up the lengths of next, current and done.
 use native.Mathlib.Omega.{arith}
 use Rattle.changes.specs.Queues.{next, current, done}
 use Rattle.awaited.specs.Owners.{part-at, owner-few}

@@ -1,5 +1,5 @@
--- `pending_count` meets its contract. The loop's invariant: the count is that of the cabinets before c. The measure: the cabinets left.
--- Assumes nothing.
+-- The loop's invariant: the count is that of the cabinets before c. The measure: the cabinets left.
+--
 use Prim.Native.Nat.{_-_, _*_, _≤_}
 use mathlib.Core.Path.{_∙_}
 use native.Mathlib.Omega.{arith}
@@ -56,7 +56,8 @@ add-n c =
     let at-loop : tie.At-loop Inv-loop μ-loop = search in
     let at-index : tie.After-index Inv-loop μ-loop = search in
     let entry : tie.Start Inv-loop μ-loop = search in
-    omega (arith, c .ones .ensures, pending-few (now (entry .args .m)) (at-loop .loop .c), at-loop .loop .inv .1, at-index .index .ensures, inRange _ (entry .pre) .fewCabinets)
+    let few = pending-few (now (entry .args .m)) (at-loop .loop .c) in
+    omega (arith, c .ones .ensures, few, at-loop .loop .inv .1, at-index .index .ensures, inRange _ (entry .pre) .fewCabinets)
 
 add-c : tie.Need-add-c Inv-loop μ-loop
 add-c c = search (needs, inRange)
@@ -69,7 +70,9 @@ loop-again c =
     let at-loop : tie.At-loop Inv-loop μ-loop = search in
     let at-index : tie.After-index Inv-loop μ-loop = search in
     let entry : tie.Start Inv-loop μ-loop = search in
-    (summed-on _ _ _ _ (at-loop .loop .inv .0) (omega (arith, at-index .index .ensures)) _ (c .ones .ensures), omega (arith, c .ones .ensures, pending-few (now (entry .args .m)) (at-loop .loop .c), at-loop .loop .inv .1))
+    let few = pending-few (now (entry .args .m)) (at-loop .loop .c) in
+    let summed = summed-on _ _ _ _ (at-loop .loop .inv .0) (omega (arith, at-index .index .ensures)) _ (c .ones .ensures) in
+    (summed, omega (arith, c .ones .ensures, few, at-loop .loop .inv .1))
 
 returns : tie.Need-returns Inv-loop μ-loop
 returns c =

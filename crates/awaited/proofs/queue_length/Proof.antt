@@ -1,5 +1,5 @@
--- `queue_length` meets its contract. The loop's invariant: the slots counted and those from the next on are the queue's. The measure: the slots
--- that are not counted. Assumes nothing.
+-- The loop's invariant: the slots counted and those from the next on are the queue's. The measure: the slots
+-- that are not counted.
 use Prim.Native.Nat.{_-_}
 use native.Mathlib.Omega.{arith}
 use Rattle.model.specs.Memory.{sizes}

@@ -1,4 +1,4 @@
--- `retired_length` meets its contract: the global queues and those of the lanes. Assumes nothing.
+-- The global queues and those of the lanes.
 use borrow.Author.Needs.{needs}
 use Rattle.awaited.specs.Owners.{global-at, retired-fits, retired-shown}
 use Rattle.awaited.proofs.retired_length.Statement.{statement}

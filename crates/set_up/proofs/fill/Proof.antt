@@ -1,4 +1,4 @@
--- `fill` meets its contract. The loop's invariant: the i words from at on are written. The measure: the words left. Assumes nothing.
+-- The loop's invariant: the i words from at on are written. The measure: the words left.
 use Prim.Native.Nat.{ℕ, _+_, _-_, _≤_}
 use mathlib.Core.Path.{_≡_, refl, ap, _∙_}
 use native.Mathlib.Omega.{arith}

@@ -1,4 +1,4 @@
--- `link_after` meets its contract. Assumes nothing.
+-- The test is the one of `linkAfter`: a way out for each answer.
 use borrow.Author.Tests.{lt-ltb, le-ltb}
 use borrow.Author.Needs.{needs}
 use Rattle.set_up.proofs.link_after.Statement.{statement}

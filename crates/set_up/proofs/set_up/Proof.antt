@@ -1,4 +1,4 @@
--- `set_up` meets its contract: the causes are tested in their order. Assumes nothing.
+-- The causes are tested in their order, and a law for each way out says what it answers and leaves.
 use mathlib.Core.Path.{sym, _∙_}
 use native.Mathlib.Omega.{arith}
 use denote.Ref.{now}
@@ -19,7 +19,9 @@ returns c =
     let at-if1 : tie.Then1 = search in
     let at-sizes-fit : tie.After-sizes-fit = search in
     let entry : tie.Start = search in
-    out-of-range (now (entry .args .m)) (entry .args .cabinets) (entry .args .places) (entry .args .slots) _ (sym (at-sizes-fit .sizes-fit .ensures) ∙ not-true _ (at-if1 .if1 .taken)) (c .refused .ensures)
+    let a = entry .args in
+    let unfit = sym (at-sizes-fit .sizes-fit .ensures) ∙ not-true _ (at-if1 .if1 .taken) in
+    out-of-range (now (a .m)) (a .cabinets) (a .places) (a .slots) _ unfit (c .refused .ensures)
 
 total-words-requires : tie.Need-total-words-requires
 total-words-requires c κs =
@@ -39,7 +41,11 @@ returns-2 c =
     let at-if1 : tie.Else1 = search in
     let at-sizes-fit : tie.After-sizes-fit = search in
     let entry : tie.Start = search in
-    too-short (now (entry .args .m)) (entry .args .cabinets) (entry .args .places) (entry .args .slots) _ (sym (at-sizes-fit .sizes-fit .ensures) ∙ not-false _ (at-if1 .if1 .left)) (omega (arith, (at-total-words .total-words .ensures), (at-index .index .ensures))) (c .refused2 .ensures)
+    let a = entry .args in
+    let fit = sym (at-sizes-fit .sizes-fit .ensures) ∙ not-false _ (at-if1 .if1 .left) in
+    too-short (now (a .m)) (a .cabinets) (a .places) (a .slots) _ fit
+    (omega (arith, (at-total-words .total-words .ensures), (at-index .index .ensures)))
+    (c .refused2 .ensures)
 
 write-fresh-requires : tie.Need-write-fresh-requires
 write-fresh-requires c κs =
@@ -47,7 +53,8 @@ write-fresh-requires c κs =
     let at-total-words : tie.After-total-words = search in
     let at-if1 : tie.Else1 = search in
     let at-sizes-fit : tie.After-sizes-fit = search in
-    (sym (at-sizes-fit .sizes-fit .ensures) ∙ not-false _ (at-if1 .if1 .left), omega (arith, (at-total-words .total-words .ensures), (at-index .index .ensures)))
+    let fit = sym (at-sizes-fit .sizes-fit .ensures) ∙ not-false _ (at-if1 .if1 .left) in
+    (fit, omega (arith, (at-total-words .total-words .ensures), (at-index .index .ensures)))
 
 accepted-requires : tie.Need-accepted-requires
 accepted-requires c κs = search needs
@@ -63,7 +70,13 @@ returns-3 c =
     let at-if1 : tie.Else1 = search in
     let at-sizes-fit : tie.After-sizes-fit = search in
     let entry : tie.Start = search in
-    written (now (entry .args .m)) (entry .args .cabinets) (entry .args .places) (entry .args .slots) _ _ _ (sym (at-sizes-fit .sizes-fit .ensures) ∙ not-false _ (at-if1 .if1 .left)) (omega (arith, (at-total-words .total-words .ensures), (at-index .index .ensures))) (at-total-words .total-words .ensures) (c .accepted .ensures) (at-write-fresh .write-fresh .ensures)
+    let a = entry .args in
+    let fit = sym (at-sizes-fit .sizes-fit .ensures) ∙ not-false _ (at-if1 .if1 .left) in
+    written (now (a .m)) (a .cabinets) (a .places) (a .slots) _ _ _ fit
+    (omega (arith, (at-total-words .total-words .ensures), (at-index .index .ensures)))
+    (at-total-words .total-words .ensures)
+    (c .accepted .ensures)
+    (at-write-fresh .write-fresh .ensures)
 
 pub set-up-spec : {M : Type 1} → statement M
 set-up-spec =

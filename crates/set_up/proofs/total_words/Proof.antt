@@ -1,4 +1,4 @@
--- `total_words` meets its contract: the sizes are small, so that nothing wraps. Assumes nothing.
+-- The sizes are small, so that nothing wraps.
 use native.Mathlib.Omega.{arith}
 use Rattle.model.specs.Calls.{sized}
 use Rattle.representation.specs.Sentences.{sizes-fit}

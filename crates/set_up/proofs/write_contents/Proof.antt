@@ -1,4 +1,4 @@
--- `write_contents` meets its contract: three calls of `write_four`, one after another. Assumes nothing.
+-- Three runs of four words, one after another, are the contents.
 use mathlib.Core.Path.{refl}
 use native.Mathlib.Omega.{arith}
 use borrow.Author.Needs.{needs}
@@ -22,9 +22,6 @@ write-four-requires c κs = search needs
 
 write-four-requires-2 : tie.Need-write-four-requires-2
 write-four-requires-2 c κs = search needs
-
-add-write-four : tie.Need-add-write-four
-add-write-four c = search needs
 
 mul-write-four : tie.Need-mul-write-four
 mul-write-four c = search needs
@@ -54,7 +51,6 @@ write-contents-spec =
     add-slots-body
     write-four-requires
     write-four-requires-2
-    add-write-four
     mul-write-four
     write-four-requires-3
     same-length

@@ -1,4 +1,4 @@
--- `write_four` meets its contract: four stores, one after another. Assumes nothing.
+-- Four stores, one after another, are a run of four words.
 use mathlib.Core.Path.{refl}
 use native.Mathlib.Omega.{arith}
 use lib.ListN.{length-set}

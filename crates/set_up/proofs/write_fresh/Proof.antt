@@ -1,4 +1,4 @@
--- `write_fresh` meets its contract: the bodies are written one after another. Assumes nothing.
+-- The bodies are written one after another, each where the one before it ends.
 use mathlib.Core.Path.{refl}
 use native.Mathlib.Omega.{arith}
 use borrow.Author.Needs.{needs}

@@ -1,4 +1,4 @@
--- `write_global` meets its contract: runs of one word, one after another. Assumes nothing.
+-- Runs of one word, one after another, are the global words.
 use mathlib.Core.Path.{refl}
 use borrow.Author.Needs.{needs}
 use Rattle.set_up.specs.Written.{after, renamed}

@@ -1,4 +1,4 @@
--- `write_lanes` meets its contract. The loop's invariant: the first i records are written. The measure: the records left. Assumes nothing.
+-- The loop's invariant: the first i records are written. The measure: the records left.
 use Prim.Native.Nat.{ℕ, _+_, _*_, _-_, _≤_}
 use mathlib.Core.Path.{_≡_, refl, ap, _∙_}
 use native.Mathlib.Omega.{arith}
@@ -6,12 +6,13 @@ use lib.ListN.{length}
 use borrow.Author.Needs.{needs}
 use Rattle.model.specs.Lists.{concatMap, from}
 use Rattle.set_up.specs.Written.{Written, nothing, after, renamed, rows, rows-suc, length-rows}
+use Rattle.model.specs.Layout.{laneLength}
 use Rattle.set_up.specs.FreshWords.{freshLaneWords, length-lane}
 use Rattle.set_up.proofs.write_lanes.Statement.{statement}
 use Rattle.set_up.proofs.write_lanes.Tie as tie
 
 abbrev Inv-loop : tie.InvT-loop
-Inv-loop m₀ first n i₀ at₀ m i at = (i ≤ n) × (length m ≡ length m₀) × (at ≡ first + 19 * i) × Written m₀ first (rows freshLaneWords i) m
+Inv-loop m₀ first n i₀ at₀ m i at = (i ≤ n) × (length m ≡ length m₀) × (at ≡ first + laneLength * i) × Written m₀ first (rows freshLaneWords i) m
 
 abbrev μ-loop : tie.MeasureT-loop
 μ-loop m₀ first n i₀ at₀ m i at = n - i
@@ -40,8 +41,9 @@ loop-again c =
     let entry : tie.Start Inv-loop μ-loop = search in
     let a = entry .args in
     let l = at-loop .loop in
-    let e : l .at ≡ a .first + length (rows freshLaneWords (l .i)) = omega (arith, length-rows freshLaneWords 19 (l .i) length-lane) in
-    (omega arith, at-write-lane .write-lane .kept .0 ∙ l .inv .1, omega arith, renamed (after (l .inv .3) (at-write-lane .write-lane .ensures) e) (rows-suc freshLaneWords (l .i)))
+    let e : l .at ≡ a .first + length (rows freshLaneWords (l .i)) = omega (arith, length-rows freshLaneWords laneLength (l .i) length-lane) in
+    let run = renamed (after (l .inv .3) (at-write-lane .write-lane .ensures) e) (rows-suc freshLaneWords (l .i)) in
+    (omega arith, at-write-lane .write-lane .kept .0 ∙ l .inv .1, omega arith, run)
 
 same-length : tie.Need-same-length Inv-loop μ-loop
 same-length c = omega arith

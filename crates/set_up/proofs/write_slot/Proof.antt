@@ -1,4 +1,4 @@
--- `write_slot` meets its contract: runs of one word, one after another. Assumes nothing.
+-- Runs of one word, one after another, are a slot's.
 use Prim.Native.Nat.{ℕ}
 use mathlib.Core.Path.{refl, ap}
 use mathlib.Core.List.{[], _∷_}

@@ -1,4 +1,4 @@
--- `write_slots` meets its contract. The loop's invariant: the first i records are written. The measure: the records left. Assumes nothing.
+-- The loop's invariant: the first i records are written. The measure: the records left.
 use Prim.Native.Nat.{ℕ, _+_, _*_, _-_, _≤_}
 use mathlib.Core.Path.{_≡_, refl, ap, _∙_}
 use native.Mathlib.Omega.{arith}
@@ -6,12 +6,14 @@ use lib.ListN.{length}
 use borrow.Author.Needs.{needs}
 use Rattle.model.specs.Lists.{concatMap, from}
 use Rattle.set_up.specs.Written.{Written, nothing, after, renamed, rows, rows-suc, length-rows}
+use Rattle.model.specs.Layout.{slotLength}
 use Rattle.set_up.specs.FreshWords.{freshSlotWords, length-slot}
 use Rattle.set_up.proofs.write_slots.Statement.{statement}
 use Rattle.set_up.proofs.write_slots.Tie as tie
 
 abbrev Inv-loop : tie.InvT-loop
-Inv-loop m₀ first slots i₀ at₀ m i at = (i ≤ slots) × (length m ≡ length m₀) × (at ≡ first + 6 * i) × Written m₀ first (rows (freshSlotWords slots) i) m
+Inv-loop m₀ first slots i₀ at₀ m i at =
+    (i ≤ slots) × (length m ≡ length m₀) × (at ≡ first + slotLength * i) × Written m₀ first (rows (freshSlotWords slots) i) m
 
 abbrev μ-loop : tie.MeasureT-loop
 μ-loop m₀ first slots i₀ at₀ m i at = slots - i
@@ -39,8 +41,10 @@ loop-again c =
     let entry : tie.Start Inv-loop μ-loop = search in
     let a = entry .args in
     let l = at-loop .loop in
-    let e : l .at ≡ a .first + length (rows (freshSlotWords (a .slots)) (l .i)) = omega (arith, length-rows (freshSlotWords (a .slots)) 6 (l .i) (length-slot (a .slots))) in
-    (omega arith, at-write-slot .write-slot .kept .0 ∙ l .inv .1, omega arith, renamed (after (l .inv .3) (at-write-slot .write-slot .ensures) e) (rows-suc (freshSlotWords (a .slots)) (l .i)))
+    let row = freshSlotWords (a .slots) in
+    let e : l .at ≡ a .first + length (rows row (l .i)) = omega (arith, length-rows row slotLength (l .i) (length-slot (a .slots))) in
+    let run = renamed (after (l .inv .3) (at-write-slot .write-slot .ensures) e) (rows-suc row (l .i)) in
+    (omega arith, at-write-slot .write-slot .kept .0 ∙ l .inv .1, omega arith, run)
 
 same-length : tie.Need-same-length Inv-loop μ-loop
 same-length c = omega arith

@@ -1,4 +1,4 @@
--- `bodies_fit` meets its contract: its tests are those of `bodiesFit`. Assumes nothing.
+-- The tests are those of `bodiesFit`; the sizes are small, so that nothing wraps.
 use Rattle.engine_legality.specs.Contents.{bodiesFit}
 use borrow.Author.Needs.{needs}
 use Rattle.engine_legality.proofs.contents.bodies_fit.Statement.{statement}

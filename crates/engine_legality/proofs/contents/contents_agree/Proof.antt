@@ -1,4 +1,4 @@
--- `contents_agree` meets its contract: a law for each way out. Assumes nothing.
+-- A law for each way out: too few words, sizes out of range, or the bodies decide.
 use mathlib.Core.Path.{sym, _∙_}
 use borrow.Author.Tests.{not-true, not-false}
 use Rattle.engine_legality.proofs.ContentsLaws.{sizes-small, contents-short, contents-unsized, contents-decided}
@@ -34,7 +34,8 @@ lane-count-requires : tie.Need-lane-count-requires
 lane-count-requires c κs =
     let at-if2 : tie.Else2 = search in
     let at-sizes-fit : tie.After-sizes-fit = search in
-    let s = sizes-small _ _ _ (sym (at-sizes-fit .sizes-fit .ensures) ∙ not-false _ (at-if2 .if2 .left)) in (s .cabinets, s .places)
+    let s = sizes-small _ _ _ (sym (at-sizes-fit .sizes-fit .ensures) ∙ not-false _ (at-if2 .if2 .left)) in
+    (s .cabinets, s .places)
 
 shared-slice-read-bodies-fit : tie.Need-shared-slice-read-bodies-fit
 shared-slice-read-bodies-fit c = search needs
@@ -48,7 +49,8 @@ bodies-fit-requires c κs =
     let at-if2 : tie.Else2 = search in
     let at-sizes-fit : tie.After-sizes-fit = search in
     let at-if1 : tie.Else1 = search in
-    let s = sizes-small _ _ _ (sym (at-sizes-fit .sizes-fit .ensures) ∙ not-false _ (at-if2 .if2 .left)) in (at-if1 .if1 .left, s .cabinets, at-lane-count .lane-count .ensures .most, s .slots)
+    let s = sizes-small _ _ _ (sym (at-sizes-fit .sizes-fit .ensures) ∙ not-false _ (at-if2 .if2 .left)) in
+    (at-if1 .if1 .left, s .cabinets, at-lane-count .lane-count .ensures .most, s .slots)
 
 returns-3 : tie.Need-returns-3
 returns-3 c = search (needs, contents-decided, not-false)

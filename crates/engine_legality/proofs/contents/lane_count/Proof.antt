@@ -1,4 +1,4 @@
--- `lane_count` meets its contract: at most 8 times 8. Assumes nothing.
+-- There are at most as many lanes as the largest sizes have.
 use mathlib.Core.Path.{refl}
 use native.Mathlib.Omega.{arith}
 use Rattle.engine_legality.proofs.LaneLoops.{lanes-most}

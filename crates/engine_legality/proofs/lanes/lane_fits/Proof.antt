@@ -1,4 +1,4 @@
--- `lane_fits` meets its contract: its tests are those of `laneFits`. Assumes nothing.
+-- The tests are those of `laneFits`.
 use Rattle.engine_legality.specs.Lanes.{laneFits}
 use borrow.Author.Needs.{needs}
 use Rattle.engine_legality.proofs.lanes.lane_fits.Statement.{statement}
@@ -53,7 +53,9 @@ returns c =
     let at-lane-at-rest : tie.After-lane-at-rest = search in
     let at-lookup-in-range : tie.After-lookup-in-range = search in
     let at-lane-in-range : tie.After-lane-in-range = search in
-    rw (at-lane-in-range .lane-in-range .ensures, at-lookup-in-range .lookup-in-range .ensures, at-lane-at-rest .lane-at-rest .ensures, at-lane-agrees .lane-agrees .ensures, c .generation-fits .ensures)
+    let range = at-lane-in-range .lane-in-range .ensures in
+    let rest = at-lane-at-rest .lane-at-rest .ensures in
+    rw (range, at-lookup-in-range .lookup-in-range .ensures, rest, at-lane-agrees .lane-agrees .ensures, c .generation-fits .ensures)
 
 pub lane-fits-spec : {M : Type 1} → statement M
 lane-fits-spec =

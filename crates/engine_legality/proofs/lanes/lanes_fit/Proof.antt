@@ -1,9 +1,10 @@
--- `lanes_fit` meets its contract. The loop's invariant: the cabinets from c on decide. The measure: the cabinets left. Assumes nothing.
+-- The loop's invariant: the cabinets from c on decide. The measure: the cabinets left.
 use Prim.Native.Nat.{ℕ, _+_, _*_}
 use mathlib.Core.Path.{_≡_, refl}
 use native.Mathlib.Omega.{arith}
 use borrow.Author.Tests.{not-true, not-false}
 use Rattle.model.specs.Lists.{all, from}
+use Rattle.model.specs.Layout.{laneLength}
 use Rattle.model.specs.Memory.{maskWord}
 use Rattle.engine_legality.specs.Lanes.{cabinetLanes, allLanes}
 use Rattle.engine_legality.proofs.Loops.{all-end, all-fails, all-on}
@@ -14,7 +15,8 @@ use Rattle.engine_legality.proofs.lanes.lanes_fit.Tie as tie
 
 abbrev Inv-loop : tie.InvT-loop
 Inv-loop m b cabinets places slots stride c₀ left₀ c left =
-    (c + left ≡ cabinets) × (stride ≡ 19 * places) × (all (λ (c : ℕ). cabinetLanes m slots places (b + 19 * places * c) (maskWord m c)) (from c left) ≡ allLanes m slots cabinets places b)
+    (c + left ≡ cabinets) × (stride ≡ laneLength * places)
+    × (all (λ (c : ℕ). cabinetLanes m slots places (b + laneLength * places * c) (maskWord m c)) (from c left) ≡ allLanes m slots cabinets places b)
 
 abbrev μ-loop : tie.MeasureT-loop
 μ-loop m b cabinets places slots stride c₀ left₀ c left = left
@@ -26,32 +28,41 @@ loop-holds : tie.Need-loop-holds Inv-loop μ-loop
 unfolding allLanes
 loop-holds c = (omega arith, refl, refl)
 
+cast-mask : tie.Need-cast-mask Inv-loop μ-loop
+cast-mask c = search needs
+
+add-mask : tie.Need-add-mask Inv-loop μ-loop
+add-mask c = search needs
+
+mul-mask : tie.Need-mul-mask Inv-loop μ-loop
+mul-mask c = search needs
+
+shared-slice-read-mask : tie.Need-shared-slice-read-mask Inv-loop μ-loop
+shared-slice-read-mask c = search needs
+
+cast-cabinet-lanes : tie.Need-cast-cabinet-lanes Inv-loop μ-loop
+cast-cabinet-lanes c = search needs
+
 mul-cabinet-lanes : tie.Need-mul-cabinet-lanes Inv-loop μ-loop
 mul-cabinet-lanes c =
     let at-loop : tie.At-loop Inv-loop μ-loop = search in
     let entry : tie.Start Inv-loop μ-loop = search in
-    omega (arith, stride-within (entry .args .cabinets) (entry .args .places) (at-loop .loop .c) (omega arith), lanes-most (entry .args .cabinets) (entry .args .places) (omega arith) (omega arith))
+    let within = stride-within (entry .args .cabinets) (entry .args .places) (at-loop .loop .c) (omega arith) in
+    omega (arith, within, lanes-most (entry .args .cabinets) (entry .args .places) (omega arith) (omega arith))
 
 add-cabinet-lanes : tie.Need-add-cabinet-lanes Inv-loop μ-loop
 add-cabinet-lanes c =
     let at-loop : tie.At-loop Inv-loop μ-loop = search in
     let entry : tie.Start Inv-loop μ-loop = search in
-    omega (arith, stride-within (entry .args .cabinets) (entry .args .places) (at-loop .loop .c) (omega arith), lanes-most (entry .args .cabinets) (entry .args .places) (omega arith) (omega arith))
-
-add-cabinet-lanes-2 : tie.Need-add-cabinet-lanes-2 Inv-loop μ-loop
-add-cabinet-lanes-2 c = search needs
-
-mul-cabinet-lanes-2 : tie.Need-mul-cabinet-lanes-2 Inv-loop μ-loop
-mul-cabinet-lanes-2 c = search needs
-
-shared-slice-read-cabinet-lanes : tie.Need-shared-slice-read-cabinet-lanes Inv-loop μ-loop
-shared-slice-read-cabinet-lanes c = search needs
+    let within = stride-within (entry .args .cabinets) (entry .args .places) (at-loop .loop .c) (omega arith) in
+    omega (arith, within, lanes-most (entry .args .cabinets) (entry .args .places) (omega arith) (omega arith))
 
 cabinet-lanes-requires : tie.Need-cabinet-lanes-requires Inv-loop μ-loop
 cabinet-lanes-requires c κs =
     let at-loop : tie.At-loop Inv-loop μ-loop = search in
     let entry : tie.Start Inv-loop μ-loop = search in
-    omega (arith, stride-within (entry .args .cabinets) (entry .args .places) (at-loop .loop .c) (omega arith), lanes-most (entry .args .cabinets) (entry .args .places) (omega arith) (omega arith))
+    let within = stride-within (entry .args .cabinets) (entry .args .places) (at-loop .loop .c) (omega arith) in
+    omega (arith, within, lanes-most (entry .args .cabinets) (entry .args .places) (omega arith) (omega arith))
 
 returns : tie.Need-returns Inv-loop μ-loop
 returns c = search (needs, all-fails, not-true)
@@ -66,7 +77,13 @@ loop-less : tie.Need-loop-less Inv-loop μ-loop
 loop-less c = search needs
 
 loop-again : tie.Need-loop-again Inv-loop μ-loop
-loop-again c = search (needs, all-on, not-false)
+loop-again c =
+    let at-cabinet-lanes : tie.After-cabinet-lanes Inv-loop μ-loop = search in
+    let at-loop-test : tie.In-loop Inv-loop μ-loop = search in
+    let at-loop : tie.At-loop Inv-loop μ-loop = search in
+    let i = at-loop .loop .inv in
+    let on = all-on _ _ _ _ (i .2) (at-loop-test .loop-test .taken) _ (at-cabinet-lanes .cabinet-lanes .ensures) in
+    (omega arith, i .1, on (not-false _ (c .if1 .left)))
 
 returns-2 : tie.Need-returns-2 Inv-loop μ-loop
 returns-2 c = search (needs, all-end)
@@ -79,11 +96,13 @@ lanes-fit-spec =
     μ-loop
     mul-stride
     loop-holds
+    cast-mask
+    add-mask
+    mul-mask
+    shared-slice-read-mask
+    cast-cabinet-lanes
     mul-cabinet-lanes
     add-cabinet-lanes
-    add-cabinet-lanes-2
-    mul-cabinet-lanes-2
-    shared-slice-read-cabinet-lanes
     cabinet-lanes-requires
     returns
     add-c

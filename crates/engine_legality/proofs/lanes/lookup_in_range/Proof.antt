@@ -1,4 +1,4 @@
--- `lookup_in_range` meets its contract. Assumes nothing.
+-- The code is the number in the lookup's two words.
 use borrow.Author.Needs.{needs}
 use Rattle.engine_legality.proofs.lanes.lookup_in_range.Statement.{statement}
 use Rattle.engine_legality.proofs.lanes.lookup_in_range.Tie as tie

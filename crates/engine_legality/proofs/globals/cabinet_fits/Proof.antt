@@ -1,8 +1,8 @@
--- `cabinet_fits` meets its contract, a case for each value of the bit. Assumes nothing.
+-- The tests are those of `cabinetFits`, a case for each value of the bit.
 use Rattle.engine_legality.specs.Lanes.{cabinetFits}
 use borrow.Author.Needs.{needs}
-use Rattle.engine_legality.proofs.lanes.cabinet_fits.Statement.{statement}
-use Rattle.engine_legality.proofs.lanes.cabinet_fits.Tie as tie
+use Rattle.engine_legality.proofs.globals.cabinet_fits.Statement.{statement}
+use Rattle.engine_legality.proofs.globals.cabinet_fits.Tie as tie
 
 fits-in-requires : tie.Need-fits-in-requires
 fits-in-requires c κs = search needs

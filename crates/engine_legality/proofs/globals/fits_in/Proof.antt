@@ -1,8 +1,8 @@
--- `fits_in` meets its contract: a word below a power of two is 0 when shifted by it. Assumes nothing.
+-- Nothing is left of a word below a power of two when it is shifted by it, and of no other word.
 use Rattle.engine_legality.proofs.Bits.{shr-zero}
 use borrow.Author.Needs.{needs}
-use Rattle.engine_legality.proofs.lanes.fits_in.Statement.{statement}
-use Rattle.engine_legality.proofs.lanes.fits_in.Tie as tie
+use Rattle.engine_legality.proofs.globals.fits_in.Statement.{statement}
+use Rattle.engine_legality.proofs.globals.fits_in.Tie as tie
 
 shr-result : tie.Need-shr-result
 shr-result c = search needs

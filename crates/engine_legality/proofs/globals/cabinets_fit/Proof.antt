@@ -1,31 +1,38 @@
--- `cabinets_fit` meets its contract. The loop's invariant: rest is the cabinet mask shifted by c, and the cabinets from c on decide. The measure: the cabinets left. Assumes nothing.
-use Prim.Native.Nat.{ℕ, _+_, _/_, _^_}
-use mathlib.Core.Path.{_≡_, refl}
+-- The loop's invariant: the cabinets from c on decide. The measure: the cabinets left. A turn takes the first of them, with its bit of the cabinet mask.
+use Prim.Native.Nat.{ℕ, _+_, _*_}
+use mathlib.Core.Path.{_≡_, refl, ap, _∙_}
 use native.Mathlib.Omega.{arith}
 use borrow.Author.Tests.{not-true, not-false}
 use Rattle.model.specs.Lists.{all, from}
+use Rattle.model.specs.Layout.{cabinetMaskAt}
 use Rattle.model.specs.Memory.{at, flag, maskWord}
 use Rattle.engine_legality.specs.Lanes.{cabinetFits, allCabinets}
-use Rattle.engine_legality.proofs.Bits.{half-on, half-start}
 use Rattle.engine_legality.proofs.Loops.{all-end}
 use Rattle.engine_legality.proofs.LaneLoops.{cabinets-fails, cabinets-on}
 use borrow.Author.Needs.{needs}
-use Rattle.engine_legality.proofs.lanes.cabinets_fit.Statement.{statement}
-use Rattle.engine_legality.proofs.lanes.cabinets_fit.Tie as tie
+use Rattle.engine_legality.proofs.globals.cabinets_fit.Statement.{statement}
+use Rattle.engine_legality.proofs.globals.cabinets_fit.Tie as tie
 
 abbrev Inv-loop : tie.InvT-loop
-Inv-loop m cabinets places rest₀ c₀ left₀ rest c left =
-    (c + left ≡ cabinets) × (rest ≡ at m 14 / 2 ^ c) × (all (λ (c : ℕ). cabinetFits places (maskWord m c) (flag c (at m 14))) (from c left) ≡ allCabinets m cabinets places)
+Inv-loop m cabinets places bits c₀ left₀ c left =
+    (c + left ≡ cabinets) × (bits ≡ at m cabinetMaskAt)
+    × (all (λ (c : ℕ). cabinetFits places (maskWord m c) (flag c (at m cabinetMaskAt))) (from c left) ≡ allCabinets m cabinets places)
 
 abbrev μ-loop : tie.MeasureT-loop
-μ-loop m cabinets places rest₀ c₀ left₀ rest c left = left
+μ-loop m cabinets places bits c₀ left₀ c left = left
 
-shared-slice-read-rest : tie.Need-shared-slice-read-rest Inv-loop μ-loop
-shared-slice-read-rest c = search needs
+shared-slice-read-bits : tie.Need-shared-slice-read-bits Inv-loop μ-loop
+shared-slice-read-bits c = search needs
 
 loop-holds : tie.Need-loop-holds Inv-loop μ-loop
 unfolding allCabinets
-loop-holds c = (omega arith, half-start _, refl)
+loop-holds c = (omega arith, refl, refl)
+
+test-requires : tie.Need-test-requires Inv-loop μ-loop
+test-requires c κs = search needs
+
+cast-cabinet-fits : tie.Need-cast-cabinet-fits Inv-loop μ-loop
+cast-cabinet-fits c = search needs
 
 add-cabinet-fits : tie.Need-add-cabinet-fits Inv-loop μ-loop
 add-cabinet-fits c = search needs
@@ -54,11 +61,14 @@ loop-less c = search needs
 loop-again : tie.Need-loop-again Inv-loop μ-loop
 loop-again c =
     let at-cabinet-fits : tie.After-cabinet-fits Inv-loop μ-loop = search in
+    let at-test : tie.After-test Inv-loop μ-loop = search in
     let at-loop-test : tie.In-loop Inv-loop μ-loop = search in
     let at-loop : tie.At-loop Inv-loop μ-loop = search in
     let entry : tie.Start Inv-loop μ-loop = search in
     let i = at-loop .loop .inv in
-    (omega arith, half-on _ _ _ (i .1), cabinets-on (entry .args .m .now) _ _ _ _ _ (i .2) _ (i .1) (at-loop-test .loop-test .taken) _ (at-cabinet-fits .cabinet-fits .ensures) (not-false _ (c .if1 .left)))
+    let t = at-test .test .ensures ∙ ap (flag (at-loop .loop .c)) (i .1) in
+    let on = cabinets-on (entry .args .m .now) _ _ _ _ _ (i .2) (at-loop-test .loop-test .taken) _ t _ (at-cabinet-fits .cabinet-fits .ensures) in
+    (omega arith, i .1, on (not-false _ (c .if1 .left)))
 
 returns-2 : tie.Need-returns-2 Inv-loop μ-loop
 returns-2 c = search (needs, all-end)
@@ -69,8 +79,10 @@ cabinets-fit-spec =
     (tie.spec
     Inv-loop
     μ-loop
-    shared-slice-read-rest
+    shared-slice-read-bits
     loop-holds
+    test-requires
+    cast-cabinet-fits
     add-cabinet-fits
     mul-cabinet-fits
     shared-slice-read-cabinet-fits

@@ -1,8 +1,8 @@
--- `global_words_fit` meets its contract: its tests are those of `globalWordsFit`. Assumes nothing.
+-- The tests are those of `globalWordsFit`.
 use Rattle.engine_legality.specs.Lanes.{globalWordsFit}
 use borrow.Author.Needs.{needs}
-use Rattle.engine_legality.proofs.lanes.global_words_fit.Statement.{statement}
-use Rattle.engine_legality.proofs.lanes.global_words_fit.Tie as tie
+use Rattle.engine_legality.proofs.globals.global_words_fit.Statement.{statement}
+use Rattle.engine_legality.proofs.globals.global_words_fit.Tie as tie
 
 shared-slice-read-current : tie.Need-shared-slice-read-current
 shared-slice-read-current c = search needs
@@ -34,13 +34,19 @@ global-fits-requires c κs = search needs
 heads-fit-requires : tie.Need-heads-fit-requires
 heads-fit-requires c κs = search needs
 
+global-ends-fit-requires : tie.Need-global-ends-fit-requires
+global-ends-fit-requires c κs = search needs
+
 returns : tie.Need-returns
 unfolding globalWordsFit
 returns c =
+    let at-heads-fit : tie.After-heads-fit = search in
     let at-global-fits : tie.After-global-fits = search in
     let at-largest-fits : tie.After-largest-fits = search in
     let at-fits-in : tie.After-fits-in = search in
-    rw (at-fits-in .fits-in .ensures, at-largest-fits .largest-fits .ensures, at-global-fits .global-fits .ensures, c .heads-fit .ensures)
+    let global = at-global-fits .global-fits .ensures in
+    let heads = at-heads-fit .heads-fit .ensures in
+    rw (at-fits-in .fits-in .ensures, at-largest-fits .largest-fits .ensures, global, heads, c .global-ends-fit .ensures)
 
 pub global-words-fit-spec : {M : Type 1} → statement M
 global-words-fit-spec =
@@ -56,4 +62,5 @@ global-words-fit-spec =
     shared-slice-read-global-fits
     global-fits-requires
     heads-fit-requires
+    global-ends-fit-requires
     returns)

@@ -1,0 +1,96 @@
+// The global words and the cabinets: masks, the chain heads, and the ends and the generation of the
+// global queues.
+ghost use mathlib.Core.Path.{_≡_};
+ghost use Prim.Native.Nat.{_+_, _^_, _<_, _≤_};
+ghost use lib.ListN.{length};
+ghost use lib.Dec.{ltb};
+ghost use Rattle.model.specs.Layout.{maxCabinets, maxPlaces, masksAt};
+ghost use Rattle.masks.specs.Bits.{width};
+ghost use Rattle.engine_legality.specs.Lanes.{cabinetFits, allCabinets, headsFit, globalEndsFit, globalWordsFit};
+
+// the first of the global current queue
+const GLOBAL_CURRENT_FIRST: usize = words::GLOBAL_QUEUES_AT + words::CURRENT_OFFSET;
+
+// A word has no bit from this one on.
+pub fn fits_in(word: u32, bits: u32) -> bool
+    requires { ⌜ bits < width ⌝ }
+    ensures { λ r. ⌜ r ≡ ltb word (2 ^ bits) ⌝ }
+{
+    word >> bits == 0
+}
+
+// A cabinet's part of "masks are in range" and "a cabinet's bit is set exactly when its lane mask is
+// not 0".
+fn cabinet_fits(mask: u32, bit: bool, places: u32) -> bool
+    requires { ⌜ places ≤ maxPlaces ⌝ }
+    ensures { λ r. ⌜ r ≡ cabinetFits places mask bit ⌝ }
+{
+    if bit {
+        fits_in(mask, places) & (0 < mask)
+    } else {
+        fits_in(mask, places) & (mask == 0)
+    }
+}
+
+// "masks are in range", the cabinet mask apart, and "a cabinet's bit is set exactly when its lane mask
+// is not 0".
+pub fn cabinets_fit(m: &[u32], cabinets: u32, places: u32) -> bool
+    requires { ⌜ (masksAt + cabinets ≤ length (now m)) × (cabinets ≤ maxCabinets) × (places ≤ maxPlaces) ⌝ }
+    ensures { λ r. ⌜ r ≡ allCabinets (now (m .entry)) cabinets places ⌝ }
+{
+    let bits = m[words::CABINET_MASK_AT];
+    let mut c: u32 = 0;
+    let mut left = cabinets;
+    while left > 0 {
+        let bit = masks::test(bits, c);
+        if !cabinet_fits(m[words::MASKS_AT + (c as usize)], bit, places) {
+            return false;
+        }
+        c = c + 1;
+        left = left - 1;
+    }
+    true
+}
+
+// The chain heads: "links are in range".
+fn heads_fit(m: &[u32], slots: u32) -> bool
+    requires { ⌜ masksAt ≤ length (now m) ⌝ }
+    ensures { λ r. ⌜ r ≡ headsFit (now (m .entry)) slots ⌝ }
+{
+    let mut k: usize = 0;
+    let mut left = words::CHAIN_COUNT;
+    while left > 0 {
+        if !crate::links::link_fits(m[words::HEADS_AT + k], slots) {
+            return false;
+        }
+        k = k + 1;
+        left = left - 1;
+    }
+    true
+}
+
+// The ends of the free and the global queues: "links are in range".
+fn global_ends_fit(m: &[u32], slots: u32) -> bool
+    requires { ⌜ masksAt ≤ length (now m) ⌝ }
+    ensures { λ r. ⌜ r ≡ globalEndsFit (now (m .entry)) slots ⌝ }
+{
+    crate::links::ends_fit(m, words::FREE_AT, slots)
+        & crate::links::queues_fit(m, words::GLOBAL_QUEUES_AT, slots)
+}
+
+// The global words: "masks are in range" of the cabinet mask, the largest generation, the global
+// queues' generation, and heads and ends in range.
+pub fn global_words_fit(m: &[u32], cabinets: u32, slots: u32) -> bool
+    requires { ⌜ (masksAt ≤ length (now m)) × (cabinets ≤ maxCabinets) ⌝ }
+    ensures { λ r. ⌜ r ≡ globalWordsFit (now (m .entry)) cabinets slots ⌝ }
+{
+    let current = m[words::CURRENT_GENERATION_AT];
+    let largest = m[words::LARGEST_GENERATION_AT];
+    let runs = !(m[words::CABINET_MASK_AT] == 0);
+    let empty = slots <= m[GLOBAL_CURRENT_FIRST];
+    fits_in(m[words::CABINET_MASK_AT], cabinets)
+        & crate::generations::largest_fits(current, largest, runs)
+        & crate::generations::global_fits(m[words::GLOBAL_GENERATION_AT], empty, current, largest)
+        & heads_fit(m, slots)
+        & global_ends_fit(m, slots)
+}
