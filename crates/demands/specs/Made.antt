@@ -7,8 +7,8 @@ use Rattle.model.specs.Calls.{Call, set-up, on-state, reply, left, leftAll}
 use Rattle.model.specs.Ledger.{Event, events, RefusesSetUps}
 use Rattle.access.specs.declared.Answer.{Answer}
 use Rattle.access.specs.Contract.{five, Does}
-use Rattle.table.specs.declared.Call as code
-use Rattle.table.specs.Ways.{callOf}
+use Rattle.calls.specs.declared.Call as code
+use Rattle.calls.specs.Calls.{callOf}
 
 -- a call that was made, its answer, and the memory that it left
 pub record Step : Type 0 where
