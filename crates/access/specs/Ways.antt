@@ -1,10 +1,11 @@
 -- The three ways out of a call: the memory is not legal, a cause refuses it, or none does.
 use Prim.Native.Nat.{ℕ, zero, suc, _≤_, _<_}
 use mathlib.Core.Path.{_≡_, sym, ap, _∙_}
-use mathlib.Core.Bool.{Bool, true, false}
+use mathlib.Core.Bool.{Bool, true, false, not}
 use mathlib.Core.List.{List}
 use native.Mathlib.Omega.{arith}
 use lib.ListN.{length}
+use borrow.Author.Tests.{not-true, not-false}
 use Rattle.model.specs.Layout.{total}
 use Rattle.model.specs.Rules.{Op, refused, refusal, answer, answerOf, next, nextOf, result, performed}
 use Rattle.model.specs.Memory.{Words, sizes, state}
@@ -22,8 +23,11 @@ use Rattle.access.specs.declared.Answer.{Answer}
 use Rattle.access.specs.Contract.{five, Does}
 
 module _ (m : List ℕ) (k : Op) where
-  pub illegal : (r : Answer) → legal m ≡ false → five r ≡ refused 3 → Does (on-state k) m r m
-  illegal r h e = record { answer = e ∙ sym (reply-illegal m k h); memory = sym (left-illegal m k h) }
+  -- by the legality check b
+  pub illegal : (r : Answer) (b : Bool) → b ≡ legal m → not b ≡ true → five r ≡ refused 3 → Does (on-state k) m r m
+  illegal r b q t e =
+      let h : legal m ≡ false = sym q ∙ not-true b t in
+      record { answer = e ∙ sym (reply-illegal m k h); memory = sym (left-illegal m k h) }
 
   module _ (v : Sound m) where
     pub refuses : (x : ℕ) (r : Answer) → x ≡ refusal (state m) k → 0 < x → five r ≡ refused x → Does (on-state k) m r m
@@ -49,9 +53,9 @@ passed m k x e h = let z : x ≡ 0 = omega arith in accepted (state m) k (sym e 
 
 -- ---- what a legal memory has
 
--- the legality check, tested
-pub sound : (m : List ℕ) (b : Bool) → b ≡ legal m → b ≡ true → Words m → Sound m
-sound m b e q w = record { lawful = sym e ∙ q; words = w }
+-- by the legality check b
+pub sound : (m : List ℕ) (b : Bool) → b ≡ legal m → not b ≡ false → Words m → Sound m
+sound m b e t w = record { lawful = sym e ∙ not-false b t; words = w }
 
 module _ (m : List ℕ) (v : Sound m) where
   pub shown : Shows m (state m)

@@ -1,4 +1,4 @@
--- A line and its answer: the ways through `call_of`, `put_call`, `put_asked` and `answer_line`, and the line that has not ended. Assumes nothing.
+-- A line and its answer: the ways through `put_call`, `put_asked` and `answer_line`, and the line that has not ended.
 use Prim.Native.Nat.{ℕ, _<_}
 use mathlib.Core.Bool.{true, false, not}
 use mathlib.Core.List.{List, [], _∷_, _++_, append-nil}
@@ -10,24 +10,23 @@ use Rattle.model.specs.Calls.{Call}
 use Rattle.access.specs.declared.Answer.{Answer}
 use Rattle.access.specs.Contract.{five, Does}
 use Rattle.listing_text.specs.Call.{Parsed, bad, call, parsed}
-use Rattle.listing_text.specs.Answer.{lineText, badText, PutsWithin}
-use Rattle.listing_text.specs.Reading.{Reads, Finishes, requestParsed}
+use Rattle.listing_text.specs.Answer.{lineLength, badLength, lineText, badText, PutsWithin}
+use Rattle.listing_text.specs.Reading.{Reads, Finishes, parsedOf}
 use Rattle.listing_text.specs.declared.line.Line.{Line}
-use Rattle.listing_text.specs.declared.line.Request.{Request}
+use Rattle.listing_text.specs.declared.line.Asked.{Asked}
 use Rattle.listing.specs.Output.{answered, after, answeredAll, afterAll, ended}
-use Rattle.listing.specs.Contract.{callAsked, Prints, Holds, AnswersLine}
-use Rattle.listing.specs.declared.answers.Asked.{Asked}
+use Rattle.listing.specs.Contract.{Prints, Holds, AnswersLine}
 use Rattle.listing.specs.declared.answers.Unended.{Unended}
 
 -- ---- a line that has ended
 
 -- the five words of a call
-pub prints-call : {m m' xs ys : List ℕ} {at e : ℕ} (k : Call) (r : Answer) → Does k m r m' → PutsWithin 55 xs at (lineText (five r)) ys e → Prints m (call k) xs at m' ys e
+pub prints-call : {m m' xs ys : List ℕ} {at e : ℕ} (k : Call) (r : Answer) → Does k m r m' → PutsWithin lineLength xs at (lineText (five r)) ys e → Prints m (call k) xs at m' ys e
 unfolding answered after
 prints-call {m} {m'} {xs} {ys} {at} {e} k r d t =
-    record { text = subst (λ (w : List ℕ). PutsWithin 55 xs at w ys e) (ap lineText (d .answer)) t; memory = d .memory }
+    record { text = subst (λ (w : List ℕ). PutsWithin lineLength xs at w ys e) (ap lineText (d .answer)) t; memory = d .memory }
 
-pub prints-bad : {m xs ys : List ℕ} {at e : ℕ} → PutsWithin 4 xs at badText ys e → Prints m bad xs at m ys e
+pub prints-bad : {m xs ys : List ℕ} {at e : ℕ} → PutsWithin badLength xs at badText ys e → Prints m bad xs at m ys e
 unfolding answered after
 prints-bad t = record { text = record { puts = t .puts; short = omega (arith, t .short) }; memory = refl }
 
@@ -35,14 +34,10 @@ prints-bad t = record { text = record { puts = t .puts; short = omega (arith, t 
 pub prints-as : {m m' xs ys : List ℕ} {at e : ℕ} {p q : Parsed} → p ≡ q → Prints m p xs at m' ys e → Prints m q xs at m' ys e
 prints-as {m} {m'} {xs} {ys} {at} {e} h d = subst (λ (x : Parsed). Prints m x xs at m' ys e) h d
 
--- the arm of a match on the request r, which is q
-pub asks-as : (p : Parsed) (r q : Request) → r ≡ q → p ≡ requestParsed q → p ≡ requestParsed r
-asks-as p r q h e = e ∙ sym (ap requestParsed h)
-
 -- a line that has been read asks for what its bytes say
-pub answers-line : {m m' xs ys : List ℕ} {at e : ℕ} (l : Line) (r : Request) (k : Asked) → Finishes l r → callAsked k ≡ requestParsed r
-    → Prints m (callAsked k) xs at m' ys e → AnswersLine l m xs at m' ys e
-answers-line l r k f c t = record { prints = λ p h. prints-as (c ∙ f .reads p h) t; short = t .text .short }
+pub answers-line : {m m' xs ys : List ℕ} {at e : ℕ} (l : Line) (r : Asked) → Finishes l r
+    → Prints m (parsedOf r) xs at m' ys e → AnswersLine l m xs at m' ys e
+answers-line l r f t = record { prints = λ p h. prints-as (f .reads p h) t; short = t .text .short }
 
 -- ---- one line, and none
 

@@ -1,4 +1,4 @@
--- The lines of a text that is read in parts, and the first line of a block. Assumes nothing.
+-- The lines of a text that is read in parts, and the first line of a block.
 use Prim.Native.Nat.{ℕ, suc, _+_, _-_, _≤_}
 use mathlib.Core.Bool.{Bool, true, false}
 use mathlib.Core.List.{List, [], _∷_, _++_, append-nil, append-assoc}

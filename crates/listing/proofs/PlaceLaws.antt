@@ -1,4 +1,4 @@
--- From place to place of a block: the ways through `answer_part` and round `answer_block`. Assumes nothing.
+-- From place to place of a block: the ways through `answer_part` and round `answer_block`.
 use Prim.Native.Nat.{ℕ, suc, _+_, _≤_, _<_}
 use mathlib.Core.Bool.{true, false}
 use mathlib.Core.List.{List, [], _∷_, _++_, append-nil}
@@ -9,7 +9,7 @@ use lib.Seq.{slice, slice-empty}
 use Rattle.model.specs.Lists.{member}
 use Rattle.listing_text.specs.Number.{newline}
 use Rattle.listing_text.specs.Call.{parsed}
-use Rattle.listing_text.specs.Answer.{Puts}
+use Rattle.listing_text.specs.Answer.{lineLength, Puts}
 use Rattle.listing_text.specs.Reading.{firstLine, BlockFeeds}
 use Rattle.listing_text.specs.declared.line.Fed.{Fed}
 use Rattle.listing_text.proofs.BufferLaws.{puts-then, puts-as}
@@ -72,7 +72,7 @@ module _ (m block xs : List ℕ) (a : Place) where
 
   -- a line ended and was answered
   pub goes-line : {m' ys : List ℕ} (f : Fed) (u : Unended) (e : ℕ) → BlockFeeds (a .unended .line) block (a .next) f → f .ended ≡ true
-      → AnswersLine (f .line) m xs (a .end) m' ys e → Holds u [] → a .next < length block → a .end + 55 ≤ length xs → length ys ≡ length xs
+      → AnswersLine (f .line) m xs (a .end) m' ys e → Holds u [] → a .next < length block → a .end + lineLength ≤ length xs → length ys ≡ length xs
       → Goes m block xs a m' ys (record { unended = u; next = f .next; end = e })
   goes-line {m'} {ys} f u e d t l o h k z =
       let s : List ℕ = drop (a .next) block in

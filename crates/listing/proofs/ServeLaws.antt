@@ -1,4 +1,4 @@
--- A whole block, place by place, and the end of the input: the ways through `serve_block` and `end_input`. Assumes nothing.
+-- A whole block, place by place, and the end of the input: the ways through `serve_block` and `end_input`.
 use Prim.Native.Nat.{ℕ, _+_, _≤_, _<_}
 use mathlib.Core.Bool.{Bool, true, false, not}
 use mathlib.Core.List.{List, [], _∷_}
@@ -11,6 +11,7 @@ use borrow.Author.Tests.{ltb-true, ltb-false}
 use Rattle.model.specs.Lists.{isEmpty}
 use Rattle.listing_text.specs.Call.{parsed}
 use Rattle.listing.specs.Output.{answered, afterAll, ended, unended, lastLine}
+use Rattle.listing_text.specs.Answer.{lineLength}
 use Rattle.listing.specs.Contract.{Prints, Holds, Answers, Goes, AnswersLine, GoesThrough, Served, ServesBlock, EndsInput}
 use Rattle.listing.specs.declared.answers.Unended.{Unended}
 use Rattle.listing.specs.declared.answers.Place.{Place}
@@ -63,7 +64,7 @@ pub serves-failed : {m block m' : List ℕ} {u v : Unended} {g : Bool} → g ≡
 serves-failed h = record { served = λ t. absurd (let w : _≡_ {A = ℕ} 0 1 = cc in omega arith) }
 
 -- with room for a line the block is answered further
-pub through-further : {m block xs m' ys : List ℕ} {a b : Place} → GoesThrough m block xs a m' ys b → a .end + 55 ≤ length xs → a .next < length block → a .next < b .next
+pub through-further : {m block xs m' ys : List ℕ} {a b : Place} → GoesThrough m block xs a m' ys b → a .end + lineLength ≤ length xs → a .next < length block → a .next < b .next
 through-further {m} {block} {xs} {m'} {ys} {a} {b} g h k = go (ltb (b .next) (length block)) refl
   where
     go : (t : Bool) → ltb (b .next) (length block) ≡ t → a .next < b .next

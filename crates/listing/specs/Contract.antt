@@ -1,4 +1,4 @@
--- What the functions of the program ensure. Assumes nothing.
+-- What the functions of the program ensure.
 use Prim.Native.Nat.{ℕ, _+_, _-_, _*_, _≤_, _<_}
 use mathlib.Core.Bool.{true, not}
 use mathlib.Core.List.{List}
@@ -6,32 +6,24 @@ use mathlib.Core.Path.{_≡_}
 use lib.ListN.{length}
 use lib.Seq.{slice}
 use Rattle.model.specs.Lists.{isEmpty}
-use Rattle.listing_text.specs.Call.{Parsed, bad, call, parsed}
-use Rattle.listing_text.specs.Answer.{Puts, PutsWithin}
+use Rattle.listing_text.specs.Call.{Parsed, parsed}
+use Rattle.listing_text.specs.Answer.{lineLength, Puts, PutsWithin}
 use Rattle.listing_text.specs.declared.line.Line.{Line}
 use Rattle.listing_text.specs.Reading.{Reads}
-use Rattle.table.specs.Ways.{callOf}
 use Rattle.listing.specs.Output.{answered, after, answeredAll, afterAll, ended, unended, lastLine}
-use Rattle.listing.specs.declared.answers.Asked.{Asked}
-use Rattle.listing.specs.declared.answers.Asked.the-variants.{Bad, Call}
 use Rattle.listing.specs.declared.answers.Unended.{Unended}
 use Rattle.listing.specs.declared.answers.Place.{Place}
 use Rattle.listing.specs.declared.Turn.{Turn}
 
--- the call of the model that a call of the code is, or bad
-unfoldable pub callAsked : Asked → Parsed
-callAsked Bad = bad
-callAsked (Call k) = call (callOf k)
-
 -- a memory m, where p was asked, became m', and a buffer that held xs holds ys: the text of the answer from `at` to the new end e
 pub record Prints (m : List ℕ) (p : Parsed) (xs : List ℕ) (at : ℕ) (m' ys : List ℕ) (e : ℕ) : Type 0 where
-  pub text : PutsWithin 55 xs at (answered m p) ys e
+  pub text : PutsWithin lineLength xs at (answered m p) ys e
   pub memory : m' ≡ after m p
 
 -- a line that has been read asked for what its bytes say, and was answered
 pub record AnswersLine (l : Line) (m xs : List ℕ) (at : ℕ) (m' ys : List ℕ) (e : ℕ) : Type 0 where
   pub prints : (p : List ℕ) → Reads l p → Prints m (parsed p) xs at m' ys e
-  pub short : e ≤ at + 55
+  pub short : e ≤ at + lineLength
 
 -- the line that has not ended is what has been read of p
 pub record Holds (o : Unended) (p : List ℕ) : Type 0 where
@@ -51,8 +43,8 @@ pub record Goes (m block xs : List ℕ) (a : Place) (m' ys : List ℕ) (b : Plac
   pub inside : b .next ≤ length block
   pub room : b .end ≤ length ys
   pub size : length ys ≡ length xs
-  -- at most 55 bytes are printed for each byte read
-  pub paced : b .end ≤ a .end + 55 * (b .next - a .next)
+  -- at most a line is printed for each byte read
+  pub paced : b .end ≤ a .end + lineLength * (b .next - a .next)
 
 -- the same by at least a byte, to the end of a line or of the block
 pub record GoesOn (m block xs : List ℕ) (a : Place) (m' ys : List ℕ) (b : Place) : Type 0 where
@@ -62,7 +54,7 @@ pub record GoesOn (m block xs : List ℕ) (a : Place) (m' ys : List ℕ) (b : Pl
 -- the same to the end of the block, unless the buffer has no room for a further line
 pub record GoesThrough (m block xs : List ℕ) (a : Place) (m' ys : List ℕ) (b : Place) : Type 0 where
   pub goes : Goes m block xs a m' ys b
-  pub full : b .next < length block → length ys < b .end + 55
+  pub full : b .next < length block → length ys < b .end + lineLength
 
 -- a text was answered, where p is what had been read of its first line
 pub record Served (m p text m' : List ℕ) (u : Unended) : Type 0 where

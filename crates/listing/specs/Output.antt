@@ -1,5 +1,5 @@
 -- What the listing program prints (document 01, "A listing, and edges"): the lines of an input, the text that each is answered with, and the memory
--- after it. Assumes nothing.
+-- after it.
 use Prim.Native.Nat.{ℕ}
 use mathlib.Core.Bool.{cond}
 use mathlib.Core.List.{List, [], _∷_, _++_}

@@ -1,4 +1,4 @@
--- The arguments of a line: what the machine makes of each word after the first is what `asked` makes of their values, or the line is bad. Assumes nothing.
+-- The arguments of a line: what the machine makes of each word after the first is what `asked` makes of their values, or the line is bad.
 use Prim.Native.Nat.{ℕ, suc, _+_, _-_, _*_, _^_, _≤_, _<_, min}
 use mathlib.Core.Bool.{true, false, cond}
 use mathlib.Core.List.{List, [], _∷_, _++_, map, append-nil, append-assoc}

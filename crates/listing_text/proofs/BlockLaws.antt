@@ -1,4 +1,4 @@
--- A part of a block, fed byte by byte: what is left of it makes of the line what the whole part makes of it. Assumes nothing.
+-- A part of a block, fed byte by byte: what is left of it makes of the line what the whole part makes of it.
 use Prim.Native.Nat.{ℕ, suc, _+_, _-_, _≤_, _<_}
 use mathlib.Core.Bool.{true, false, cond}
 use mathlib.Core.List.{List, [], _∷_}

@@ -1,4 +1,4 @@
--- Tests that are true or false, taken apart. Assumes nothing.
+-- Tests that are true or false, taken apart.
 use mathlib.Core.Bool.{Bool, true, false, cond, _&&_}
 use mathlib.Core.Logic.{_⊎_, inl, inr}
 use mathlib.Core.Path.{_≡_, refl}

@@ -1,4 +1,4 @@
--- Texts put into a buffer one after the other, and a byte as a text of one. Assumes nothing.
+-- Texts put into a buffer one after the other, and a byte as a text of one.
 use Prim.Native.Nat.{ℕ, suc, _+_, _^_, _≤_, _<_}
 use mathlib.Core.List.{List, [], _∷_, _++_, append-assoc}
 use mathlib.Core.Path.{_≡_, refl, sym, ap, subst, _∙_}
@@ -7,7 +7,7 @@ use native.Mathlib.Omega.{arith}
 use lib.ListN.{length, take, drop, set, getD, length-append, length-take, length-drop}
 use lib.Seq.{sets, sets-eq, set-split, take-at, drop-append-add, drop-drop, append-snoc}
 use Rattle.listing_text.specs.Number.{bytes, space, newline, decimal}
-use Rattle.listing_text.specs.Answer.{wordText, lineText, answerOf, badText, placed, Puts, PutsWithin}
+use Rattle.listing_text.specs.Answer.{wordLength, lineLength, badLength, wordText, lineText, answerOf, badText, placed, Puts, PutsWithin}
 use Rattle.listing_text.proofs.NumberLaws.{decimal-length}
 
 pub placed-length : (xs : List ℕ) (at : ℕ) (s : List ℕ) → at + length s ≤ length xs → length (placed xs at s) ≡ length xs
@@ -60,14 +60,14 @@ puts-length {xs} {at} {s} h p = ap length (p .buffer) ∙ placed-length xs at s 
 -- ---- the texts of the listing
 
 -- the four bytes of a bad line
-pub puts-bad : (xs : List ℕ) (at : ℕ) → at + 4 ≤ length xs → PutsWithin 4 xs at badText (set (set (set (set xs at 98) (at + 1) 97) (at + 2) 100) (at + 3) 10) (at + 4)
+pub puts-bad : (xs : List ℕ) (at : ℕ) → at + 4 ≤ length xs → PutsWithin badLength xs at badText (set (set (set (set xs at 98) (at + 1) 97) (at + 2) 100) (at + 3) 10) (at + 4)
 unfolding badText bytes
 puts-bad xs at h =
     let e : sets xs at badText ≡ set (set (set (set xs at 98) (at + 1) 97) (at + 2) 100) (at + 3) 10 = simp towards-suc in
     record { puts = record { buffer = sym e ∙ sets-eq badText xs at h; end = refl }; short = omega arith }
 
 -- the digits of a number, and then a byte
-pub puts-word : (xs : List ℕ) (at n after : ℕ) {ys : List ℕ} {e : ℕ} → n < 2 ^ 32 → at + 11 ≤ length xs → Puts xs at (decimal n) ys e → PutsWithin 11 xs at (wordText n after) (set ys e after) (e + 1)
+pub puts-word : (xs : List ℕ) (at n after : ℕ) {ys : List ℕ} {e : ℕ} → n < 2 ^ 32 → at + 11 ≤ length xs → Puts xs at (decimal n) ys e → PutsWithin wordLength xs at (wordText n after) (set ys e after) (e + 1)
 puts-word xs at n after {ys} {e} h k p =
     let d : length (decimal n) ≤ 10 = decimal-length n h in
     let l : length ys ≡ length xs = puts-length (omega arith) p in
@@ -81,9 +81,9 @@ within-then h p q =
 
 -- the five numbers of an answer
 pub puts-answer : (xs : List ℕ) (at : ℕ) (a : List ℕ) {ys₁ ys₂ ys₃ ys₄ ys₅ : List ℕ} {e₁ e₂ e₃ e₄ e₅ : ℕ} → at + 55 ≤ length xs
-    → PutsWithin 11 xs at (wordText (getD a 0 0) space) ys₁ e₁ → PutsWithin 11 ys₁ e₁ (wordText (getD a 1 0) space) ys₂ e₂
-    → PutsWithin 11 ys₂ e₂ (wordText (getD a 2 0) space) ys₃ e₃ → PutsWithin 11 ys₃ e₃ (wordText (getD a 3 0) space) ys₄ e₄
-    → PutsWithin 11 ys₄ e₄ (wordText (getD a 4 0) newline) ys₅ e₅ → PutsWithin 55 xs at (lineText (answerOf a)) ys₅ e₅
+    → PutsWithin wordLength xs at (wordText (getD a 0 0) space) ys₁ e₁ → PutsWithin wordLength ys₁ e₁ (wordText (getD a 1 0) space) ys₂ e₂
+    → PutsWithin wordLength ys₂ e₂ (wordText (getD a 2 0) space) ys₃ e₃ → PutsWithin wordLength ys₃ e₃ (wordText (getD a 3 0) space) ys₄ e₄
+    → PutsWithin wordLength ys₄ e₄ (wordText (getD a 4 0) newline) ys₅ e₅ → PutsWithin lineLength xs at (lineText (answerOf a)) ys₅ e₅
 unfolding lineText
 puts-answer xs at a h w₁ w₂ w₃ w₄ w₅ =
     within-then h (within-then (omega arith) (within-then (omega arith) (within-then (omega arith) w₁ w₂) w₃) w₄) w₅

@@ -1,4 +1,4 @@
--- The command word: its letters as one number find the command that the word names, and a word that the machine refuses names none. Assumes nothing.
+-- The command word: its letters as one number find the command that the word names, and a word that the machine refuses names none.
 use Prim.Native.Nat.{ℕ, zero, suc, _+_, _*_, _/_, _%_, _^_, _≤_, _<_}
 use mathlib.Core.Bool.{Bool, true, false, not, cond, _&&_}
 use mathlib.Core.List.{List, [], _∷_, _++_, append-nil}

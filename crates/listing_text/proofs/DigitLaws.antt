@@ -1,4 +1,4 @@
--- An argument, digit by digit: what the machine makes of a word of digits, or the line is bad. Assumes nothing.
+-- An argument, digit by digit: what the machine makes of a word of digits, or the line is bad.
 use Prim.Native.Nat.{ℕ, _+_, _-_, _*_, _^_, _≤_, _<_}
 use mathlib.Core.Bool.{Bool, true, false}
 use mathlib.Core.List.{List, [], _∷_}

@@ -1,4 +1,4 @@
--- The limits of a command's arguments against the machine's tests: as many as the shape's count, each number below its own. Assumes nothing.
+-- The limits of a command's arguments against the machine's tests: as many as the shape's count, each number below its own.
 use Prim.Native.Nat.{ℕ, zero, suc, _%_, _^_, _≤_, _<_}
 use mathlib.Core.Bool.{Bool, true, false, cond, _&&_}
 use mathlib.Core.List.{List, [], _∷_}

@@ -11,9 +11,9 @@ use Rattle.model.specs.Lists.{all}
 use Rattle.listing_text.specs.Number.{space, isNumber, value}
 use Rattle.listing_text.specs.Call.{Parsed, bad, longer, wordsOf, asked, ofWords, parsed}
 use Rattle.listing_text.specs.Machine.{naming, started, grown, ended, fed, fedAll, packedFrom, commandOf, askedOf, requested, finished}
-use Rattle.listing_text.specs.Reading.{requestParsed, Reads, Finishes}
+use Rattle.listing_text.specs.Reading.{parsedOf, Reads, Finishes}
 use Rattle.listing_text.specs.declared.line.Line.{Line}
-use Rattle.listing_text.specs.declared.line.Request.{Request}
+use Rattle.listing_text.specs.declared.line.Asked.{Asked}
 use Rattle.listing_text.specs.declared.line.Command.{Command}
 use Rattle.listing_text.proofs.Bools.{cond-same}
 use Rattle.listing_text.proofs.MachineLaws.{ended-unnamed, grownAll, wordsFed, word-bad}
@@ -94,7 +94,7 @@ reads-parsed bs h = ap finished h ∙ parses bs
 
 -- ---- the end of the line
 
-pub finishes : {l : Line} {r : Request} → requestParsed r ≡ finished l → Finishes l r
+pub finishes : {l : Line} {r : Asked} → parsedOf r ≡ finished l → Finishes l r
 finishes e = record { machine = e; reads = λ bs h. e ∙ reads-parsed bs h }
 
 -- w is the line with its last word ended

@@ -1,4 +1,4 @@
--- The cases of the machine's steps, as equations: what the code does at each byte, and what becomes of a line that is bad. Assumes nothing.
+-- The cases of the machine's steps, as equations: what the code does at each byte, and what becomes of a line that is bad.
 use Prim.Native.Nat.{ℕ, _+_, _-_, _*_, _/_, _^_, _≤_, _<_}
 use mathlib.Core.Bool.{true, false}
 use mathlib.Core.List.{List, [], _∷_, _++_}

@@ -1,4 +1,4 @@
--- Decimal numbers: the digits of a number have its value, none in front is 0, and a number of 32 bits has at most ten. Assumes nothing.
+-- Decimal numbers: the digits of a number have its value, none in front is 0, and a number of 32 bits has at most ten.
 use Prim.Native.Nat.{ℕ, zero, suc, _+_, _-_, _*_, _/_, _%_, _^_, _≤_, _<_}
 use mathlib.Core.Bool.{true}
 use mathlib.Core.List.{List, [], _∷_, _++_}

@@ -1,4 +1,4 @@
--- The limits of a command's arguments: at most four, none above 64 bits, and what does not fit asks for nothing. Assumes nothing.
+-- The limits of a command's arguments: at most four, none above 64 bits, and what does not fit asks for nothing.
 use Prim.Native.Nat.{ℕ, _+_, _-_, _^_, _≤_}
 use mathlib.Core.Bool.{Bool, true, false}
 use mathlib.Core.List.{List, [], _∷_, _++_}

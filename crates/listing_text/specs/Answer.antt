@@ -1,10 +1,20 @@
--- The line that the listing program prints for an answer or for a bad line, and a text put into a buffer. Assumes nothing.
-use Prim.Native.Nat.{ℕ, _+_, _≤_}
+-- The line that the listing program prints for an answer or for a bad line, and a text put into a buffer.
+use Prim.Native.Nat.{ℕ, _+_, _*_, _≤_}
 use mathlib.Core.List.{List, [], _∷_, _++_}
 use mathlib.Core.Path.{_≡_}
 use lib.ListN.{length, take, drop, getD}
 use Rattle.model.specs.Rules.{Answer}
 use Rattle.listing_text.specs.Number.{bytes, space, newline, decimal}
+
+-- the most bytes that a number of 32 bits takes with the byte after it, ten digits and one; that five of them take; and that bad takes with its newline
+abbrev pub wordLength : ℕ
+wordLength = 10 + 1
+
+abbrev pub lineLength : ℕ
+lineLength = 5 * wordLength
+
+abbrev pub badLength : ℕ
+badLength = 3 + 1
 
 -- a number and the byte after it
 abbrev pub wordText : ℕ → ℕ → List ℕ

@@ -1,5 +1,4 @@
 -- The call that a line of a listing asks for (document 01, "A listing, and edges"): `parsed`. A line is a list of bytes, without its newline.
--- Assumes nothing.
 use Prim.Native.Nat.{ℕ, _^_}
 use mathlib.Core.Bool.{Bool, true, false, cond, _&&_}
 use mathlib.Core.List.{List, [], _∷_, map}

@@ -1,12 +1,12 @@
 -- The machine that the code of `line` is: what a line has been read as, byte by byte. That it reads what `parsed` says is a theorem (`parses` of
--- proofs/LineLaws.antt), so nothing here needs to be believed. Assumes nothing.
+-- proofs/LineLaws.antt), so nothing here needs to be believed.
 use Prim.Native.Nat.{ℕ, suc, _+_, _-_, _*_, _/_, _%_, _^_, _≤_}
 use mathlib.Core.Bool.{Bool, true, false, cond, _&&_}
 use mathlib.Core.List.{List, [], _∷_}
 use mathlib.Core.Path.{_≡_}
 use lib.ListN.{take, set, getD}
 use lib.Dec.{leb, ltb, eqb}
-use Rattle.listing_text.specs.Number.{space}
+use Rattle.listing_text.specs.Number.{space, digitZero, digitNine, base}
 use Rattle.listing_text.specs.Call.{Parsed, bad, Named, names, word, code, limits, fit, callOf}
 use Rattle.listing_text.specs.declared.line.Command.{Command}
 use Rattle.listing_text.specs.declared.line.Command.the-variants.{Unknown}
@@ -44,17 +44,35 @@ withArgument l = record { bad = l .bad; named = l .named; word = l .word; digits
 abbrev pub withName : Line → Line
 withName l = record { bad = l .bad; named = true; word = l .word; digits = l .digits; value = l .value; given = l .given; values = l .values }
 
+-- the bytes of the letters a and z, the base in which letters are one number, and the bound below which one more letter fits into 64 bits
+abbrev pub letterA : ℕ
+letterA = 97
+
+abbrev pub letterZ : ℕ
+letterZ = 122
+
+abbrev pub letterBase : ℕ
+letterBase = 256
+
+abbrev pub seventh : ℕ
+seventh = 2 ^ 48
+
+-- how many arguments a line has room for
+abbrev pub room : ℕ
+room = 4
+
 -- a letter of the command
 unfoldable pub lettered : Line → ℕ → Line
 lettered l b =
-    cond (ltb b 97) (refused l) (cond (ltb 122 b) (refused l) (cond (ltb (l .word) (2 ^ 48)) (withWord l (l .word * 256 + b)) (refused l)))
+    cond (ltb b letterA) (refused l)
+    (cond (ltb letterZ b) (refused l) (cond (ltb (l .word) seventh) (withWord l (l .word * letterBase + b)) (refused l)))
 
 -- a digit of an argument
 unfoldable pub counted : Line → ℕ → Line
 counted l b =
-    cond (ltb b 48) (refused l)
-    (cond (ltb 57 b) (refused l)
-    (cond (leb (l .value) ((2 ^ 64 - 1 - (b - 48)) / 10)) (withValue l (l .value * 10 + (b - 48))) (refused l)))
+    cond (ltb b digitZero) (refused l)
+    (cond (ltb digitNine b) (refused l)
+    (cond (leb (l .value) ((code - 1 - (b - digitZero)) / base)) (withValue l (l .value * base + (b - digitZero))) (refused l)))
 
 -- a byte that is no space
 unfoldable pub grown : Line → ℕ → Line
@@ -62,7 +80,7 @@ grown l b = cond (l .bad) l (cond (l .named) (counted l b) (lettered l b))
 
 -- the end of an argument
 unfoldable pub argued : Line → Line
-argued l = cond (l .digits) (cond (ltb (l .given) 4) (withArgument l) (refused l)) (refused l)
+argued l = cond (l .digits) (cond (ltb (l .given) room) (withArgument l) (refused l)) (refused l)
 
 -- the end of a word
 unfoldable pub ended : Line → Line
@@ -81,7 +99,7 @@ fedAll l (b ∷ bs) = fedAll (fed l b) bs
 -- letters in base 256, after those of p
 unfoldable pub packedFrom : ℕ → List ℕ → ℕ
 packedFrom p [] = p
-packedFrom p (b ∷ w) = packedFrom (p * 256 + b) w
+packedFrom p (b ∷ w) = packedFrom (p * letterBase + b) w
 
 -- the command of those letters
 unfoldable pub lookupPacked : ℕ → List Named → Command
@@ -97,7 +115,7 @@ coded c = eqb (getD (limits c) 1 0) code
 
 -- the first n of vs are what the command takes
 unfoldable pub within : Command → ℕ → List ℕ → Bool
-within c n vs = leb n 4 && fit (limits c) (take n vs)
+within c n vs = leb n room && fit (limits c) (take n vs)
 
 -- the call of a command with the first n of vs
 unfoldable pub askedOf : Command → ℕ → List ℕ → Parsed
@@ -122,5 +140,5 @@ limitsOf n s = take n (word ∷ suc s ∷ word ∷ word ∷ [])
 
 -- the shape r gives the limits of the command c
 pub record Shapes (c : Command) (r : Shape) : Type 0 where
-  pub few : r .0 ≤ 4
+  pub few : r .0 ≤ room
   pub limits : limits c ≡ limitsOf (r .0) (r .1)

@@ -1,4 +1,4 @@
--- Bytes of text, and decimal numbers: read by value, written with no zero in front. Assumes nothing.
+-- Bytes of text, and decimal numbers: read by value, written with no zero in front.
 use Prim.Native.Nat.{ℕ, zero, suc, _+_, _-_, _*_, _/_, _%_}
 use Prim.Native.Char.{code}
 use Prim.Native.String.{String, [] as []ˢ, _∷_ as _∷ˢ_}
@@ -18,8 +18,18 @@ space = 32
 abbrev pub newline : ℕ
 newline = 10
 
+-- the bytes of the digits 0 and 9
+abbrev pub digitZero : ℕ
+digitZero = 48
+
+abbrev pub digitNine : ℕ
+digitNine = 57
+
+abbrev pub base : ℕ
+base = 10
+
 abbrev pub isDigit : ℕ → Bool
-isDigit b = leb 48 b && leb b 57
+isDigit b = leb digitZero b && leb b digitNine
 
 -- one digit or more, and nothing else
 unfoldable pub isNumber : List ℕ → Bool
@@ -28,17 +38,17 @@ isNumber w = not (isEmpty w) && all isDigit w
 -- the value of digits that follow a number of value v
 unfoldable pub valueFrom : ℕ → List ℕ → ℕ
 valueFrom v [] = v
-valueFrom v (b ∷ w) = valueFrom (v * 10 + (b - 48)) w
+valueFrom v (b ∷ w) = valueFrom (v * base + (b - digitZero)) w
 
 unfoldable pub value : List ℕ → ℕ
 value w = valueFrom 0 w
 
 -- the digits of n; at most k stand after the first
 unfoldable pub decimalIn : ℕ → ℕ → List ℕ
-decimalIn zero n = (n + 48) ∷ []
+decimalIn zero n = (n + digitZero) ∷ []
 decimalIn (suc k) n =
-    let more = decimalIn k (n / 10) ++ ((n % 10 + 48) ∷ []) in
-    cond (ltb n 10) ((n + 48) ∷ []) more
+    let more = decimalIn k (n / base) ++ ((n % base + digitZero) ∷ []) in
+    cond (ltb n base) ((n + digitZero) ∷ []) more
 
 -- the digits of n, no zero in front
 unfoldable pub decimal : ℕ → List ℕ

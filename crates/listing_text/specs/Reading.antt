@@ -1,4 +1,4 @@
--- What the functions of `line` ensure: which call a request is, what has been read of a line, and which part of a block belongs to it. Assumes nothing.
+-- What the functions of `line` ensure: which call a line asks for, what has been read of a line, and which part of a block belongs to it.
 use Prim.Native.Nat.{ℕ, _+_, _≤_, _<_}
 use mathlib.Core.Bool.{cond}
 use mathlib.Core.List.{List, [], _∷_, _++_}
@@ -6,33 +6,19 @@ use mathlib.Core.Path.{_≡_}
 use lib.ListN.{length, drop}
 use lib.Dec.{eqb}
 use Rattle.model.specs.Lists.{member}
-use Rattle.model.specs.Rules.{add, replace, delete, start, pass, begin, end, step, clock, on, off, hand-back, awaited}
-use Rattle.model.specs.Calls.{set-up, on-state}
+use Rattle.calls.specs.Calls.{callOf}
 use Rattle.listing_text.specs.Number.{newline}
 use Rattle.listing_text.specs.Call.{Parsed, bad, call, parsed}
 use Rattle.listing_text.specs.Machine.{started, fed, fedAll, finished}
 use Rattle.listing_text.specs.declared.line.Line.{Line}
 use Rattle.listing_text.specs.declared.line.Fed.{Fed}
-use Rattle.listing_text.specs.declared.line.Request.{Request}
-use Rattle.listing_text.specs.declared.line.Request.the-variants.{Bad, Setup, Add, Replace, Delete, Begin, End, Start, Step, Pass, Clock, On, Off, HandBack, Awaited}
+use Rattle.listing_text.specs.declared.line.Asked.{Asked}
+use Rattle.listing_text.specs.declared.line.Asked.the-variants.{Bad, Call}
 
--- what a request asks for
-unfoldable pub requestParsed : Request → Parsed
-requestParsed Bad = bad
-requestParsed (Setup c p n) = call (set-up c p n)
-requestParsed (Add i c d m) = call (on-state (add i c d m))
-requestParsed (Replace i c d m) = call (on-state (replace i c d m))
-requestParsed (Delete i c) = call (on-state (delete i c))
-requestParsed (Begin i) = call (on-state (begin i))
-requestParsed (End i) = call (on-state (end i))
-requestParsed (Start i c) = call (on-state (start i c))
-requestParsed (Step i) = call (on-state (step i))
-requestParsed (Pass i k) = call (on-state (pass i k))
-requestParsed (Clock i) = call (on-state (clock i))
-requestParsed (On i) = call (on-state (on i))
-requestParsed (Off i) = call (on-state (off i))
-requestParsed (HandBack i) = call (on-state (hand-back i))
-requestParsed Awaited = call (on-state awaited)
+-- the call of the model that a line asks for, or bad
+unfoldable pub parsedOf : Asked → Parsed
+parsedOf Bad = bad
+parsedOf (Call k) = call (callOf k)
 
 -- the line l is what has been read of the bytes bs
 abbrev pub Reads : Line → List ℕ → Type 0
@@ -44,9 +30,9 @@ pub record Feeds (l : Line) (b : ℕ) (r : Line) : Type 0 where
   pub reads : (bs : List ℕ) → Reads l bs → Reads r (bs ++ b ∷ [])
 
 -- r is what the line l asks for
-pub record Finishes (l : Line) (r : Request) : Type 0 where
-  pub machine : requestParsed r ≡ finished l
-  pub reads : (bs : List ℕ) → Reads l bs → requestParsed r ≡ parsed bs
+pub record Finishes (l : Line) (r : Asked) : Type 0 where
+  pub machine : parsedOf r ≡ finished l
+  pub reads : (bs : List ℕ) → Reads l bs → parsedOf r ≡ parsed bs
 
 -- the bytes before the first newline; all where there is none
 unfoldable pub firstLine : List ℕ → List ℕ

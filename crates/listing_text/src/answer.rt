@@ -2,7 +2,7 @@
 ghost use Prim.Native.Nat.{_+_, _≤_};
 ghost use lib.ListN.{length};
 ghost use Rattle.listing_text.specs.Number.{decimal};
-ghost use Rattle.listing_text.specs.Answer.{answerOf, wordText, lineText, badText, Puts, PutsWithin};
+ghost use Rattle.listing_text.specs.Answer.{wordLength, lineLength, badLength, answerOf, wordText, lineText, badText, Puts, PutsWithin};
 use crate::NEWLINE;
 use crate::SPACE;
 
@@ -23,8 +23,8 @@ fn put_number(out: &mut [u8], at: usize, n: u32) -> usize
 
 // A number and the byte that follows it.
 fn put_word(out: &mut [u8], at: usize, n: u32, after: u8) -> usize
-    requires { ⌜ at + 11 ≤ length (now out) ⌝ }
-    ensures { λ r. ⌜ PutsWithin 11 (now (out .entry)) at (wordText n after) (now (out .exit)) r ⌝ }
+    requires { ⌜ at + wordLength ≤ length (now out) ⌝ }
+    ensures { λ r. ⌜ PutsWithin wordLength (now (out .entry)) at (wordText n after) (now (out .exit)) r ⌝ }
 {
     let end = put_number(out, at, n);
     out[end] = after;
@@ -33,8 +33,8 @@ fn put_word(out: &mut [u8], at: usize, n: u32, after: u8) -> usize
 
 // The line of an answer, at most five numbers of ten digits with a byte after each.
 pub fn put_answer(out: &mut [u8], at: usize, answer: [u32; 5]) -> usize
-    requires { ⌜ at + 55 ≤ length (now out) ⌝ }
-    ensures { λ r. ⌜ PutsWithin 55 (now (out .entry)) at (lineText (answerOf answer)) (now (out .exit)) r ⌝ }
+    requires { ⌜ at + lineLength ≤ length (now out) ⌝ }
+    ensures { λ r. ⌜ PutsWithin lineLength (now (out .entry)) at (lineText (answerOf answer)) (now (out .exit)) r ⌝ }
 {
     let first = put_word(out, at, answer[0], SPACE);
     let second = put_word(out, first, answer[1], SPACE);
@@ -45,8 +45,8 @@ pub fn put_answer(out: &mut [u8], at: usize, answer: [u32; 5]) -> usize
 
 // The line of a line that is no call.
 pub fn put_bad(out: &mut [u8], at: usize) -> usize
-    requires { ⌜ at + 4 ≤ length (now out) ⌝ }
-    ensures { λ r. ⌜ PutsWithin 4 (now (out .entry)) at badText (now (out .exit)) r ⌝ }
+    requires { ⌜ at + badLength ≤ length (now out) ⌝ }
+    ensures { λ r. ⌜ PutsWithin badLength (now (out .entry)) at badText (now (out .exit)) r ⌝ }
 {
     out[at] = b'b';
     out[at + 1] = b'a';

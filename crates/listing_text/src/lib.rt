@@ -4,9 +4,9 @@ mod line;
 
 pub use answer::put_answer;
 pub use answer::put_bad;
+pub use line::Asked;
 pub use line::Fed;
 pub use line::Line;
-pub use line::Request;
 pub use line::feed;
 pub use line::feed_until_newline;
 pub use line::finish;

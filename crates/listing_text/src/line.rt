@@ -1,19 +1,32 @@
 // A line of a listing: what has been read of it so far, by value, and what it asks for at its end.
 ghost use mathlib.Core.Path.{_≡_};
-ghost use Prim.Native.Nat.{suc, _<_, _%_, _^_};
+ghost use Prim.Native.Nat.{suc, _<_, _%_};
 ghost use mathlib.Core.List.{[]};
 ghost use lib.ListN.{getD};
-ghost use Rattle.listing_text.specs.Machine.{refused, lettered, counted, argued, ended, grown, commandOf, limitsOf, Shapes, within, askedOf, made};
-ghost use Rattle.listing_text.specs.Reading.{Reads, requestParsed, Feeds, Finishes, BlockFeeds};
+ghost use Rattle.listing_text.specs.Call.{word};
+ghost use Rattle.listing_text.specs.Machine.{refused, lettered, counted, argued, ended, grown, commandOf, limitsOf, room, Shapes, within, askedOf, made};
+ghost use Rattle.listing_text.specs.Reading.{Reads, parsedOf, Feeds, Finishes, BlockFeeds};
 use crate::NEWLINE;
 use crate::SPACE;
+use calls::Call;
+use calls::Op;
 
 // The largest number of 32 bits, and of 64.
 const WORD: u64 = 4294967295;
 
 const CODE: u64 = 18446744073709551615;
 
-// Below it a command's letters leave room for one more: no command has more than seven.
+// The byte of the digit 0, and the base of numbers.
+const ZERO: u64 = 48;
+
+const BASE: u64 = 10;
+
+// How many arguments a line has room for.
+const ROOM: usize = 4;
+
+// The base in which a command's letters are one number. Below SEVENTH they leave room for one more: no command has more than seven.
+const LETTER_BASE: u64 = 256;
+
 const SEVENTH: u64 = 0x1_0000_0000_0000;
 
 // The letters of the commands, in base 256.
@@ -58,7 +71,7 @@ pub struct Line {
     value: u64,
     // How many arguments have ended, and their values.
     given: usize,
-    values: [u64; 4],
+    values: [u64; ROOM],
 }
 
 // The first word of a line.
@@ -83,28 +96,10 @@ pub enum Command {
 // What a command's arguments are: how many, and the largest that the second may be. The others have 32 bits.
 struct Shape(usize, u64);
 
-// What a line asks for. The first argument is the lane, but for Setup.
-pub enum Request {
+// What a line asks for.
+pub enum Asked {
     Bad,
-    // cabinets, lanes per cabinet, slots
-    Setup(u32, u32, u32),
-    // lane, code, deposit, material
-    Add(u32, u64, u32, u32),
-    Replace(u32, u64, u32, u32),
-    // lane, code
-    Delete(u32, u64),
-    Begin(u32),
-    End(u32),
-    // lane, code
-    Start(u32, u64),
-    Step(u32),
-    // lane, kind
-    Pass(u32, u32),
-    Clock(u32),
-    On(u32),
-    Off(u32),
-    HandBack(u32),
-    Awaited,
+    Call(Call),
 }
 
 // A part of a block, fed: the line, where to go on, and whether a newline ended the line.
@@ -125,7 +120,7 @@ pub fn start() -> Line
         digits: false,
         value: 0,
         given: 0,
-        values: [0; 4],
+        values: [0; ROOM],
     }
 }
 
@@ -166,15 +161,15 @@ pub fn feed_until_newline(line: Line, block: &[u8], from: usize) -> Fed
 }
 
 // What the line asks for: all of it has been fed.
-pub fn finish(line: Line) -> Request
+pub fn finish(line: Line) -> Asked
     ensures { λ r. ⌜ Finishes line r ⌝ }
 {
     let whole = end_word(line);
     if whole.bad {
-        return Request::Bad;
+        return Asked::Bad;
     }
     let values = whole.values;
-    request_of(command_of(whole.word), whole.given, values)
+    asked_of(command_of(whole.word), whole.given, values)
 }
 
 fn refuse(line: Line) -> Line
@@ -197,7 +192,7 @@ fn add_letter(line: Line, byte: u8) -> Line
     }
     if line.word < SEVENTH {
         let mut next = line;
-        next.word = line.word * 256 + byte as u64;
+        next.word = line.word * LETTER_BASE + byte as u64;
         next
     } else {
         refuse(line)
@@ -214,11 +209,11 @@ fn add_digit(line: Line, byte: u8) -> Line
     if b'9' < byte {
         return refuse(line);
     }
-    let digit = byte as u64 - 48;
-    if line.value <= (CODE - digit) / 10 {
+    let digit = byte as u64 - ZERO;
+    if line.value <= (CODE - digit) / BASE {
         let mut next = line;
         next.digits = true;
-        next.value = line.value * 10 + digit;
+        next.value = line.value * BASE + digit;
         next
     } else {
         refuse(line)
@@ -245,7 +240,7 @@ fn end_argument(line: Line) -> Line
 {
     let i = line.given;
     if line.digits {
-        if i < 4 {
+        if i < ROOM {
             let mut next = line;
             next.values[i] = line.value;
             next.given = i + 1;
@@ -322,13 +317,13 @@ fn shape_of(command: Command) -> Shape
 
 // The largest that argument i may be.
 fn largest(shape: Shape, i: usize) -> u64
-    ensures { λ r. ⌜ (i < 4 → suc r ≡ getD (limitsOf 4 (shape .1)) i 0) ⌝ }
+    ensures { λ r. ⌜ (i < room → suc r ≡ getD (limitsOf room (shape .1)) i 0) ⌝ }
 {
     if i == 1 { shape.1 } else { WORD }
 }
 
 // As many arguments as the command takes, each within its width.
-fn fits(command: Command, given: usize, values: [u64; 4]) -> bool
+fn fits(command: Command, given: usize, values: [u64; ROOM]) -> bool
     ensures { λ r. ⌜ r ≡ within command given values ⌝ }
 {
     let shape = shape_of(command);
@@ -347,23 +342,24 @@ fn fits(command: Command, given: usize, values: [u64; 4]) -> bool
 
 // The low 32 bits.
 fn low(x: u64) -> u32
-    ensures { λ r. ⌜ r ≡ x % 2 ^ 32 ⌝ }
+    ensures { λ r. ⌜ r ≡ x % word ⌝ }
 {
-    (x % 4294967296) as u32
+    (x % (WORD + 1)) as u32
 }
 
-fn request_of(command: Command, given: usize, values: [u64; 4]) -> Request
-    ensures { λ r. ⌜ requestParsed r ≡ askedOf command given values ⌝ }
+fn asked_of(command: Command, given: usize, values: [u64; ROOM]) -> Asked
+    ensures { λ r. ⌜ parsedOf r ≡ askedOf command given values ⌝ }
 {
     if fits(command, given, values) {
-        make_request(command, values)
+        make_asked(command, values)
     } else {
-        Request::Bad
+        Asked::Bad
     }
 }
 
-fn make_request(command: Command, values: [u64; 4]) -> Request
-    ensures { λ r. ⌜ requestParsed r ≡ made command values ⌝ }
+// A call of a command, which may be unknown.
+fn make_asked(command: Command, values: [u64; ROOM]) -> Asked
+    ensures { λ r. ⌜ parsedOf r ≡ made command values ⌝ }
 {
     let code = values[1];
     let material = low(values[3]);
@@ -371,20 +367,20 @@ fn make_request(command: Command, values: [u64; 4]) -> Request
     let kind = low(code);
     let lane = low(values[0]);
     match command {
-        Command::Setup => Request::Setup(lane, kind, deposit),
-        Command::Add => Request::Add(lane, code, deposit, material),
-        Command::Replace => Request::Replace(lane, code, deposit, material),
-        Command::Delete => Request::Delete(lane, code),
-        Command::Begin => Request::Begin(lane),
-        Command::End => Request::End(lane),
-        Command::Start => Request::Start(lane, code),
-        Command::Step => Request::Step(lane),
-        Command::Pass => Request::Pass(lane, kind),
-        Command::Clock => Request::Clock(lane),
-        Command::On => Request::On(lane),
-        Command::Off => Request::Off(lane),
-        Command::HandBack => Request::HandBack(lane),
-        Command::Awaited => Request::Awaited,
-        Command::Unknown => Request::Bad,
+        Command::Setup => Asked::Call(Call::SetUp(lane, kind, deposit)),
+        Command::Add => Asked::Call(Call::OnState(Op::Add(lane, code, deposit, material))),
+        Command::Replace => Asked::Call(Call::OnState(Op::Replace(lane, code, deposit, material))),
+        Command::Delete => Asked::Call(Call::OnState(Op::Delete(lane, code))),
+        Command::Begin => Asked::Call(Call::OnState(Op::Begin(lane))),
+        Command::End => Asked::Call(Call::OnState(Op::End(lane))),
+        Command::Start => Asked::Call(Call::OnState(Op::Start(lane, code))),
+        Command::Step => Asked::Call(Call::OnState(Op::Step(lane))),
+        Command::Pass => Asked::Call(Call::OnState(Op::Pass(lane, kind))),
+        Command::Clock => Asked::Call(Call::OnState(Op::Clock(lane))),
+        Command::On => Asked::Call(Call::OnState(Op::On(lane))),
+        Command::Off => Asked::Call(Call::OnState(Op::Off(lane))),
+        Command::HandBack => Asked::Call(Call::OnState(Op::HandBack(lane))),
+        Command::Awaited => Asked::Call(Call::OnState(Op::Awaited)),
+        Command::Unknown => Asked::Bad,
     }
 }

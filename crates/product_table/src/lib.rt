@@ -6,8 +6,10 @@ ghost use lib.ListN.{length, drop};
 ghost use Rattle.model.specs.Rules.{add, replace, delete, begin, end, start, step, pass, clock, on, off, hand-back, awaited};
 ghost use Rattle.model.specs.Calls.{set-up, on-state};
 ghost use Rattle.access.specs.Contract.{five};
-ghost use Rattle.table.specs.Ways.{callOf};
+ghost use Rattle.calls.specs.Calls.{callOf};
 ghost use Rattle.product_table.specs.Called.{answerLength, answerWords, Called};
+use calls::Call;
+use calls::Op;
 
 // How many words an answer has.
 const ANSWER_LENGTH: usize = 5;
@@ -28,7 +30,7 @@ fn write_answer(answer: &mut [u32], r: access::Answer)
 }
 
 // Any call: with fewer than five words for the answer nothing is done.
-fn answer_call(memory: &mut [u32], answer: &mut [u32], k: table::Call) -> u32
+fn answer_call(memory: &mut [u32], answer: &mut [u32], k: Call) -> u32
     ensures { λ s. ⌜ Called (callOf k) (now (memory .entry)) (now (answer .entry)) (now (memory .exit)) (now (answer .exit)) s ⌝ }
 {
     if answer.len() < ANSWER_LENGTH {
@@ -50,7 +52,7 @@ pub extern "C" fn pt_setup(
 ) -> u32
     ensures { λ s. ⌜ Called (set-up cabinets lanes slots) (now (memory .entry)) (now (answer .entry)) (now (memory .exit)) (now (answer .exit)) s ⌝ }
 {
-    answer_call(memory, answer, table::Call::SetUp(cabinets, lanes, slots))
+    answer_call(memory, answer, Call::SetUp(cabinets, lanes, slots))
 }
 
 // Enters a record for a code that has none.
@@ -68,7 +70,7 @@ pub extern "C" fn pt_add(
     answer_call(
         memory,
         answer,
-        table::Call::Add(lane, code, deposit, material),
+        Call::OnState(Op::Add(lane, code, deposit, material)),
     )
 }
 
@@ -87,7 +89,7 @@ pub extern "C" fn pt_replace(
     answer_call(
         memory,
         answer,
-        table::Call::Replace(lane, code, deposit, material),
+        Call::OnState(Op::Replace(lane, code, deposit, material)),
     )
 }
 
@@ -96,7 +98,7 @@ pub extern "C" fn pt_replace(
 pub extern "C" fn pt_delete(memory: &mut [u32], answer: &mut [u32], lane: u32, code: u64) -> u32
     ensures { λ s. ⌜ Called (on-state (delete lane code)) (now (memory .entry)) (now (answer .entry)) (now (memory .exit)) (now (answer .exit)) s ⌝ }
 {
-    answer_call(memory, answer, table::Call::Delete(lane, code))
+    answer_call(memory, answer, Call::OnState(Op::Delete(lane, code)))
 }
 
 // Begins a read-side section.
@@ -104,7 +106,7 @@ pub extern "C" fn pt_delete(memory: &mut [u32], answer: &mut [u32], lane: u32, c
 pub extern "C" fn pt_begin(memory: &mut [u32], answer: &mut [u32], lane: u32) -> u32
     ensures { λ s. ⌜ Called (on-state (begin lane)) (now (memory .entry)) (now (answer .entry)) (now (memory .exit)) (now (answer .exit)) s ⌝ }
 {
-    answer_call(memory, answer, table::Call::Begin(lane))
+    answer_call(memory, answer, Call::OnState(Op::Begin(lane)))
 }
 
 // Ends the lane's read-side section.
@@ -112,7 +114,7 @@ pub extern "C" fn pt_begin(memory: &mut [u32], answer: &mut [u32], lane: u32) ->
 pub extern "C" fn pt_end(memory: &mut [u32], answer: &mut [u32], lane: u32) -> u32
     ensures { λ s. ⌜ Called (on-state (end lane)) (now (memory .entry)) (now (answer .entry)) (now (memory .exit)) (now (answer .exit)) s ⌝ }
 {
-    answer_call(memory, answer, table::Call::End(lane))
+    answer_call(memory, answer, Call::OnState(Op::End(lane)))
 }
 
 // Starts a lookup.
@@ -120,7 +122,7 @@ pub extern "C" fn pt_end(memory: &mut [u32], answer: &mut [u32], lane: u32) -> u
 pub extern "C" fn pt_start(memory: &mut [u32], answer: &mut [u32], lane: u32, code: u64) -> u32
     ensures { λ s. ⌜ Called (on-state (start lane code)) (now (memory .entry)) (now (answer .entry)) (now (memory .exit)) (now (answer .exit)) s ⌝ }
 {
-    answer_call(memory, answer, table::Call::Start(lane, code))
+    answer_call(memory, answer, Call::OnState(Op::Start(lane, code)))
 }
 
 // One step of the lane's lookup.
@@ -128,7 +130,7 @@ pub extern "C" fn pt_start(memory: &mut [u32], answer: &mut [u32], lane: u32, co
 pub extern "C" fn pt_step(memory: &mut [u32], answer: &mut [u32], lane: u32) -> u32
     ensures { λ s. ⌜ Called (on-state (step lane)) (now (memory .entry)) (now (answer .entry)) (now (memory .exit)) (now (answer .exit)) s ⌝ }
 {
-    answer_call(memory, answer, table::Call::Step(lane))
+    answer_call(memory, answer, Call::OnState(Op::Step(lane)))
 }
 
 // A quiescent state of the lane.
@@ -136,7 +138,7 @@ pub extern "C" fn pt_step(memory: &mut [u32], answer: &mut [u32], lane: u32) -> 
 pub extern "C" fn pt_pass(memory: &mut [u32], answer: &mut [u32], lane: u32, kind: u32) -> u32
     ensures { λ s. ⌜ Called (on-state (pass lane kind)) (now (memory .entry)) (now (answer .entry)) (now (memory .exit)) (now (answer .exit)) s ⌝ }
 {
-    answer_call(memory, answer, table::Call::Pass(lane, kind))
+    answer_call(memory, answer, Call::OnState(Op::Pass(lane, kind)))
 }
 
 // Drives grace periods on from one lane.
@@ -144,7 +146,7 @@ pub extern "C" fn pt_pass(memory: &mut [u32], answer: &mut [u32], lane: u32, kin
 pub extern "C" fn pt_clock(memory: &mut [u32], answer: &mut [u32], lane: u32) -> u32
     ensures { λ s. ⌜ Called (on-state (clock lane)) (now (memory .entry)) (now (answer .entry)) (now (memory .exit)) (now (answer .exit)) s ⌝ }
 {
-    answer_call(memory, answer, table::Call::Clock(lane))
+    answer_call(memory, answer, Call::OnState(Op::Clock(lane)))
 }
 
 // Puts a lane online.
@@ -152,7 +154,7 @@ pub extern "C" fn pt_clock(memory: &mut [u32], answer: &mut [u32], lane: u32) ->
 pub extern "C" fn pt_on(memory: &mut [u32], answer: &mut [u32], lane: u32) -> u32
     ensures { λ s. ⌜ Called (on-state (on lane)) (now (memory .entry)) (now (answer .entry)) (now (memory .exit)) (now (answer .exit)) s ⌝ }
 {
-    answer_call(memory, answer, table::Call::On(lane))
+    answer_call(memory, answer, Call::OnState(Op::On(lane)))
 }
 
 // Puts a lane offline.
@@ -160,7 +162,7 @@ pub extern "C" fn pt_on(memory: &mut [u32], answer: &mut [u32], lane: u32) -> u3
 pub extern "C" fn pt_off(memory: &mut [u32], answer: &mut [u32], lane: u32) -> u32
     ensures { λ s. ⌜ Called (on-state (off lane)) (now (memory .entry)) (now (answer .entry)) (now (memory .exit)) (now (answer .exit)) s ⌝ }
 {
-    answer_call(memory, answer, table::Call::Off(lane))
+    answer_call(memory, answer, Call::OnState(Op::Off(lane)))
 }
 
 // Reclaims one retired slot.
@@ -168,7 +170,7 @@ pub extern "C" fn pt_off(memory: &mut [u32], answer: &mut [u32], lane: u32) -> u
 pub extern "C" fn pt_hand_back(memory: &mut [u32], answer: &mut [u32], lane: u32) -> u32
     ensures { λ s. ⌜ Called (on-state (hand-back lane)) (now (memory .entry)) (now (answer .entry)) (now (memory .exit)) (now (answer .exit)) s ⌝ }
 {
-    answer_call(memory, answer, table::Call::HandBack(lane))
+    answer_call(memory, answer, Call::OnState(Op::HandBack(lane)))
 }
 
 // Counts the pending lanes, the free slots and the retired ones.
@@ -176,5 +178,5 @@ pub extern "C" fn pt_hand_back(memory: &mut [u32], answer: &mut [u32], lane: u32
 pub extern "C" fn pt_awaited(memory: &mut [u32], answer: &mut [u32]) -> u32
     ensures { λ s. ⌜ Called (on-state awaited) (now (memory .entry)) (now (answer .entry)) (now (memory .exit)) (now (answer .exit)) s ⌝ }
 {
-    answer_call(memory, answer, table::Call::Awaited)
+    answer_call(memory, answer, Call::OnState(Op::Awaited))
 }

@@ -1,4 +1,4 @@
--- `serve_all` is safe and ends: the measure is the number of turns that are left. The loop's invariant: the memory keeps its length. Assumes nothing.
+-- `serve_all` is safe and ends: the measure is the number of turns that are left. The loop's invariant: the memory keeps its length.
 use mathlib.Core.Path.{_≡_, refl, _∙_}
 use lib.ListN.{length}
 use borrow.Author.Needs.{needs}

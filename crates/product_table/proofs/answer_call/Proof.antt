@@ -1,4 +1,4 @@
--- `answer_call` meets its contract: a law for each way out. Assumes nothing.
+-- `answer_call` meets its contract: a law for each way out.
 use Rattle.product_table.specs.Called.{too-short, answered}
 use borrow.Author.Needs.{needs}
 use Rattle.product_table.proofs.answer_call.Statement.{statement}

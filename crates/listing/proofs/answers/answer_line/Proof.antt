@@ -1,4 +1,4 @@
--- `answers::answer_line` meets its contract: what the line asks for is what its bytes say. Assumes nothing.
+-- What the line asks for is what its bytes say.
 use Rattle.listing.proofs.AnswerLaws.{answers-line}
 use borrow.Author.Needs.{needs}
 use Rattle.listing.proofs.answers.answer_line.Statement.{statement}
@@ -6,9 +6,6 @@ use Rattle.listing.proofs.answers.answer_line.Tie as tie
 
 finish-requires : tie.Need-finish-requires
 finish-requires c κs = search needs
-
-call-of-requires : tie.Need-call-of-requires
-call-of-requires c κs = search needs
 
 put-asked-requires : tie.Need-put-asked-requires
 put-asked-requires c κs = search needs
@@ -27,7 +24,6 @@ answer-line-spec =
     tie.close
     (tie.spec
     finish-requires
-    call-of-requires
     put-asked-requires
     same-length
     same-length-2

@@ -1,6 +1,6 @@
--- `answers::put_asked` meets its contract: bad, or the call. Assumes nothing.
+-- What was asked is bad, or a call.
 use mathlib.Core.Path.{sym, ap}
-use Rattle.listing.specs.Contract.{callAsked}
+use Rattle.listing_text.specs.Reading.{parsedOf}
 use Rattle.listing.proofs.AnswerLaws.{prints-bad, prints-as}
 use borrow.Author.Needs.{needs}
 use Rattle.listing.proofs.answers.put_asked.Statement.{statement}
@@ -22,11 +22,11 @@ same-length : tie.Need-same-length
 same-length c = search needs
 
 returns : tie.Need-returns
-unfolding callAsked
+unfolding parsedOf
 returns c =
     let at-put-bad : tie.After-put-bad = search in
     let at-enum-told : tie.After-enum-told = search in
-    prints-as (sym (ap callAsked ((at-enum-told .enum-told .given) .1))) (prints-bad (at-put-bad .put-bad .ensures))
+    prints-as (sym (ap parsedOf ((at-enum-told .enum-told .given) .1))) (prints-bad (at-put-bad .put-bad .ensures))
 
 same-length-2 : tie.Need-same-length-2
 same-length-2 c = search needs
@@ -35,11 +35,11 @@ same-length-3 : tie.Need-same-length-3
 same-length-3 c = search needs
 
 returns-2 : tie.Need-returns-2
-unfolding callAsked
+unfolding parsedOf
 returns-2 c =
     let at-put-call : tie.After-put-call = search in
     let at-asked : tie.After-asked = search in
-    prints-as (sym (ap callAsked ((at-asked .asked .given) .1))) (at-put-call .put-call .ensures)
+    prints-as (sym (ap parsedOf ((at-asked .asked .given) .1))) (at-put-call .put-call .ensures)
 
 pub put-asked-spec : {M : Type 1} → statement M
 put-asked-spec =

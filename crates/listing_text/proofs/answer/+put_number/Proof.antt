@@ -1,6 +1,5 @@
 -- The proof of the cycle of calls {put_number}. The measure is the number. A number below ten is one digit; the digits of any other are those of its
 -- tenth, which the call writes, and its last digit.
--- Assumes nothing.
 use borrow.Author.Needs.{needs}
 use mathlib.Core.Path.{sym, ap}
 use native.Mathlib.Omega.{arith}

@@ -1,5 +1,4 @@
 -- `line::feed` meets its contract: its test is that of `fed`.
--- Assumes nothing.
 use borrow.Author.Needs.{needs}
 use Rattle.listing_text.proofs.MachineLaws.{fed-space, fed-other, feeds}
 use Rattle.listing_text.proofs.line.feed.Statement.{statement}

@@ -1,6 +1,5 @@
 -- `line::feed_until_newline` meets its contract. The loop's invariant: the rest of the block makes of the line what the whole part makes of it. The
 -- measure is what is left of the block.
--- Assumes nothing.
 use Prim.Native.Nat.{_-_}
 use native.Mathlib.Omega.{arith}
 use borrow.Author.Needs.{needs}

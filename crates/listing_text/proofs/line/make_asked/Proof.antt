@@ -1,11 +1,10 @@
--- `line::make_request` meets its contract: the call of each command takes as many of the numbers as it needs, cut to their widths.
--- Assumes nothing.
+-- `line::make_asked` meets its contract: the call of each command takes as many of the numbers as it needs, cut to their widths.
 use Rattle.listing_text.specs.Call.{limits, callOf}
 use Rattle.listing_text.specs.Machine.{coded, made}
-use Rattle.listing_text.specs.Reading.{requestParsed}
+use Rattle.listing_text.specs.Reading.{parsedOf}
 use borrow.Author.Needs.{needs}
-use Rattle.listing_text.proofs.line.make_request.Statement.{statement}
-use Rattle.listing_text.proofs.line.make_request.Tie as tie
+use Rattle.listing_text.proofs.line.make_asked.Statement.{statement}
+use Rattle.listing_text.proofs.line.make_asked.Tie as tie
 
 array-read-code : tie.Need-array-read-code
 array-read-code c = search needs
@@ -77,7 +76,7 @@ enum-told-15 : tie.Need-enum-told-15
 enum-told-15 c = search needs
 
 returns : tie.Need-returns
-unfolding limits coded made callOf requestParsed
+unfolding limits coded made callOf parsedOf
 returns c =
     let at-low4 : tie.After-low4 = search in
     let at-low3 : tie.After-low3 = search in
@@ -85,7 +84,7 @@ returns c =
     rw (c .enum-told .given .1, at-low4 .low4 .ensures, at-low3 .low3 .ensures, at-low2 .low2 .ensures)
 
 returns-2 : tie.Need-returns-2
-unfolding limits coded made callOf requestParsed
+unfolding limits coded made callOf parsedOf
 returns-2 c =
     let at-low4 : tie.After-low4 = search in
     let at-low2 : tie.After-low2 = search in
@@ -93,7 +92,7 @@ returns-2 c =
     rw (c .enum-told2 .given .1, at-low4 .low4 .ensures, at-low2 .low2 .ensures, at-low .low .ensures)
 
 returns-3 : tie.Need-returns-3
-unfolding limits coded made callOf requestParsed
+unfolding limits coded made callOf parsedOf
 returns-3 c =
     let at-low4 : tie.After-low4 = search in
     let at-low2 : tie.After-low2 = search in
@@ -101,76 +100,76 @@ returns-3 c =
     rw (c .enum-told3 .given .1, at-low4 .low4 .ensures, at-low2 .low2 .ensures, at-low .low .ensures)
 
 returns-4 : tie.Need-returns-4
-unfolding limits coded made callOf requestParsed
+unfolding limits coded made callOf parsedOf
 returns-4 c =
     let at-low4 : tie.After-low4 = search in
     rw (c .enum-told4 .given .1, at-low4 .low4 .ensures)
 
 returns-5 : tie.Need-returns-5
-unfolding limits coded made callOf requestParsed
+unfolding limits coded made callOf parsedOf
 returns-5 c =
     let at-low4 : tie.After-low4 = search in
     rw (c .enum-told5 .given .1, at-low4 .low4 .ensures)
 
 returns-6 : tie.Need-returns-6
-unfolding limits coded made callOf requestParsed
+unfolding limits coded made callOf parsedOf
 returns-6 c =
     let at-low4 : tie.After-low4 = search in
     rw (c .enum-told6 .given .1, at-low4 .low4 .ensures)
 
 returns-7 : tie.Need-returns-7
-unfolding limits coded made callOf requestParsed
+unfolding limits coded made callOf parsedOf
 returns-7 c =
     let at-low4 : tie.After-low4 = search in
     rw (c .enum-told7 .given .1, at-low4 .low4 .ensures)
 
 returns-8 : tie.Need-returns-8
-unfolding limits coded made callOf requestParsed
+unfolding limits coded made callOf parsedOf
 returns-8 c =
     let at-low4 : tie.After-low4 = search in
     rw (c .enum-told8 .given .1, at-low4 .low4 .ensures)
 
 returns-9 : tie.Need-returns-9
-unfolding limits coded made callOf requestParsed
+unfolding limits coded made callOf parsedOf
 returns-9 c =
     let at-low4 : tie.After-low4 = search in
     let at-low3 : tie.After-low3 = search in
     rw (c .enum-told9 .given .1, at-low4 .low4 .ensures, at-low3 .low3 .ensures)
 
 returns-10 : tie.Need-returns-10
-unfolding limits coded made callOf requestParsed
+unfolding limits coded made callOf parsedOf
 returns-10 c =
     let at-low4 : tie.After-low4 = search in
     rw (c .enum-told10 .given .1, at-low4 .low4 .ensures)
 
 returns-11 : tie.Need-returns-11
-unfolding limits coded made callOf requestParsed
+unfolding limits coded made callOf parsedOf
 returns-11 c =
     let at-low4 : tie.After-low4 = search in
     rw (c .enum-told11 .given .1, at-low4 .low4 .ensures)
 
 returns-12 : tie.Need-returns-12
-unfolding limits coded made callOf requestParsed
+unfolding limits coded made callOf parsedOf
 returns-12 c =
     let at-low4 : tie.After-low4 = search in
     rw (c .enum-told12 .given .1, at-low4 .low4 .ensures)
 
 returns-13 : tie.Need-returns-13
-unfolding limits coded made callOf requestParsed
+unfolding limits coded made callOf parsedOf
 returns-13 c =
     let at-low4 : tie.After-low4 = search in
     rw (c .enum-told13 .given .1, at-low4 .low4 .ensures)
 
 returns-14 : tie.Need-returns-14
-unfolding limits coded made callOf requestParsed
+unfolding limits coded made callOf parsedOf
 returns-14 c = rw (c .enum-told14 .given .1)
 
 returns-15 : tie.Need-returns-15
-unfolding limits coded made callOf requestParsed
+unfolding limits coded made callOf parsedOf
 returns-15 c = rw (c .enum-told15 .given .1)
 
-pub make-request-spec : {M : Type 1} → statement M
-make-request-spec =
+pub make-asked-spec : {M : Type 1} → statement M
+make-asked-spec =
     tie.close
     (tie.spec
     array-read-code

@@ -1,0 +1,2 @@
+-- The code's calls as the model's.
+pub mod Calls
