@@ -8,35 +8,52 @@ use lib.Dec.{eqb}
 use Rattle.model.specs.Word.{upTo}
 use Rattle.model.specs.Lists.{update}
 use Rattle.model.specs.State.{Lane}
-use Rattle.model.specs.Layout.{countLimit, lastOffset, currentOffset, doneOffset, quiescentAt, snapshotAt, generationAt, queuesAt, lookupAt, positionAt, onlineBit, snapshotBit}
+use Rattle.model.specs.Layout.{countLimit, lastOffset, currentOffset, doneOffset, quiescentAt, snapshotAt, generationAt, queuesAt, lookupAt, onlineBit, snapshotBit}
 use Rattle.model.specs.Memory.{at, flag, readCounts, laneWords}
 use Rattle.masks.specs.Bits.{withBit, withoutBit}
+use Rattle.lanes.specs.declared.Ends.{Ends}
+use Rattle.lanes.specs.declared.Lookup.{Lookup}
 use Rattle.lanes.specs.declared.LaneRecord.{LaneRecord}
 
 -- ---- the record in its words
 
--- the record that stands in m from a on, but for its counts
-abbrev pub recordWith : List ℕ → ℕ → List ℕ → List ℕ → LaneRecord
-recordWith m a q s =
+-- a queue's ends from a on, and their words
+abbrev pub endsAt : List ℕ → ℕ → Ends
+endsAt m a = record { first = at m a; last = at m (a + lastOffset) }
+
+abbrev pub endsWords : Ends → List ℕ
+endsWords e = e .first ∷ e .last ∷ []
+
+-- a lookup from a on, and its words
+abbrev pub lookupWidth : ℕ
+lookupWidth = 3
+
+abbrev pub lookupWordsAt : List ℕ → ℕ → Lookup
+lookupWordsAt m a = record { low = at m a; high = at m (a + 1); position = at m (a + 2) }
+
+abbrev pub lookupWords : Lookup → List ℕ
+lookupWords l = l .low ∷ l .high ∷ l .position ∷ []
+
+-- a record of these parts, whose flags and generation stand in m from a on
+abbrev pub recordWith : List ℕ → ℕ → List ℕ → List ℕ → Ends → Ends → Ends → Lookup → LaneRecord
+recordWith m a q s n c d l =
     record {
       flags = at m a;
       quiescent = q;
       snapshot = s;
       generation = at m (a + generationAt);
-      «next_first» = at m (a + queuesAt);
-      «next_last» = at m (a + queuesAt + lastOffset);
-      «current_first» = at m (a + queuesAt + currentOffset);
-      «current_last» = at m (a + queuesAt + currentOffset + lastOffset);
-      «done_first» = at m (a + queuesAt + doneOffset);
-      «done_last» = at m (a + queuesAt + doneOffset + lastOffset);
-      «code_low» = at m (a + lookupAt);
-      «code_high» = at m (a + lookupAt + 1);
-      position = at m (a + positionAt);
+      next = n;
+      current = c;
+      done = d;
+      lookup = l;
     }
 
 -- the record that stands in m from a on
 unfoldable pub recordAt : List ℕ → ℕ → LaneRecord
-recordAt m a = recordWith m a (readCounts m (a + quiescentAt)) (readCounts m (a + snapshotAt))
+recordAt m a =
+    recordWith m a (readCounts m (a + quiescentAt)) (readCounts m (a + snapshotAt)) (endsAt m (a + queuesAt)) (endsAt m (a + queuesAt + currentOffset))
+    (endsAt m (a + queuesAt + doneOffset))
+    (lookupWordsAt m (a + lookupAt))
 
 -- its nineteen words
 unfoldable pub recordWords : LaneRecord → List ℕ
@@ -45,10 +62,10 @@ recordWords r =
     ∷ getD (r .quiescent) 0 0 ∷ getD (r .quiescent) 1 0 ∷ getD (r .quiescent) 2 0 ∷ getD (r .quiescent) 3 0
     ∷ getD (r .snapshot) 0 0 ∷ getD (r .snapshot) 1 0 ∷ getD (r .snapshot) 2 0 ∷ getD (r .snapshot) 3 0
     ∷ r .generation
-    ∷ r .«next_first» ∷ r .«next_last»
-    ∷ r .«current_first» ∷ r .«current_last»
-    ∷ r .«done_first» ∷ r .«done_last»
-    ∷ r .«code_low» ∷ r .«code_high» ∷ r .position ∷ []
+    ∷ r .next .first ∷ r .next .last
+    ∷ r .current .first ∷ r .current .last
+    ∷ r .done .first ∷ r .done .last
+    ∷ lookupWords (r .lookup)
 
 -- m with the words of r from a on; all other words stay
 abbrev pub recordStored : List ℕ → ℕ → LaneRecord → List ℕ
@@ -68,15 +85,10 @@ withQuiescent c r =
       quiescent = c;
       snapshot = r .snapshot;
       generation = r .generation;
-      «next_first» = r .«next_first»;
-      «next_last» = r .«next_last»;
-      «current_first» = r .«current_first»;
-      «current_last» = r .«current_last»;
-      «done_first» = r .«done_first»;
-      «done_last» = r .«done_last»;
-      «code_low» = r .«code_low»;
-      «code_high» = r .«code_high»;
-      position = r .position;
+      next = r .next;
+      current = r .current;
+      done = r .done;
+      lookup = r .lookup;
     }
 
 -- the record with other flags and snapshot counts
@@ -87,15 +99,10 @@ withSnapshot w c r =
       quiescent = r .quiescent;
       snapshot = c;
       generation = r .generation;
-      «next_first» = r .«next_first»;
-      «next_last» = r .«next_last»;
-      «current_first» = r .«current_first»;
-      «current_last» = r .«current_last»;
-      «done_first» = r .«done_first»;
-      «done_last» = r .«done_last»;
-      «code_low» = r .«code_low»;
-      «code_high» = r .«code_high»;
-      position = r .position;
+      next = r .next;
+      current = r .current;
+      done = r .done;
+      lookup = r .lookup;
     }
 
 -- a quiescent state of kind k: that count goes up and wraps

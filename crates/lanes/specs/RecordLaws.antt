@@ -9,14 +9,16 @@ use lib.Seq.{sets, drop-cons}
 use Rattle.model.specs.Word.{upTo}
 use Rattle.model.specs.Lists.{from, update}
 use Rattle.model.specs.State.{Lane, unheld, held, isHeld, isRunning}
-use Rattle.model.specs.Layout.{kinds, countLimit, laneLength, quiescentAt, snapshotAt, generationAt, queuesAt, lastOffset, currentOffset, doneOffset, lookupAt, positionAt, snapshotBit}
+use Rattle.model.specs.Layout.{kinds, countLimit, laneLength, quiescentAt, snapshotAt, generationAt, queuesAt, currentOffset, doneOffset, lookupAt, snapshotBit}
 use Rattle.model.specs.Engine.{counted, setPending}
 use Rattle.model.specs.Memory.{at, flags, readCounts, laneWords, snapshotCount}
 use Rattle.laws.specs.Lists.{length-update}
 use Rattle.laws.specs.Stores.{getD-sets-below, getD-sets-above, map-sets, sets-same}
 use Rattle.masks.proofs.BitLaws.{withBit-mask, withoutBit-mask}
 use Rattle.lanes.specs.Offsets.{plus-1, plus-2, plus-3, plus-4, plus-5, plus-9, plus-10, plus-16, plus-18}
-use Rattle.lanes.specs.Record.{recordAt, recordWith, recordWords, recordStored, recordOf, withQuiescent, withSnapshot, countedRecord, sampledRecord, droppedRecord}
+use Rattle.lanes.specs.Record.{endsAt, endsWords, lookupWordsAt, lookupWords, recordAt, recordWith, recordWords, recordStored, recordOf, withQuiescent, withSnapshot, countedRecord, sampledRecord, droppedRecord}
+use Rattle.lanes.specs.declared.Ends.{Ends}
+use Rattle.lanes.specs.declared.Lookup.{Lookup}
 use Rattle.lanes.specs.declared.LaneRecord.{LaneRecord}
 
 -- ---- the words of a record
@@ -56,7 +58,8 @@ counts-back (x ∷ (y ∷ (z ∷ (w ∷ (v ∷ c))))) h = absurd (omega arith)
 -- a record is read back from its words
 recordAt-recordWords : (r : LaneRecord) → length (r .quiescent) ≡ kinds → length (r .snapshot) ≡ kinds → recordAt (recordWords r) 0 ≡ r
 unfolding recordAt recordWords
-recordAt-recordWords r hq hs = ap₂ (recordWith (recordWords r) 0) (counts-back (r .quiescent) hq) (counts-back (r .snapshot) hs)
+recordAt-recordWords r hq hs =
+    ap₂ (λ (q x : List ℕ). recordWith (recordWords r) 0 q x (r .next) (r .current) (r .done) (r .lookup)) (counts-back (r .quiescent) hq) (counts-back (r .snapshot) hs)
 
 -- a record that was written reads back
 pub recordAt-recordStored : (m : List ℕ) (a : ℕ) (r : LaneRecord) → a + laneLength ≤ length m → length (r .quiescent) ≡ kinds → length (r .snapshot) ≡ kinds
@@ -67,34 +70,23 @@ recordAt-recordStored m a r fits hq hs =
     ∙ ap (λ (ws : List ℕ). recordAt ws 0) (map-sets (recordWords r) m a 0 fits)
     ∙ recordAt-recordWords r hq hs
 
--- the stores of a record, counts by counts and word by word
-pub recordStored-parts : (m x y : List ℕ) (a : ℕ) (r : LaneRecord) → x ≡ sets (set m a (r .flags)) (a + quiescentAt) (readCounts (r .quiescent) 0)
+-- a record is read part by part
+pub recordAt-parts : (m : List ℕ) (a : ℕ) (q s : List ℕ) (n c d : Ends) (l : Lookup) → q ≡ readCounts m (a + quiescentAt) → s ≡ readCounts m (a + snapshotAt)
+    → n ≡ endsAt m (a + queuesAt) → c ≡ endsAt m (a + queuesAt + currentOffset) → d ≡ endsAt m (a + queuesAt + doneOffset) → l ≡ lookupWordsAt m (a + lookupAt)
+    → recordWith m a q s n c d l ≡ recordAt m a
+unfolding recordAt
+recordAt-parts m a q s n c d l eq es en ec ed el = rw (eq, es, en, ec, ed, el)
+
+-- and written part by part
+pub recordStored-parts : (m : List ℕ) (a : ℕ) (r : LaneRecord) (x y n c d l : List ℕ) → x ≡ sets (set m a (r .flags)) (a + quiescentAt) (readCounts (r .quiescent) 0)
     → y ≡ sets x (a + snapshotAt) (readCounts (r .snapshot) 0)
-    → set
-    (set
-    (set
-    (set
-    (set
-    (set
-    (set
-    (set (set (set y (a + generationAt) (r .generation)) (a + queuesAt) (r .«next_first»)) (a + queuesAt + lastOffset) (r .«next_last»))
-    (a + queuesAt + currentOffset)
-    (r .«current_first»))
-    (a + queuesAt + currentOffset + lastOffset)
-    (r .«current_last»))
-    (a + queuesAt + doneOffset)
-    (r .«done_first»))
-    (a + queuesAt + doneOffset + lastOffset)
-    (r .«done_last»))
-    (a + lookupAt)
-    (r .«code_low»))
-    (a + lookupAt + 1)
-    (r .«code_high»))
-    (a + positionAt)
-    (r .position)
-    ≡ recordStored m a r
+    → n ≡ sets (set y (a + generationAt) (r .generation)) (a + queuesAt) (endsWords (r .next))
+    → c ≡ sets n (a + queuesAt + currentOffset) (endsWords (r .current))
+    → d ≡ sets c (a + queuesAt + doneOffset) (endsWords (r .done))
+    → l ≡ sets d (a + lookupAt) (lookupWords (r .lookup))
+    → l ≡ recordStored m a r
 unfolding recordWords
-recordStored-parts m x y a r hx hy = rw (hy, hx) (simp (plus-1, plus-2, plus-4, plus-5, plus-9, plus-10, plus-16, plus-18))
+recordStored-parts m a r x y n c d l hx hy hn hc hd hl = rw (hl, hd, hc, hn, hy, hx) (simp (plus-1, plus-2, plus-4, plus-5, plus-9, plus-10, plus-16, plus-18))
 
 -- to write what was read changes nothing
 pub recordStored-recordAt : (m : List ℕ) (a : ℕ) → recordStored m a (recordAt m a) ≡ m

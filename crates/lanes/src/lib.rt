@@ -6,30 +6,39 @@ ghost use lib.ListN.{length};
 ghost use lib.Seq.{sets};
 ghost use Rattle.model.specs.Word.{upTo};
 ghost use Rattle.model.specs.Lists.{update};
-ghost use Rattle.model.specs.Layout.{kinds, countLimit, laneLength};
+ghost use Rattle.model.specs.Layout.{kinds, countLimit, queueWidth, laneLength};
 ghost use Rattle.model.specs.Memory.{readCounts};
+ghost use Rattle.lanes.specs.Record.{lookupWidth, endsAt, endsWords, lookupWordsAt, lookupWords};
 ghost use Rattle.lanes.specs.Record.{recordAt, recordStored, countedRecord, sampledRecord, droppedRecord, offlineRecord};
 ghost use Rattle.lanes.specs.Record.{sameCounts, isHolding, movedOn};
 ghost use Rattle.lanes.specs.Changes.{Fits, changedRecord};
 
 pub mod cabinet;
 
-// The nineteen words: flags, counts and snapshot counts by kind, the ends of the lane's three queues with
-// the current one's generation, and the lookup's code and position.
+// The ends of a queue: its first slot and its last.
+pub struct Ends {
+    pub first: u32,
+    pub last: u32,
+}
+
+// A lookup: the two words of its code, and the slot at which it stands.
+pub struct Lookup {
+    pub low: u32,
+    pub high: u32,
+    pub position: u32,
+}
+
+// The nineteen words: flags, counts and snapshot counts by kind, the current queue's generation, the lane's
+// three queues, and its lookup.
 pub struct LaneRecord {
     pub flags: u32,
     pub quiescent: [u32; 4],
     pub snapshot: [u32; 4],
     pub generation: u32,
-    pub next_first: u32,
-    pub next_last: u32,
-    pub current_first: u32,
-    pub current_last: u32,
-    pub done_first: u32,
-    pub done_last: u32,
-    pub code_low: u32,
-    pub code_high: u32,
-    pub position: u32,
+    pub next: Ends,
+    pub current: Ends,
+    pub done: Ends,
+    pub lookup: Lookup,
 }
 
 // The four counts that stand from at on.
@@ -51,27 +60,63 @@ pub fn write_counts(m: &mut [u32], at: usize, counts: [u32; 4])
     m[at + 3] = counts[3];
 }
 
+// The ends that stand from at on.
+fn read_ends(m: &[u32], at: usize) -> Ends
+    requires { ⌜ at + queueWidth ≤ length (now m) ⌝ }
+    ensures { λ r. ⌜ r ≡ endsAt (now (m .entry)) at ⌝ }
+{
+    Ends {
+        first: m[at],
+        last: m[at + words::LAST_OFFSET],
+    }
+}
+
+// Writes ends from at on. All other words stay.
+fn write_ends(m: &mut [u32], at: usize, ends: Ends)
+    requires { ⌜ at + queueWidth ≤ length (now m) ⌝ }
+    ensures { λ _. ⌜ now (m .exit) ≡ sets (now (m .entry)) at (endsWords ends) ⌝ }
+{
+    m[at] = ends.first;
+    m[at + words::LAST_OFFSET] = ends.last;
+}
+
+// The lookup that stands from at on.
+fn read_lookup(m: &[u32], at: usize) -> Lookup
+    requires { ⌜ at + lookupWidth ≤ length (now m) ⌝ }
+    ensures { λ r. ⌜ r ≡ lookupWordsAt (now (m .entry)) at ⌝ }
+{
+    Lookup {
+        low: m[at],
+        high: m[at + 1],
+        position: m[at + 2],
+    }
+}
+
+// Writes a lookup from at on. All other words stay.
+fn write_lookup(m: &mut [u32], at: usize, lookup: Lookup)
+    requires { ⌜ at + lookupWidth ≤ length (now m) ⌝ }
+    ensures { λ _. ⌜ now (m .exit) ≡ sets (now (m .entry)) at (lookupWords lookup) ⌝ }
+{
+    m[at] = lookup.low;
+    m[at + 1] = lookup.high;
+    m[at + 2] = lookup.position;
+}
+
 // The record that stands from at on.
 pub fn read_lane(m: &[u32], at: usize) -> LaneRecord
     requires { ⌜ at + laneLength ≤ length (now m) ⌝ }
     ensures { λ r. ⌜ r ≡ recordAt (now (m .entry)) at ⌝ }
 {
-    let quiescent = read_counts(m, at + words::QUIESCENT_AT);
-    let snapshot = read_counts(m, at + words::SNAPSHOT_AT);
+    let queues = at + words::QUEUES_AT;
     LaneRecord {
         flags: m[at],
-        quiescent,
-        snapshot,
+        quiescent: read_counts(m, at + words::QUIESCENT_AT),
+        snapshot: read_counts(m, at + words::SNAPSHOT_AT),
         generation: m[at + words::GENERATION_AT],
-        next_first: m[at + words::QUEUES_AT],
-        next_last: m[at + words::QUEUES_AT + words::LAST_OFFSET],
-        current_first: m[at + words::QUEUES_AT + words::CURRENT_OFFSET],
-        current_last: m[at + words::QUEUES_AT + words::CURRENT_OFFSET + words::LAST_OFFSET],
-        done_first: m[at + words::QUEUES_AT + words::DONE_OFFSET],
-        done_last: m[at + words::QUEUES_AT + words::DONE_OFFSET + words::LAST_OFFSET],
-        code_low: m[at + words::LOOKUP_AT],
-        code_high: m[at + words::LOOKUP_AT + 1],
-        position: m[at + words::POSITION_AT],
+        next: read_ends(m, queues),
+        current: read_ends(m, queues + words::CURRENT_OFFSET),
+        done: read_ends(m, queues + words::DONE_OFFSET),
+        lookup: read_lookup(m, at + words::LOOKUP_AT),
     }
 }
 
@@ -82,19 +127,19 @@ pub fn write_lane(m: &mut [u32], at: usize, r: LaneRecord)
 {
     let quiescent = r.quiescent;
     let snapshot = r.snapshot;
+    let next = r.next;
+    let current = r.current;
+    let done = r.done;
+    let lookup = r.lookup;
+    let queues = at + words::QUEUES_AT;
     m[at] = r.flags;
     write_counts(m, at + words::QUIESCENT_AT, quiescent);
     write_counts(m, at + words::SNAPSHOT_AT, snapshot);
     m[at + words::GENERATION_AT] = r.generation;
-    m[at + words::QUEUES_AT] = r.next_first;
-    m[at + words::QUEUES_AT + words::LAST_OFFSET] = r.next_last;
-    m[at + words::QUEUES_AT + words::CURRENT_OFFSET] = r.current_first;
-    m[at + words::QUEUES_AT + words::CURRENT_OFFSET + words::LAST_OFFSET] = r.current_last;
-    m[at + words::QUEUES_AT + words::DONE_OFFSET] = r.done_first;
-    m[at + words::QUEUES_AT + words::DONE_OFFSET + words::LAST_OFFSET] = r.done_last;
-    m[at + words::LOOKUP_AT] = r.code_low;
-    m[at + words::LOOKUP_AT + 1] = r.code_high;
-    m[at + words::POSITION_AT] = r.position;
+    write_ends(m, queues, next);
+    write_ends(m, queues + words::CURRENT_OFFSET, current);
+    write_ends(m, queues + words::DONE_OFFSET, done);
+    write_lookup(m, at + words::LOOKUP_AT, lookup);
 }
 
 // ---- counts
@@ -180,10 +225,10 @@ pub fn is_holding(r: LaneRecord) -> bool
 pub fn moved_on(r: LaneRecord) -> bool
     ensures { λ b. ⌜ b ≡ movedOn r ⌝ }
 {
-    let counts = r.quiescent;
+    let quiescent = r.quiescent;
     let snapshot = r.snapshot;
     let held = is_holding(r);
-    let same = same_counts(counts, snapshot);
+    let same = same_counts(quiescent, snapshot);
     held & !same
 }
 

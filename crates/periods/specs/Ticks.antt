@@ -16,10 +16,22 @@ use Rattle.engine.specs.OffLaws.{off-stored}
 use Rattle.engine.specs.Lends.{table-lent-shown}
 use Rattle.engine.specs.Clock.{clockWords}
 use Rattle.engine.specs.ClockLaws.{clock-stored, clock-answer}
+use Rattle.periods.specs.declared.Standing.{Standing}
 use Rattle.access.specs.declared.Answer.{Answer}
 use Rattle.access.specs.Contract.{five, Does}
 use Rattle.access.specs.Ways.{performs, passed, shown, wellFormed, inRange}
 use Rattle.access.specs.Lanes.{LaneIn, StandsAt, stands-at, lane-known}
+
+-- where lane i stands
+abbrev pub standingOf : List ℕ → ℕ → Standing
+standingOf m i =
+    let z = sizes m in
+    record { cabinets = z .cabinets; places = z .places; base = slotsBody z; slots = z .slots; cabinet = i / z .places; place = i % z .places }
+
+-- it is read part by part
+pub standing-parts : (m : List ℕ) (i cs ps b c p : ℕ) → cs ≡ sizes m .cabinets → ps ≡ sizes m .places → b ≡ slotsBody (sizes m) → c ≡ i / sizes m .places → p ≡ i % sizes m .places
+    → _≡_ {A = Standing} (record { cabinets = cs; places = ps; base = b; slots = sizes m .slots; cabinet = c; place = p }) (standingOf m i)
+standing-parts m i cs ps b c p ec ep eb ei ej = rw (ec, ep, eb, ei, ej)
 
 -- the words after lane i went off, and after its clock
 abbrev pub takenOff : List ℕ → ℕ → List ℕ
@@ -45,16 +57,17 @@ module _ (m : List ℕ) (i : ℕ) (k : LaneIn m i) where
   stands : StandsAt m i (i / z .places) (i % z .places)
   stands = stands-at m i (i / z .places) (i % z .places) k refl refl
 
-  module _ (cs ps b c p : ℕ) (ec : cs ≡ z .cabinets) (ep : ps ≡ z .places) (eb : b ≡ slotsBody z) (ei : c ≡ i / z .places) (ej : p ≡ i % z .places) where
-    pub table-lent : TableLent m cs ps b (z .slots) c p
+  module _ (r : Standing) (e : r ≡ standingOf m i) where
+    -- the memory holds what off and the clock ask for
+    pub table-lent : TableLent m (r .cabinets) (r .places) (r .base) (r .slots) (r .cabinet) (r .place)
     unfolding state
-    table-lent = rw (ec, ep, eb, ei, ej) (table-lent-shown (state m) m (shown m (k .sound)) (inRange m (k .sound)) _ _ (stands .cabinet) (stands .place))
+    table-lent = rw e (table-lent-shown (state m) m (shown m (k .sound)) (inRange m (k .sound)) _ _ (stands .cabinet) (stands .place))
 
-    pub off-by : offWords m cs ps b (z .slots) c p ≡ takenOff m i
-    off-by = rw (ec, ep, eb, ei, ej)
+    pub off-by : (n : List ℕ) → n ≡ offWords m (r .cabinets) (r .places) (r .base) (r .slots) (r .cabinet) (r .place) → n ≡ takenOff m i
+    off-by n q = q ∙ ap (λ (x : Standing). offWords m (x .cabinets) (x .places) (x .base) (x .slots) (x .cabinet) (x .place)) e
 
-    pub clock-by : clockWords m cs ps b (z .slots) c p ≡ tickWords m i
-    clock-by = rw (ec, ep, eb, ei, ej)
+    pub clock-by : (n : List ℕ) → n ≡ clockWords m (r .cabinets) (r .places) (r .base) (r .slots) (r .cabinet) (r .place) → n ≡ tickWords m i
+    clock-by n q = q ∙ ap (λ (x : Standing). clockWords m (x .cabinets) (x .places) (x .base) (x .slots) (x .cabinet) (x .place)) e
 
   pub off-words : takenOff m i ≡ stored (performed (state m) (off i)) m
   unfolding state

@@ -13,8 +13,36 @@ ghost use Rattle.representation.specs.Memories.{Sound};
 ghost use Rattle.access.specs.Contract.{Does};
 ghost use Rattle.access.specs.Lanes.{LaneIn};
 ghost use Rattle.periods.specs.Others.{others};
-ghost use Rattle.periods.specs.Ticks.{takenOff, tickWords, periodWord};
+ghost use Rattle.periods.specs.Ticks.{standingOf, takenOff, tickWords, periodWord};
 use access::causes;
+
+// ---- a lane in its table
+
+// The sizes of the table, where its slots' records begin, and a lane's cabinet and place.
+pub struct Standing {
+    pub cabinets: usize,
+    pub places: usize,
+    pub base: usize,
+    pub slots: u32,
+    pub cabinet: u32,
+    pub place: u32,
+}
+
+// Where a lane stands.
+fn stands_at(m: &[u32], lane: u32) -> Standing
+    requires { ⌜ LaneIn (now m) lane ⌝ }
+    ensures { λ r. ⌜ r ≡ standingOf (now (m .entry)) lane ⌝ }
+{
+    let slots = m[words::SLOTS_AT];
+    Standing {
+        cabinets: words::index(m[words::CABINETS_AT]),
+        places: words::index(m[words::PLACES_AT]),
+        base: access::slots_start(m),
+        slots,
+        cabinet: access::cabinet_of(m, lane),
+        place: access::place_of(m, lane),
+    }
+}
 
 // ---- off
 
@@ -68,13 +96,8 @@ fn take_off(m: &mut [u32], lane: u32)
     requires { ⌜ LaneIn (now m) lane ⌝ }
     ensures { λ _. ⌜ now (m .exit) ≡ takenOff (now (m .entry)) lane ⌝ }
 {
-    let cabinets = words::index(m[words::CABINETS_AT]);
-    let places = words::index(m[words::PLACES_AT]);
-    let slots = m[words::SLOTS_AT];
-    let base = access::slots_start(m);
-    let cabinet = access::cabinet_of(m, lane);
-    let place = access::place_of(m, lane);
-    engine::off::off(m, cabinets, places, base, slots, cabinet, place);
+    let s = stands_at(m, lane);
+    engine::off::off(m, s.cabinets, s.places, s.base, s.slots, s.cabinet, s.place);
 }
 
 // A lane goes off.
@@ -97,13 +120,8 @@ fn tick(m: &mut [u32], lane: u32)
     requires { ⌜ LaneIn (now m) lane ⌝ }
     ensures { λ _. ⌜ now (m .exit) ≡ tickWords (now (m .entry)) lane ⌝ }
 {
-    let cabinets = words::index(m[words::CABINETS_AT]);
-    let places = words::index(m[words::PLACES_AT]);
-    let slots = m[words::SLOTS_AT];
-    let base = access::slots_start(m);
-    let cabinet = access::cabinet_of(m, lane);
-    let place = access::place_of(m, lane);
-    engine::clock::clock(m, cabinets, places, base, slots, cabinet, place);
+    let s = stands_at(m, lane);
+    engine::clock::clock(m, s.cabinets, s.places, s.base, s.slots, s.cabinet, s.place);
 }
 
 // 1 if a grace period runs, else 0.

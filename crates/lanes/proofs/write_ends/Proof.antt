@@ -1,0 +1,32 @@
+-- Two stores, one after the other.
+use native.Mathlib.Omega.{arith}
+use lib.ListN.{length-set}
+use Rattle.lanes.specs.Offsets.{plus-1}
+use borrow.Author.Needs.{needs}
+use Rattle.lanes.proofs.write_ends.Statement.{statement}
+use Rattle.lanes.proofs.write_ends.Tie as tie
+
+mul-m : tie.Need-mul-m
+mul-m c = search needs
+
+slice-write-m : tie.Need-slice-write-m
+slice-write-m c = search needs
+
+add-m : tie.Need-add-m
+add-m c = search needs
+
+mul-m-2 : tie.Need-mul-m-2
+mul-m-2 c = search needs
+
+slice-write-m-2 : tie.Need-slice-write-m-2
+slice-write-m-2 c = simp length-set (omega arith)
+
+same-length : tie.Need-same-length
+same-length c = search needs
+
+returns : tie.Need-returns
+returns c = simp plus-1
+
+pub write-ends-spec : {M : Type 1} → statement M
+write-ends-spec =
+    tie.close (tie.spec mul-m slice-write-m add-m mul-m-2 slice-write-m-2 same-length returns)
