@@ -17,7 +17,7 @@ use Rattle.representation.specs.Standing.{fit}
 use Rattle.representation.specs.Round.{ready, stored-state}
 use Rattle.representation.specs.MemoryCalls.{reply-illegal, left-illegal, reply-legal, left-legal}
 use Rattle.representation.specs.Memories.{Sound}
-use Rattle.representation.specs.Accepted.{Accepted, accepted}
+use Rattle.representation.specs.Accepted.{Accepted, accepts}
 use Rattle.changes.specs.Shows.{Shows, shows-state}
 use Rattle.access.specs.declared.Answer.{Answer}
 use Rattle.access.specs.Contract.{five, Does}
@@ -49,7 +49,7 @@ module _ (m : List ℕ) (k : Op) where
 
 -- what is known of a call that no cause refuses
 pub passed : (m : List ℕ) (k : Op) (x : ℕ) → x ≡ refusal (state m) k → x ≤ 0 → Accepted (state m) k
-passed m k x e h = let z : x ≡ 0 = omega arith in accepted (state m) k (sym e ∙ z)
+passed m k x e h = let z : x ≡ 0 = omega arith in accepts (state m) k (sym e ∙ z)
 
 -- ---- what a legal memory has
 

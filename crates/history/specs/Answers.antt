@@ -12,7 +12,8 @@ use Rattle.model.specs.Table.{product, productAt}
 use Rattle.model.specs.Rules.{step, hand-back, Answer, refused, firstOf, laneOf, handedBack, causes, Outcome, outcome, outcomeAnswer, result, answer}
 use Rattle.model.specs.Ledger.{Section, Search, Out, Ledger, isAnswer}
 use Rattle.laws.specs.Tests.{clash}
-use Rattle.representation.specs.Passed.{clear, call-cases}
+use Rattle.representation.specs.Passed.{call-cases}
+use Rattle.representation.specs.Accepted.{accepts}
 use Rattle.representation.specs.WellFormed.{chained}
 use Rattle.history.specs.Halves.{Window, Looks, Looking, RetainedBy}
 use Rattle.history.specs.Invariant.{Invariant, Anchored, inChain, retained, Held}
@@ -114,12 +115,12 @@ module _ {past : ℕ → Ledger} {k : ℕ} {s : State} {g : Ledger} (v : Invaria
     where
       now : firstOf (causes s (hand-back i)) ≡ 0 → result s (hand-back i) .status ≡ 0 → Ended g (handedBack s i)
       now z h =
-          let (lane, (on, (some, _))) = clear (causes s (hand-back i)) (omega arith) z in
-          let o = was-out v i (inside v i lane) some in
+          let k = accepts s (hand-back i) z in
+          let o = was-out v i (inside v i (k .lane .known)) (k .done) in
           record {
             out = o .out;
             isOut = o .isOut;
             ofSlot = o .ofSlot;
-            over = λ z m n. none-retains v i (inside v i lane) some z
+            over = λ z m n. none-retains v i (inside v i (k .lane .known)) (k .done) z
                 (record { out = o .out; isOut = o .isOut; ofSlot = o .ofSlot; isIn = m; isOpen = n });
           }

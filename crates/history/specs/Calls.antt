@@ -1,26 +1,26 @@
 -- Every call keeps the invariant and respects readers, and a fresh state has the invariant with the empty ledger.
 use Prim.Native.Nat.{ℕ, zero, suc, _<_}
 use mathlib.Core.Path.{_≡_, refl, sym, ap}
-use mathlib.Core.Bool.{true, false, cond}
+use mathlib.Core.Bool.{true, cond}
 use mathlib.Core.List.{List, [], List·Memᴰ·not-nil}
 use native.Mathlib.Omega.{arith}
 use lib.ListN.{length, getD, replicate}
-use lib.Dec.{eqb, leb, eqb·suc-zero}
-use borrow.Author.Tests.{not-false, leb-false}
+use lib.Dec.{eqb, eqb·suc-zero}
 use Rattle.model.specs.Word.{later}
 use Rattle.model.specs.Lists.{count}
 use Rattle.model.specs.Layout.{chainCount}
 use Rattle.model.specs.State.{running, Sizes, Queues, State, isRunning, laneCount}
 use Rattle.model.specs.Engine.{freshLane, laneAt}
 use Rattle.model.specs.Table.{chainNumber}
-use Rattle.model.specs.Rules.{Op, add, replace, delete, begin, end, start, step, pass, clock, on, off, hand-back, awaited}
-use Rattle.model.specs.Rules.{Answer, refused, firstOf, laneOf, causes, performed, result, answer, next, fresh}
+use Rattle.model.specs.Rules.{Op, add, replace, delete, begin, end, start, step, pass, clock, on, off, hand-back, awaited, refusal}
+use Rattle.model.specs.Rules.{Answer, refused, laneOf, performed, result, answer, next, fresh}
 use Rattle.model.specs.Calls.{on-state}
 use Rattle.model.specs.Ledger.{Ledger, empty, searchIn, fed, fedCall}
 use Rattle.laws.specs.Tests.{clash}
 use Rattle.laws.specs.Sums.{sum}
 use Rattle.representation.specs.Frame.{inLane}
-use Rattle.representation.specs.Passed.{clear, call-cases, status}
+use Rattle.representation.specs.Passed.{call-cases, status}
+use Rattle.representation.specs.Accepted.{accepts}
 use Rattle.representation.specs.WellFormed.{WellFormed}
 use Rattle.history.specs.Halves.{WaitsFor, SafeIn, searched, quiet}
 use Rattle.history.specs.Invariant.{Invariant}
@@ -44,48 +44,32 @@ fedCall-refused k o m g = rw (eqb·suc-zero m)
 
 module _ {past : ℕ → Ledger} {k : ℕ} {s : State} {g : Ledger} (v : Invariant past k s g) where
   -- a lane that cause 4 does not refuse is one of the list
-  pub inside : (i : ℕ) → leb (laneCount (s .sizes)) i ≡ false → i < length (s .engine .lanes)
-  inside i h = omega (arith, leb-false (laneCount (s .sizes)) i h, v .wellFormed .lanes)
+  pub inside : (i : ℕ) → i < laneCount (s .sizes) → i < length (s .engine .lanes)
+  inside i h = omega (arith, v .wellFormed .lanes)
 
   -- no cause applies
-  keeps-accepted : (o : Op) → firstOf (causes s o) ≡ 0 → WellFormed (performed s o) → past (suc k) ≡ fed (suc k) o (result s o) g
+  keeps-accepted : (o : Op) → refusal s o ≡ 0 → WellFormed (performed s o) → past (suc k) ≡ fed (suc k) o (result s o) g
       → Keeps past k s (performed s o) g (fed (suc k) o (result s o) g)
-  unfolding causes performed result fed isRunning
-  keeps-accepted (add i c d m) z w now =
-      let (lane, (on′, (range, (new, (free, _))))) = clear (causes s (add i c d m)) (omega arith) z in
-      keeps-add v c d m free w
+  unfolding performed result fed isRunning
+  keeps-accepted (add i c d m) z w now = keeps-add v c d m (accepts s (add i c d m) z .free) w
   keeps-accepted (replace i c d m) z w now =
-      let (lane, (on′, (range, (here, (free, _))))) = clear (causes s (replace i c d m)) (omega arith) z in
-      keeps-replace v i c (inside i lane) (not-false _ here) d m free w now
-  keeps-accepted (delete i c) z w now =
-      let (lane, (on′, (range, (here, _)))) = clear (causes s (delete i c)) (omega arith) z in
-      keeps-delete v i c (inside i lane) (not-false _ here) w now
-  keeps-accepted (start i c) z w now =
-      let (lane, (on′, (open′, (idles, (range, _))))) = clear (causes s (start i c)) (omega arith) z in
-      keeps-start v i c (inside i lane) (not-false _ open′) w now
-  keeps-accepted (pass i n) z w now =
-      let (lane, (on′, (closed, (range, _)))) = clear (causes s (pass i n)) (omega arith) z in
-      keeps-pass v i n w closed
-  keeps-accepted (begin i) z w now =
-      let (lane, (on′, (closed, _))) = clear (causes s (begin i)) (omega arith) z in
-      keeps-begin v i (inside i lane) w
+      let a = accepts s (replace i c d m) z in
+      keeps-replace v i c (inside i (a .lane .known)) (a .present) d m (a .free) w now
+  keeps-accepted (delete i c) z w now = let a = accepts s (delete i c) z in keeps-delete v i c (inside i (a .lane .known)) (a .present) w now
+  keeps-accepted (start i c) z w now = let a = accepts s (start i c) z in keeps-start v i c (inside i (a .lane .known)) (a .reading) w now
+  keeps-accepted (pass i n) z w now = keeps-pass v i n w (accepts s (pass i n) z .closed)
+  keeps-accepted (begin i) z w now = keeps-begin v i (inside i (accepts s (begin i) z .lane .known)) w
   keeps-accepted (end i) z w now =
-      let (lane, (on′, (open′, (idles, _)))) = clear (causes s (end i)) (omega arith) z in
-      keeps-end v i (inside i lane) w (λ c p e. clash (runs c p e) idles)
+      let a = accepts s (end i) z in
+      keeps-end v i (inside i (a .lane .known)) w (λ c p e. clash (runs c p e) (a .idle))
     where
       runs : (c p : ℕ) → laneOf s i .lookup ≡ running c p → isRunning (laneOf s i .lookup) ≡ true
       runs c p e = rw e
-  keeps-accepted (step i) z w now =
-      let (lane, (on′, (runs, _))) = clear (causes s (step i)) (omega arith) z in
-      keeps-step v i (inside i lane) w
+  keeps-accepted (step i) z w now = keeps-step v i (inside i (accepts s (step i) z .lane .known)) w
   keeps-accepted (clock i) z w now = keeps-clock v i w
   keeps-accepted (on i) z w now = keeps-on v i w
-  keeps-accepted (off i) z w now =
-      let (lane, (on′, (closed, (others, _)))) = clear (causes s (off i)) (omega arith) z in
-      keeps-off v i w closed
-  keeps-accepted (hand-back i) z w now =
-      let (lane, (on′, (some, _))) = clear (causes s (hand-back i)) (omega arith) z in
-      keeps-handBack v i (inside i lane) some w
+  keeps-accepted (off i) z w now = keeps-off v i w (accepts s (off i) z .closed)
+  keeps-accepted (hand-back i) z w now = let a = accepts s (hand-back i) z in keeps-handBack v i (inside i (a .lane .known)) (a .done) w
   keeps-accepted awaited z w now = keeps-same v
 
   -- refused or not

@@ -15,7 +15,8 @@ use Rattle.model.specs.Ledger.{Out, Ledger, Event, ledger, search}
 use Rattle.laws.specs.Tests.{same-or}
 use Rattle.laws.specs.Counts.{mark-self, count-first}
 use Rattle.representation.specs.Frame.{queued}
-use Rattle.representation.specs.Passed.{clear, call-cases}
+use Rattle.representation.specs.Passed.{call-cases}
+use Rattle.representation.specs.Accepted.{accepts}
 use Rattle.representation.specs.WellFormed.{chained}
 use Rattle.history.specs.Halves.{searched}
 use Rattle.history.specs.Invariant.{Invariant}
@@ -85,8 +86,8 @@ module _ {past : ℕ → Ledger} {k : ℕ} {s : State} {g : Ledger} (v : Invaria
   pub enters-unused : (o : Op) → Enters o → answer s o .status ≡ 0 → Unused s g (answer s o .a)
   unfolding causes result
   enters-unused o (adds i c d n) = call-cases (λ (t : State) (r : Answer). r .status ≡ 0 → Unused s g (r .a)) s (add i c d n)
-      (λ z h. let (lane, (on, (range, (new, (free, _))))) = clear (causes s (add i c d n)) (omega arith) z in free-unused free)
+      (λ z h. free-unused (accepts s (add i c d n) z .free))
       (λ m h. absurd (omega arith))
   enters-unused o (replaces i c d n) = call-cases (λ (t : State) (r : Answer). r .status ≡ 0 → Unused s g (r .a)) s (replace i c d n)
-      (λ z h. let (lane, (on, (range, (here, (free, _))))) = clear (causes s (replace i c d n)) (omega arith) z in free-unused free)
+      (λ z h. free-unused (accepts s (replace i c d n) z .free))
       (λ m h. absurd (omega arith))

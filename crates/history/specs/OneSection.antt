@@ -12,7 +12,8 @@ use Rattle.model.specs.Rules.{Answer, firstOf, laneOf, causes, result, answer}
 use Rattle.model.specs.Calls.{Call, set-up, on-state, left}
 use Rattle.model.specs.Ledger.{Section, Ledger, Event, sectionOf, isAnswer, fed, fedCall, ledger, events}
 use Rattle.laws.specs.Tests.{clash, cond-cases}
-use Rattle.representation.specs.Passed.{clear, call-cases, status}
+use Rattle.representation.specs.Passed.{call-cases, status}
+use Rattle.representation.specs.Accepted.{accepts}
 use Rattle.history.specs.Invariant.{Invariant}
 use Rattle.history.specs.Calls.{fedCall-accepted, fedCall-refused}
 use Rattle.history.specs.Instants.{ledger-snoc}
@@ -32,8 +33,7 @@ module _ {past : ℕ → Ledger} {k : ℕ} {s : State} {g : Ledger} (v : Invaria
   one-accepted : (o : Op) → firstOf (causes s o) ≡ 0 → OneSection (fed (suc k) o (result s o) g)
   unfolding causes fed
   one-accepted (begin i) z a b m n e =
-      let (lane, (on′, (closed, _))) = clear (causes s (begin i)) (omega arith) z in
-      go (older closed) (List·Memᴰ·cases-cons m) (List·Memᴰ·cases-cons n)
+      go (older (accepts s (begin i) z .closed)) (List·Memᴰ·cases-cons m) (List·Memᴰ·cases-cons n)
     where
       new : Section
       new = record { lane = i; opened = suc k }

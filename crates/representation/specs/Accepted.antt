@@ -96,40 +96,40 @@ module _ (s : State) where
   pub lane-accepted : (i : ℕ) → firstOf (ofLane s i []) ≡ 0 → OnLane s i
   lane-accepted i h = let (k, (o, _)) = clear (ofLane s i []) (omega arith) h in on-lane i k o
 
-  pub accepted : (k : Op) → refusal s k ≡ 0 → Accepted k
+  pub accepts : (k : Op) → refusal s k ≡ 0 → Accepted k
   unfolding causes
-  accepted (add i c d m) h =
+  accepts (add i c d m) h =
       let (k, (o, (r, (p, (f, _))))) = clear (causes s (add i c d m)) (omega arith) h in
       record { lane = on-lane i k o; inRange = r; missing = p; free = f }
-  accepted (replace i c d m) h =
+  accepts (replace i c d m) h =
       let (k, (o, (r, (p, (f, _))))) = clear (causes s (replace i c d m)) (omega arith) h in
       record { lane = on-lane i k o; inRange = r; present = not-false (present (s .table) c) p; free = f }
-  accepted (delete i c) h =
+  accepts (delete i c) h =
       let (k, (o, (r, (p, _)))) = clear (causes s (delete i c)) (omega arith) h in
       record { lane = on-lane i k o; inRange = r; present = not-false (present (s .table) c) p }
-  accepted (start i c) h =
+  accepts (start i c) h =
       let (k, (o, (w, (l, (r, _))))) = clear (causes s (start i c)) (omega arith) h in
       record { lane = on-lane i k o; reading = not-false (laneOf s i .reading) w; idle = l; inRange = r }
-  accepted (pass i n) h =
+  accepts (pass i n) h =
       let (k, (o, (w, (r, _)))) = clear (causes s (pass i n)) (omega arith) h in
       record { lane = on-lane i k o; closed = w; inRange = r }
-  accepted (begin i) h =
+  accepts (begin i) h =
       let (k, (o, (w, _))) = clear (causes s (begin i)) (omega arith) h in
       record { lane = on-lane i k o; closed = w }
-  accepted (end i) h =
+  accepts (end i) h =
       let (k, (o, (w, (l, _)))) = clear (causes s (end i)) (omega arith) h in
       record { lane = on-lane i k o; reading = not-false (laneOf s i .reading) w; idle = l }
-  accepted (step i) h =
+  accepts (step i) h =
       let (k, (o, (l, _))) = clear (causes s (step i)) (omega arith) h in
       record { lane = on-lane i k o; running = not-false (isRunning (laneOf s i .lookup)) l }
-  accepted (clock i) h = lane-accepted i h
-  accepted (on i) h =
+  accepts (clock i) h = lane-accepted i h
+  accepts (on i) h =
       let (k, (o, _)) = clear (causes s (on i)) (omega arith) h in
       record { known = leb-false (laneCount (s .sizes)) i k; offline = o }
-  accepted (off i) h =
+  accepts (off i) h =
       let (k, (o, (w, (a, _)))) = clear (causes s (off i)) (omega arith) h in
       record { lane = on-lane i k o; closed = w; another = not-false (any isOnline (atLane i (setOnline false) (s .engine) .lanes)) a }
-  accepted (hand-back i) h =
+  accepts (hand-back i) h =
       let (k, (o, (d, _))) = clear (causes s (hand-back i)) (omega arith) h in
       record { lane = on-lane i k o; done = d }
-  accepted awaited h = tt
+  accepts awaited h = tt

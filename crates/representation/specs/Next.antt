@@ -2,24 +2,24 @@
 use Prim.Native.Nat.{ℕ, _+_, _<_}
 use mathlib.Core.Path.{_≡_, refl, ap, _∙_}
 use mathlib.Core.Logic.{_⊎_, inl, inr, _≢_}
-use mathlib.Core.Bool.{true, false, _&&_}
+use mathlib.Core.Bool.{true, false, _&&_, not}
 use native.Mathlib.Omega.{arith}
 use lib.ListN.{length, getD, set}
 use lib.Seq.{getD-set-same, getD-set-other}
 use lib.Dec.{eqb}
-use borrow.Author.Tests.{not-false}
 use Rattle.model.specs.Word.{none}
 use Rattle.model.specs.Lists.{isEmpty}
 use Rattle.model.specs.State.{Lane, Engine, Product, Table, State, laneCount}
 use Rattle.model.specs.Engine.{freshLane}
 use Rattle.model.specs.Table.{product, slotOf, present, linkOf, added, replaced, deleted, reclaimed}
-use Rattle.model.specs.Rules.{Op, add, replace, delete, begin, end, start, step, pass, clock, on, off, hand-back, awaited, Answer, firstOf, laneOf, causes, with, retired, handedBack, lessHandedBack, fromGlobal, lessDone, performed, next, reclaiming}
+use Rattle.model.specs.Rules.{Op, add, replace, delete, begin, end, start, step, pass, clock, on, off, hand-back, awaited, Answer, laneOf, with, retired, handedBack, lessHandedBack, fromGlobal, lessDone, performed, next, reclaiming, refusal}
 use Rattle.laws.specs.Tests.{clash, cond-cases, same-or}
 use Rattle.laws.specs.Lists.{length-update, update-cases}
 use Rattle.laws.specs.Counts.{mark, mark-self, mark-other}
 use Rattle.representation.specs.Frame.{queued}
 use Rattle.representation.specs.Places.{inTable, in-added, in-replaced, in-deleted, in-reclaimed, in-retired, in-handed}
-use Rattle.representation.specs.Passed.{clear, within, call-cases}
+use Rattle.representation.specs.Passed.{call-cases}
+use Rattle.representation.specs.Accepted.{accepts}
 use Rattle.representation.specs.WellFormed.{WellFormed, LaneFits, TableFits, ProductFits, Generations}
 use Rattle.representation.specs.Standing.{fit, at-most-one, table-once, table-below}
 use Rattle.representation.specs.Engines.{Fits, generations-at, generations-global}
@@ -105,32 +105,22 @@ module _ (s : State) (w : WellFormed s) where
 
   -- ---- all calls
 
-  well-performed : (o : Op) → firstOf (causes s o) ≡ 0 → WellFormed (performed s o)
-  unfolding causes performed
-  well-performed (add i c d m) h =
-      let (known, (online, (inRange, (missing, (some, rest))))) = clear (causes s (add i c d m)) (omega arith) h in
-      well-add (product c d m) some missing (product-fits c d m inRange)
+  well-performed : (o : Op) → refusal s o ≡ 0 → WellFormed (performed s o)
+  unfolding performed
+  well-performed (add i c d m) h = let k = accepts s (add i c d m) h in well-add (product c d m) (k .free) (k .missing) (product-fits c d m (k .inRange))
   well-performed (replace i c d m) h =
-      let (known, (online, (inRange, (here, (some, rest))))) = clear (causes s (replace i c d m)) (omega arith) h in
-      well-replace i (product c d m) (within s i known) (not-false _ online) some (not-false _ here) (product-fits c d m inRange)
-  well-performed (delete i c) h =
-      let (known, (online, (inRange, (here, rest)))) = clear (causes s (delete i c)) (omega arith) h in
-      well-delete i c (within s i known) (not-false _ online) (not-false _ here)
-  well-performed (start i c) h =
-      let (known, (online, (reading, (stopped, (inRange, rest))))) = clear (causes s (start i c)) (omega arith) h in
-      well-start s w i c (not-false _ reading) (code-fits c inRange)
+      let k = accepts s (replace i c d m) h in
+      well-replace i (product c d m) (k .lane .known) (k .lane .online) (k .free) (k .present) (product-fits c d m (k .inRange))
+  well-performed (delete i c) h = let k = accepts s (delete i c) h in well-delete i c (k .lane .known) (k .lane .online) (k .present)
+  well-performed (start i c) h = let k = accepts s (start i c) h in well-start s w i c (k .reading) (code-fits c (k .inRange))
   well-performed (pass i k) h = well-pass s w i k
-  well-performed (begin i) h = let (known, (online, rest)) = clear (causes s (begin i)) (omega arith) h in well-begin s w i (not-false _ online)
-  well-performed (end i) h = let (known, (online, (reading, (stopped, rest)))) = clear (causes s (end i)) (omega arith) h in well-end s w i stopped
+  well-performed (begin i) h = well-begin s w i (accepts s (begin i) h .lane .online)
+  well-performed (end i) h = well-end s w i (accepts s (end i) h .idle)
   well-performed (step i) h = well-step s w i
-  well-performed (clock i) h = let (known, (online, rest)) = clear (causes s (clock i)) (omega arith) h in well-clock s w i (within s i known) (not-false _ online)
+  well-performed (clock i) h = let k = accepts s (clock i) h in well-clock s w i (k .known) (k .online)
   well-performed (on i) h = well-on s w i
-  well-performed (off i) h =
-      let (known, (online, (closed, (others, rest)))) = clear (causes s (off i)) (omega arith) h in
-      well-off s w i (within s i known) (not-false _ online) closed others
-  well-performed (hand-back i) h =
-      let (known, (online, (some, rest))) = clear (causes s (hand-back i)) (omega arith) h in
-      well-back i (within s i known) (not-false _ online) some
+  well-performed (off i) h = let k = accepts s (off i) h in well-off s w i (k .lane .known) (k .lane .online) (k .closed) (ap not (k .another))
+  well-performed (hand-back i) h = let k = accepts s (hand-back i) h in well-back i (k .lane .known) (k .lane .online) (k .done)
   well-performed awaited h = w
 
 pub next-wellFormed : (s : State) (o : Op) → WellFormed s → WellFormed (next s o)
