@@ -3,6 +3,7 @@
  */
 #include "draw.h"
 
+#include "causes.h"
 #include "codes.h"
 #include "layout.h"
 
@@ -207,6 +208,19 @@ static void ahead_short(struct drawer *drawer, enum step_kind kind, uint32_t bel
 	ahead(drawer, kind, (uint32_t)whole, 0);
 }
 
+enum { LIKELY_TRIES = 6, LIKELY_SLOTS = 100 };
+
+/* Every other call is drawn until it is accepted, on a table that is not too large for that. */
+static void ahead_likely(struct drawer *drawer, const uint32_t *memory, size_t words)
+{
+	struct call call = draw_call(&drawer->seed, drawer->list);
+	bool likely = drawer->list->slots <= LIKELY_SLOTS && draw_below(&drawer->seed, 2) == 0;
+
+	for (uint32_t n = 0; likely && n < LIKELY_TRIES && causes_of(memory, words, &call) != 0; n++)
+		call = draw_call(&drawer->seed, drawer->list);
+	ahead_call(drawer, &call);
+}
+
 struct step drawer_next(struct drawer *drawer, const uint32_t *memory, size_t words)
 {
 	const struct list *list = drawer->list;
@@ -223,7 +237,7 @@ struct step drawer_next(struct drawer *drawer, const uint32_t *memory, size_t wo
 			ahead_short(drawer, STEP_LEND, total + 1, words);
 		if (!drawer->calls_only && draw_below(&drawer->seed, 100) == 0)
 			ahead_short(drawer, STEP_ANSWER, PT_ANSWER_WORDS + 1, PT_ANSWER_WORDS + 3);
-		ahead_drawn(drawer, 1);
+		ahead_likely(drawer, memory, words);
 	}
 	return drawer->step[drawer->taken++];
 }

@@ -7,8 +7,9 @@
 #include <stdlib.h>
 #include <string.h>
 
-#include "reference.h"
+#include "draw.h"
 #include "lent.h"
+#include "reference.h"
 
 static struct lent lent;
 
@@ -653,17 +654,15 @@ static void test_hand_back_order(void)
 /* With fewer than five answer words nothing is written, whatever else is wrong. */
 static void test_short_answers(void)
 {
-	static const char *const lines[CALLS] = {
-		"setup 1 1 1", "add 0 62 1 1", "rep 0 55 1 1", "del 0 55", "begin 0", "end 1",
-		"start 1 55", "step 1", "pass 0 0", "clock 0", "on 9", "off 0", "back 0", "awaited",
-	};
+	static const struct list list = { 1, 2, 3, 4, 0, 1 };
 	static const uint32_t fill[4] = { FILL, FILL, FILL, FILL };
 	uint32_t before[LENT_WORDS];
+	uint64_t seed = 5;
 
 	memcpy(before, lent.memory, sizeof before);
 	for (int name = 0; name < CALLS; name++)
 		for (size_t length = 0; length < 5; length++) {
-			struct call call = lent_call(lines[name]);
+			struct call call = draw_arguments(&seed, &list, (enum call_name)name);
 			uint32_t *answer = length > 0 ? malloc(length * sizeof *answer) : NULL;
 
 			CHECK(length == 0 || answer != NULL);
