@@ -5,7 +5,6 @@ use mathlib.Core.Logic.{_⊎_, inl, inr}
 use mathlib.Core.Bool.{false}
 use mathlib.Core.List.{List, [], _∷_, _++_, append-nil, nil≢cons, head-eq-of-cons-eq, tail-eq-of-cons-eq, List·Memᴰ, List·Memᴰ·cases-cons}
 use lib.Seq.{append-snoc}
-use native.Mathlib.Omega.{arith}
 use Rattle.model.specs.State.{State}
 use Rattle.model.specs.Rules.{Op, add, replace, delete, begin, end, start, step, pass, clock, on, off, hand-back, awaited}
 use Rattle.model.specs.Rules.{Answer, firstOf, laneOf, causes, result, answer}

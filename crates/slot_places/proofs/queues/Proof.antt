@@ -1,52 +1,52 @@
--- `queues` meets its contract. The loop's invariant: the steps of the queues from at on lead where all lead. The measure: the queues left. Assumes nothing.
+-- The loop's invariant: what the queues from at on give is what all give. The measure: the queues left.
+use Prim.Native.Nat.{ℕ, _+_, _*_, _-_, _<_, _≤_}
+use mathlib.Core.Bool.{Bool, false}
+use mathlib.Core.Path.{_≡_, refl, _∙_}
+use mathlib.Core.List.{List}
 use native.Mathlib.Omega.{arith}
-use Prim.Native.Nat.{_+_, _*_, _≤_}
-use mathlib.Core.Path.{_≡_, refl}
-use borrow.Author.Needs.{needs}
+use lib.ListN.{length}
 use borrow.Author.Tests.{not-true, not-false}
-use Rattle.slot_places.specs.Steps.{run, several, queueSteps}
-use Rattle.slot_places.proofs.StepLaws.{several-done, several-bad, several-on, says-yes, says-no, queue-bad, queue-wrong, queue-good}
+use Rattle.model.specs.Layout.{queueWidth}
+use Rattle.slot_places.specs.Steps.{queueSteps, several, Counted, Runs}
+use Rattle.slot_places.proofs.QueueLaws.{runs-counted, several-fail, several-more, several-none}
+use borrow.Author.Needs.{needs}
 use Rattle.slot_places.proofs.queues.Statement.{statement}
 use Rattle.slot_places.proofs.queues.Tie as tie
 
 abbrev Inv-loop : tie.InvT-loop
-Inv-loop m field slots first n kind marks₀ at₀ left₀ marks at left = (left ≤ n) × (at + 2 * left ≡ first + 2 * n) × (run (several (queueSteps m field slots kind) 2 at left) marks ≡ run (several (queueSteps m field slots kind) 2 first n) marks₀)
+Inv-loop m base slots first n free left marks₀ at₀ more₀ rest₀ marks at more rest =
+    (at + queueWidth * more ≡ first + queueWidth * n)
+    × Counted m base slots marks rest
+    × ((r : Bool) (x : ℕ) (t : List ℕ) → Runs m base slots (several (queueSteps m base slots free) queueWidth at more) marks r x t → Runs m base slots (several (queueSteps m base slots free) queueWidth first n) marks₀ r x t)
+    × (length marks ≡ length marks₀)
 
 abbrev μ-loop : tie.MeasureT-loop
-μ-loop m field slots first n kind marks₀ at₀ left₀ marks at left = left
+μ-loop m base slots first n free left marks₀ at₀ more₀ rest₀ marks at more rest =
+    more
 
 loop-holds : tie.Need-loop-holds Inv-loop μ-loop
-loop-holds c = (omega arith, refl, refl)
+loop-holds c =
+    let entry : tie.Start Inv-loop μ-loop = search in
+    (refl, entry .pre .0, λ r x t e. e, refl)
 
-mul-walk : tie.Need-mul-walk Inv-loop μ-loop
-mul-walk c = search needs
+queue-requires : tie.Need-queue-requires Inv-loop μ-loop
+queue-requires c κs = search needs
 
-shared-slice-read-walk : tie.Need-shared-slice-read-walk Inv-loop μ-loop
-shared-slice-read-walk c = search needs
-
-walk-requires : tie.Need-walk-requires Inv-loop μ-loop
-walk-requires c κs = search needs
+same-length : tie.Need-same-length Inv-loop μ-loop
+same-length c = search needs
 
 returns : tie.Need-returns Inv-loop μ-loop
-returns c = search (needs, says-no, several-bad, queue-bad, not-true)
-
-add-if2 : tie.Need-add-if2 Inv-loop μ-loop
-add-if2 c = search needs
-
-mul-if2 : tie.Need-mul-if2 Inv-loop μ-loop
-mul-if2 c = search needs
-
-shared-slice-read-if2 : tie.Need-shared-slice-read-if2 Inv-loop μ-loop
-shared-slice-read-if2 c = search needs
-
-returns-2 : tie.Need-returns-2 Inv-loop μ-loop
-returns-2 c = search (needs, says-no, several-bad, queue-wrong, not-false)
+returns c =
+    let at-callee : tie.After-queue Inv-loop μ-loop = search in
+    let at-loop-test : tie.In-loop Inv-loop μ-loop = search in
+    let at-loop : tie.At-loop Inv-loop μ-loop = search in
+    at-loop .loop .inv .2 _ _ _ (several-fail _ _ _ _ _ _ _ (at-loop-test .loop-test .taken) _ _ (at-callee .queue .ensures) (not-true _ (c .if1 .taken)))
 
 add-at : tie.Need-add-at Inv-loop μ-loop
 add-at c = search needs
 
-sub-left : tie.Need-sub-left Inv-loop μ-loop
-sub-left c = search needs
+sub-more : tie.Need-sub-more Inv-loop μ-loop
+sub-more c = search needs
 
 loop-less : tie.Need-loop-less Inv-loop μ-loop
 loop-less c = search needs
@@ -54,12 +54,22 @@ loop-less c = search needs
 loop-again : tie.Need-loop-again Inv-loop μ-loop
 loop-again c =
     let at-if1 : tie.Else1 Inv-loop μ-loop = search in
-    let at-walk : tie.After-walk Inv-loop μ-loop = search in
-    let at-loop : tie.At-loop Inv-loop μ-loop = search in
-    (omega arith, omega arith, several-on _ _ _ _ _ _ (at-loop .loop .inv .2) (omega arith) _ (queue-good _ _ _ _ _ _ _ _ _ (at-walk .walk .ensures) (not-false _ (at-if1 .if1 .left)) (c .if2 .left)))
+    let at-callee : tie.After-queue Inv-loop μ-loop = search in
+    let at-loop-test : tie.In-loop Inv-loop μ-loop = search in
+    let at-loop : tie.At-loop Inv-loop μ-loop = search in (
+      omega arith,
+      runs-counted _ _ _ _ _ _ (at-callee .queue .ensures) (not-false _ (at-if1 .if1 .left)),
+      λ r x t e. at-loop .loop .inv .2 r x t (several-more _ _ _ _ _ _ _ (at-loop-test .loop-test .taken) _ _ (at-callee .queue .ensures) (not-false _ (at-if1 .if1 .left)) r e),
+      at-callee .queue .kept .1 .1 .1 .1 .1 .1 .0 ∙ at-loop .loop .inv .3,
+    )
 
-returns-3 : tie.Need-returns-3 Inv-loop μ-loop
-returns-3 c = search (needs, says-yes, several-done)
+same-length-2 : tie.Need-same-length-2 Inv-loop μ-loop
+same-length-2 c = search needs
+
+returns-2 : tie.Need-returns-2 Inv-loop μ-loop
+returns-2 c =
+    let at-loop : tie.At-loop Inv-loop μ-loop = search in
+    at-loop .loop .inv .2 _ _ _ (several-none _ _ _ _ _ _ _ (c .loop-test .left) _ _ (at-loop .loop .inv .1))
 
 pub queues-spec : {M : Type 1} → statement M
 queues-spec =
@@ -68,16 +78,12 @@ queues-spec =
     Inv-loop
     μ-loop
     loop-holds
-    mul-walk
-    shared-slice-read-walk
-    walk-requires
+    queue-requires
+    same-length
     returns
-    add-if2
-    mul-if2
-    shared-slice-read-if2
-    returns-2
     add-at
-    sub-left
+    sub-more
     loop-less
     loop-again
-    returns-3)
+    same-length-2
+    returns-2)
