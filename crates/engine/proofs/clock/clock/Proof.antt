@@ -20,7 +20,12 @@ same-length : tie.Need-same-length
 same-length c = search needs
 
 returns : tie.Need-returns
-returns c = search (needs, clock-by)
+returns c =
+    let at-sample : tie.After-sample = search in
+    let at-advance : tie.After-advance = search in
+    let at-advance-lane : tie.After-advance-lane = search in
+    let at-compare : tie.After-compare = search in
+    clock-by _ _ _ _ _ _ _ _ _ _ _ (at-compare .compare .ensures) (at-advance-lane .advance-lane .ensures) (at-advance .advance .ensures) (at-sample .sample .ensures)
 
 pub clock-spec : {M : Type 1} → statement M
 clock-spec =
