@@ -43,6 +43,9 @@ module _ (m : List ℕ) (v : Sound m) where
   pub chain-head : (c : ℕ) → at m (headsAt + chainNumber c) ≡ first (chainOf (state m .table) c)
   chain-head c = head-shown (state m) m (shown m v) (chainNumber c) (omega arith)
 
+  pub head-by : (c a : ℕ) → a ≡ headsAt + chainNumber c → at m a ≡ first (chainOf (state m .table) c)
+  head-by c a e = ap (at m) e ∙ chain-head c
+
 -- ---- what the tests of the lane say
 
 module _ (m : List ℕ) (v : Sound m) (i : ℕ) where

@@ -4,11 +4,11 @@ pub mod causes;
 
 ghost use mathlib.Core.Path.{_≡_};
 ghost use mathlib.Core.List.{[]};
-ghost use Prim.Native.Nat.{_/_, _%_, _<_};
+ghost use Prim.Native.Nat.{_+_, _/_, _%_, _<_};
 ghost use Rattle.model.specs.State.{laneCount, isRunning};
-ghost use Rattle.model.specs.Layout.{laneAddress, slotsBody};
+ghost use Rattle.model.specs.Layout.{headsAt, laneAddress, slotsBody};
 ghost use Rattle.model.specs.Lists.{first};
-ghost use Rattle.model.specs.Table.{chainOf};
+ghost use Rattle.model.specs.Table.{chainNumber, chainOf};
 ghost use Rattle.model.specs.Rules.{refused as refusedWords, accepted as acceptedWords, firstOf, noSuchLane, ofLane, laneOf, wrongCode};
 ghost use Rattle.model.specs.Memory.{at, flag, sizes, state};
 ghost use Rattle.representation.specs.Memories.{Sound};
@@ -174,13 +174,23 @@ pub fn lane_refusal(m: &[u32], lane: u32) -> u32
 
 // ---- chains and slots
 
+// How many chains there are, as codes are counted.
+const CHAINS: u64 = words::CHAIN_COUNT as u64;
+
+// Where the head of a code's chain stands.
+pub fn head_address(code: u64) -> usize
+    ensures { λ r. ⌜ r ≡ headsAt + chainNumber code ⌝ }
+{
+    words::HEADS_AT + (code % CHAINS) as usize
+}
+
 // The first slot of a code's chain, none where it has none.
 pub fn chain_head(m: &[u32], code: u64) -> u32
     requires { ⌜ Sound (now m) ⌝ }
     ensures { λ r. ⌜ r ≡ first (chainOf (state (now (m .entry)) .table) code) ⌝ }
 {
-    let k = (code % 64) as usize;
-    m[words::HEADS_AT + k]
+    let a = head_address(code);
+    m[a]
 }
 
 // Where the slots' records begin.

@@ -4,8 +4,8 @@ ghost use mathlib.Core.Path.{_≡_};
 ghost use Prim.Native.Nat.{_+_, _*_, _<_, _≤_};
 ghost use lib.ListN.{length};
 ghost use Rattle.model.specs.Lists.{isEmpty};
-ghost use Rattle.model.specs.Layout.{lastOffset, freeAt, headsAt, slotLength};
-ghost use Rattle.model.specs.Table.{chainNumber, present};
+ghost use Rattle.model.specs.Layout.{lastOffset, freeAt, slotLength};
+ghost use Rattle.model.specs.Table.{present};
 ghost use Rattle.model.specs.Rules.{wrongProduct, nothingDone, refusal, add as adding, replace as replacing, delete as deleting, hand-back};
 ghost use Rattle.model.specs.Memory.{sizes, state};
 ghost use Rattle.model.specs.Calls.{on-state};
@@ -20,13 +20,6 @@ ghost use Rattle.updates.specs.Stores.{FirstIn, Filled, handedFrom, Recl
 use access::causes;
 
 // ---- where a code's chain and a lane's queue stand
-
-// Where the head of a code's chain stands.
-fn head_address(code: u64) -> usize
-    ensures { λ r. ⌜ r ≡ headsAt + chainNumber code ⌝ }
-{
-    words::HEADS_AT + (code % 64) as usize
-}
 
 // Where the ends of a lane's next queue stand.
 fn next_queue(m: &[u32], lane: u32) -> usize
@@ -112,7 +105,7 @@ pub fn delete(m: &mut [u32], lane: u32, code: u64) -> access::Answer
     }
     let base = access::slots_start(m);
     let slots = m[words::SLOTS_AT];
-    let head = head_address(code);
+    let head = access::head_address(code);
     let ends = next_queue(m, lane);
     let old = search(m, code);
     remove(m, base, slots, head, ends, old.slot, old.prev);
@@ -163,7 +156,7 @@ pub fn add(m: &mut [u32], lane: u32, code: u64, deposit: u32, material: u32) -> 
     }
     let base = access::slots_start(m);
     let slots = m[words::SLOTS_AT];
-    let head = head_address(code);
+    let head = access::head_address(code);
     let slot = fill(m, base, slots, code, deposit, material);
     chains::link_head(m, base, slots, head, slot);
     access::accepted(slot, 0, 0, 0)
@@ -223,7 +216,7 @@ pub fn replace(m: &mut [u32], lane: u32, code: u64, deposit: u32, material: u32)
     }
     let base = access::slots_start(m);
     let slots = m[words::SLOTS_AT];
-    let head = head_address(code);
+    let head = access::head_address(code);
     let ends = next_queue(m, lane);
     let old = search(m, code);
     let new = fill(m, base, slots, code, deposit, material);

@@ -1,24 +1,25 @@
--- `chain_head` meets its contract. Assumes nothing.
+-- The head stands in a legal memory, which is longer than its bodies, and holds the first slot of the chain.
 use native.Mathlib.Omega.{arith}
 use Rattle.access.specs.Ways.{long}
-use Rattle.access.specs.Lanes.{chain-head}
+use Rattle.access.specs.Lanes.{head-by}
 use borrow.Author.Needs.{needs}
 use Rattle.access.proofs.chain_head.Statement.{statement}
 use Rattle.access.proofs.chain_head.Tie as tie
 
-add-result : tie.Need-add-result
-add-result c = search needs
+head-address-requires : tie.Need-head-address-requires
+head-address-requires c κs = search needs
 
 mul-result : tie.Need-mul-result
-mul-result c = search needs
+mul-result c = omega (arith, c .head-address .ensures)
 
 shared-slice-read-result : tie.Need-shared-slice-read-result
 shared-slice-read-result c =
+    let called : tie.After-head-address = search in
     let entry : tie.Start = search in
-    omega (arith, long _ (entry .pre))
+    omega (arith, called .head-address .ensures, long _ (entry .pre))
 
 returns : tie.Need-returns
-returns c = search (needs, chain-head)
+returns c = search (needs, head-by)
 
 pub chain-head-spec : {M : Type 1} → statement M
-chain-head-spec = tie.close (tie.spec add-result mul-result shared-slice-read-result returns)
+chain-head-spec = tie.close (tie.spec head-address-requires mul-result shared-slice-read-result returns)

@@ -1,4 +1,4 @@
--- `is_online` meets its contract. Assumes nothing.
+-- The bit of the flags that says whether the lane is on, by `online-shown`.
 use mathlib.Core.Path.{_∙_}
 use Rattle.access.specs.Flags.{online-shown}
 use borrow.Author.Needs.{needs}

@@ -1,4 +1,4 @@
--- `is_reading` meets its contract. Assumes nothing.
+-- The bit of the flags that says whether the section is open, by `reading-shown`.
 use mathlib.Core.Path.{_∙_}
 use Rattle.access.specs.Flags.{reading-shown}
 use borrow.Author.Needs.{needs}

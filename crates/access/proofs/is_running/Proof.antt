@@ -1,4 +1,4 @@
--- `is_running` meets its contract. Assumes nothing.
+-- The bit of the flags that says whether a lookup runs, by `running-shown`.
 use mathlib.Core.Path.{_∙_}
 use Rattle.access.specs.Flags.{running-shown}
 use borrow.Author.Needs.{needs}

@@ -1,4 +1,4 @@
--- `lane_address` meets its contract: the sizes are in range. Assumes nothing.
+-- The sizes of a legal memory are in range, so the sum of `laneAddress` stays within a word.
 use native.Mathlib.Omega.{arith}
 use Rattle.access.specs.Ways.{inRange, long}
 use borrow.Author.Needs.{needs}

@@ -1,4 +1,4 @@
--- `lane_count` meets its contract: at most 64 lanes. Assumes nothing.
+-- Cabinets and places are at most eight each, so their product is a word.
 use native.Mathlib.Omega.{arith}
 use Rattle.access.specs.Ways.{inRange, long}
 use borrow.Author.Needs.{needs}

@@ -1,4 +1,4 @@
--- `lane_flag` meets its contract: the bit is tested where the flags stand. Assumes nothing.
+-- The bit is tested where the flags stand, which lies in a legal memory.
 use Prim.Native.Nat.{ℕ}
 use mathlib.Core.Path.{ap, _∙_}
 use native.Mathlib.Omega.{arith}

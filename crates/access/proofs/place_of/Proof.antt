@@ -1,4 +1,4 @@
--- `place_of` meets its contract. Assumes nothing.
+-- The remainder by the lanes of a cabinet, of which a legal memory has at least one.
 use native.Mathlib.Omega.{arith}
 use Rattle.access.specs.Ways.{inRange, long}
 use borrow.Author.Needs.{needs}

@@ -1,4 +1,4 @@
--- `slots_start` meets its contract. Assumes nothing.
+-- The sizes of a legal memory are in range, so the sum of `slotsBody` stays within a word.
 use native.Mathlib.Omega.{arith}
 use Rattle.access.specs.Ways.{inRange, long}
 use borrow.Author.Needs.{needs}

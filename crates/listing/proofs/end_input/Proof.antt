@@ -1,4 +1,4 @@
--- `end_input` meets its contract: the line is answered if it has a byte.
+-- The line is answered if it has a byte.
 use mathlib.Core.Path.{sym}
 use native.Mathlib.Omega.{arith}
 use lib.Seq.{length-take-le}

@@ -1,4 +1,4 @@
--- `serve_block` meets its contract. The loop's invariant: the block is answered up to the place. The measure is what is left of the block.
+-- The loop's invariant: the block is answered up to the place. The measure is what is left of the block.
 use Prim.Native.Nat.{_-_}
 use mathlib.Core.Path.{_≡_}
 use mathlib.Core.Logic.{⊎-elim}

@@ -1,4 +1,4 @@
--- `answer_call` meets its contract: a law for each way out.
+-- Fewer than five words: nothing is done. Else the call is made, and its five words are written.
 use Rattle.product_table.specs.Called.{too-short, answered}
 use borrow.Author.Needs.{needs}
 use Rattle.product_table.proofs.answer_call.Statement.{statement}

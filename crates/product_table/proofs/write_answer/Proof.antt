@@ -1,4 +1,4 @@
--- `write_answer` meets its contract: five stores in a row.
+-- Five stores in a row.
 use native.Mathlib.Omega.{arith}
 use lib.ListN.{length-set}
 use lib.Seq.{sets-eq}

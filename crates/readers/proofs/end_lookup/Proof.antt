@@ -1,4 +1,4 @@
--- `end_lookup` meets its contract. Assumes nothing.
+-- The lookup's words and its flag are put to rest, where the lane's record stands.
 use mathlib.Core.Path.{_∙_}
 use native.Mathlib.Omega.{arith}
 use denote.Ref.{now}

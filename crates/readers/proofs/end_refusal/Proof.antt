@@ -11,25 +11,25 @@ lane-refusal-requires c κs = search needs
 
 returns : tie.Need-returns
 unfolding causes
-returns c = search (needs, refusals) depth 9
+returns c = search (needs, refusals) depth 12 fits 9000
 
 is-reading-requires : tie.Need-is-reading-requires
 is-reading-requires c κs = search (needs, lane-in)
 
 returns-2 : tie.Need-returns-2
 unfolding causes
-returns-2 c = search (needs, refusals) depth 9
+returns-2 c = search (needs, refusals) depth 12 fits 9000
 
 is-running-requires : tie.Need-is-running-requires
 is-running-requires c κs = search (needs, lane-in)
 
 returns-3 : tie.Need-returns-3
 unfolding causes
-returns-3 c = search (needs, refusals) depth 9
+returns-3 c = search (needs, refusals) depth 12 fits 9000
 
 returns-4 : tie.Need-returns-4
 unfolding causes
-returns-4 c = search (needs, refusals) depth 9
+returns-4 c = search (needs, refusals) depth 12 fits 9000
 
 pub end-refusal-spec : {M : Type 1} → statement M
 end-refusal-spec =

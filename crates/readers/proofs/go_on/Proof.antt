@@ -1,4 +1,4 @@
--- `go_on` meets its contract. Assumes nothing.
+-- A lookup that goes on stands on a slot (`position-by`), whose chain link is the next position.
 use native.Mathlib.Omega.{arith}
 use Rattle.access.specs.Ways.{inRange, long}
 use Rattle.readers.specs.Steps.{position-by, moved-by}

@@ -1,4 +1,4 @@
--- `goes_on` meets its contract. Assumes nothing.
+-- One arm for each outcome.
 use Rattle.chains.specs.Outcome.{outcomeOf}
 use Rattle.readers.specs.Steps.{isGoing}
 use borrow.Author.Needs.{needs}

@@ -1,4 +1,4 @@
--- `lane_outcome` meets its contract. Assumes nothing.
+-- The code reads what `lookup-shown` says of a running lookup, and `outcome-by` makes its outcome the model's.
 use mathlib.Core.Path.{_∙_}
 use native.Mathlib.Omega.{arith}
 use Rattle.access.specs.Ways.{inRange, long}

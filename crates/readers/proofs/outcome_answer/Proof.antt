@@ -1,4 +1,4 @@
--- `outcome_answer` meets its contract: the five words, one by one. Assumes nothing.
+-- The five words, one by one.
 use mathlib.Core.Path.{ap}
 use Rattle.readers.specs.Steps.{answerOf}
 use borrow.Author.Needs.{needs}

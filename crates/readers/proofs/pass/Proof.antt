@@ -1,4 +1,4 @@
--- A law for each way out.
+-- A refused pass changes no word; else one count of the lane's record goes up, in its cabinet's part of the words (`pass-done`).
 use mathlib.Core.Path.{_∙_}
 use native.Mathlib.Omega.{arith}
 use Rattle.access.specs.Ways.{refuses, long}

@@ -1,4 +1,4 @@
--- `put_lookup` meets its contract: four stores. Assumes nothing.
+-- Four stores to one lane's record.
 use Prim.Native.Nat.{ℕ, _+_}
 use mathlib.Core.Path.{ap₂}
 use native.Mathlib.Omega.{arith}

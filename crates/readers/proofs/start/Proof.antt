@@ -1,4 +1,4 @@
--- `start` meets its contract: a law for each way out. Assumes nothing.
+-- A refused start changes no word; else the stores are the words of a lookup at the head of its chain (`start-done`).
 use native.Mathlib.Omega.{arith}
 use Rattle.access.specs.Ways.{refuses, inRange, long}
 use Rattle.readers.specs.Lookups.{start-lane, start-done}

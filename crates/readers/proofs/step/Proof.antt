@@ -1,4 +1,4 @@
--- `step` meets its contract: a law for each way out. Assumes nothing.
+-- A refused step changes no word; else the lookup goes on (`step-going`) or is put to rest (`step-ended`).
 use mathlib.Core.Path.{sym, _∙_}
 use Rattle.access.specs.Ways.{refuses}
 use Rattle.readers.specs.Steps.{looking, is-going, step-going, step-ended}

@@ -1,4 +1,4 @@
--- `add` meets its contract: a law for each way out. Assumes nothing.
+-- A refused add changes no word; else a free slot is filled and linked at the head (`add-done`).
 use native.Mathlib.Omega.{arith}
 use Rattle.access.specs.Ways.{refuses, long}
 use Rattle.updates.specs.Adds.{add-first, add-reach, add-done}

@@ -1,4 +1,4 @@
--- `delete` meets its contract: a law for each way out. Assumes nothing.
+-- A refused delete changes no word; else the slot is unlinked and waits (`delete-done`).
 use native.Mathlib.Omega.{arith}
 use Rattle.access.specs.Ways.{refuses, long}
 use Rattle.updates.specs.Deletes.{delete-reach, delete-done}

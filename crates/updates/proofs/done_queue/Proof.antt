@@ -1,4 +1,4 @@
--- `done_queue` meets its contract: a law for each way out. Assumes nothing.
+-- The global queue where the lane's is empty, else the lane's.
 use native.Mathlib.Omega.{arith}
 use Rattle.access.specs.Ways.{inRange, long}
 use Rattle.updates.specs.HandBacks.{lane-empty, lane-some}

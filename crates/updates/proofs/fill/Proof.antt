@@ -1,4 +1,4 @@
--- `fill` meets its contract: what `write_product` leaves of what `take_first` leaves. Assumes nothing.
+-- What `write_product` leaves of what `take_first` leaves.
 use Rattle.updates.specs.Adds.{filled-by}
 use borrow.Author.Needs.{needs}
 use Rattle.updates.proofs.fill.Statement.{statement}

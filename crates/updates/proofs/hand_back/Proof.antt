@@ -1,4 +1,4 @@
--- `hand_back` meets its contract: a law for each way out. Assumes nothing.
+-- A refused hand-back changes no word; else the first slot of the queue is cleared and free (`hand-back-done`).
 use native.Mathlib.Omega.{arith}
 use Rattle.access.specs.Ways.{refuses, long}
 use Rattle.updates.specs.HandBacks.{hand-back-lane, hand-back-first, hand-back-done}

@@ -1,4 +1,4 @@
--- `is_present` meets its contract: the search finds a slot just where the code is present. Assumes nothing.
+-- The search finds a slot just where the code is present.
 use Prim.Native.Nat.{ℕ}
 use mathlib.Core.Path.{ap}
 use mathlib.Core.Bool.{not}

@@ -1,4 +1,4 @@
--- `next_queue` meets its contract. Assumes nothing.
+-- The next queue's ends are the first of the lane's queues.
 use native.Mathlib.Omega.{arith}
 use Rattle.access.specs.Ways.{inRange}
 use borrow.Author.Needs.{needs}

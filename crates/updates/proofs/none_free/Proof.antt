@@ -1,4 +1,4 @@
--- `none_free` meets its contract. Assumes nothing.
+-- A queue is empty where its first word is no slot.
 use mathlib.Core.Path.{_∙_}
 use native.Mathlib.Omega.{arith}
 use Rattle.changes.specs.Queues.{free}

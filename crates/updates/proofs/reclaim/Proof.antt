@@ -1,4 +1,4 @@
--- `reclaim` meets its contract: what `append` leaves of what `clear_slot` and `take_first` leave. Assumes nothing.
+-- What `append` leaves of what `clear_slot` and `take_first` leave.
 use Rattle.updates.specs.HandBacks.{reclaimed-by}
 use borrow.Author.Needs.{needs}
 use Rattle.updates.proofs.reclaim.Statement.{statement}

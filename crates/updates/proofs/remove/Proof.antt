@@ -1,4 +1,4 @@
--- `remove` meets its contract: what `append` leaves of what `unlink` leaves. Assumes nothing.
+-- What `append` leaves of what `unlink` leaves.
 use mathlib.Core.Path.{ap, _∙_}
 use mathlib.Core.List.{List}
 use Prim.Native.Nat.{ℕ}

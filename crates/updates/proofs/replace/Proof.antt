@@ -1,4 +1,4 @@
--- `replace` meets its contract: a law for each way out. Assumes nothing.
+-- A refused replace changes no word; else a filled slot takes the old one's place, and the old one waits (`replace-done`).
 use native.Mathlib.Omega.{arith}
 use Rattle.access.specs.Ways.{refuses, long}
 use Rattle.updates.specs.Adds.{replace-first, replace-reach, replace-done}

@@ -1,4 +1,4 @@
--- `search` meets its contract: the slots' records are in the memory. Assumes nothing.
+-- The slots' records are in the memory.
 use mathlib.Core.Path.{_∙_}
 use native.Mathlib.Omega.{arith}
 use Rattle.access.specs.Ways.{inRange, long}

@@ -1,4 +1,4 @@
--- `supersede` meets its contract: what `append` leaves of what `put_in_place` leaves. Assumes nothing.
+-- What `append` leaves of what `put_in_place` leaves.
 use Prim.Native.Nat.{ℕ}
 use mathlib.Core.Path.{ap, _∙_}
 use mathlib.Core.List.{List}

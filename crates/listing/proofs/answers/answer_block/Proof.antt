@@ -1,4 +1,4 @@
--- `answers::answer_block` meets its contract. The loop's invariant: the block is answered from the first place to this one. The measure is what is left of the block.
+-- The loop's invariant: the block is answered from the first place to this one. The measure is what is left of the block.
 use borrow.Author.Needs.{needs}
 use Prim.Native.Nat.{_-_}
 use mathlib.Core.Path.{_≡_}

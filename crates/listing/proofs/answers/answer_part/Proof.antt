@@ -1,4 +1,4 @@
--- `answers::answer_part` meets its contract: the line ended and was answered, or the block ended first.
+-- The line ended and was answered, or the block ended first.
 use native.Mathlib.Omega.{arith}
 use Rattle.listing.proofs.PlaceLaws.{goes-line, goes-part}
 use borrow.Author.Needs.{needs}

@@ -1,4 +1,4 @@
--- `answers::nothing` meets its contract: no byte has been read.
+-- No byte has been read.
 use mathlib.Core.Path.{refl}
 use Rattle.listing.proofs.AnswerLaws.{holds-none}
 use borrow.Author.Needs.{needs}

@@ -1,4 +1,4 @@
--- `answers::put_call` meets its contract: the five words are those of the call.
+-- The five words are those of the call.
 use Rattle.listing.proofs.AnswerLaws.{prints-call}
 use borrow.Author.Needs.{needs}
 use Rattle.listing.proofs.answers.put_call.Statement.{statement}

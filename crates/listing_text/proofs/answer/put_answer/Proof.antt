@@ -1,4 +1,4 @@
--- `answer::put_answer` meets its contract: five numbers one after the other, each of at most eleven bytes with the byte after it.
+-- Five numbers one after the other, each of at most eleven bytes with the byte after it.
 use borrow.Author.Needs.{needs}
 use Rattle.listing_text.proofs.BufferLaws.{puts-answer}
 use Rattle.listing_text.proofs.answer.put_answer.Statement.{statement}

@@ -1,4 +1,4 @@
--- `answer::put_bad` meets its contract: four stores, one after the other.
+-- Four stores, one after the other.
 use borrow.Author.Needs.{needs}
 use native.Mathlib.Omega.{arith}
 use lib.ListN.{length-set}

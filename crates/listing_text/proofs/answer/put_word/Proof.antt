@@ -1,4 +1,4 @@
--- `answer::put_word` meets its contract: the digits, and then a store. A number of 32 bits has at most ten digits.
+-- The digits, and then a store. A number of 32 bits has at most ten digits.
 use borrow.Author.Needs.{needs}
 use native.Mathlib.Omega.{arith}
 use Rattle.listing_text.proofs.NumberLaws.{decimal-length}

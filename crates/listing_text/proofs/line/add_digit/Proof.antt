@@ -1,4 +1,4 @@
--- `line::add_digit` meets its contract: its tests are those of `counted`, in their order.
+-- Its tests are those of `counted`, in their order.
 use borrow.Author.Needs.{needs}
 use Rattle.listing_text.proofs.MachineLaws.{counted-below, counted-above, counted-digit, counted-full}
 use Rattle.listing_text.proofs.line.add_digit.Statement.{statement}

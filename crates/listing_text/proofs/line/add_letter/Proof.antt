@@ -1,4 +1,4 @@
--- `line::add_letter` meets its contract: its tests are those of `lettered`, in their order.
+-- Its tests are those of `lettered`, in their order.
 use borrow.Author.Needs.{needs}
 use Rattle.listing_text.proofs.MachineLaws.{lettered-below, lettered-above, lettered-letter, lettered-full}
 use Rattle.listing_text.proofs.line.add_letter.Statement.{statement}

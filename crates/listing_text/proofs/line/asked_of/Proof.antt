@@ -1,4 +1,4 @@
--- `line::asked_of` meets its contract: numbers that fit are the call's, and others make the line bad.
+-- Numbers that fit are the call's, and others make the line bad.
 use borrow.Author.Needs.{needs}
 use mathlib.Core.Path.{sym, _∙_}
 use Rattle.listing_text.specs.Reading.{parsedOf}

@@ -1,4 +1,4 @@
--- `line::command_of` meets its contract: each key is the letters of a name in base 256, and `commandOf` tries the names in this order.
+-- Each key is the letters of a name in base 256, and `commandOf` tries the names in this order.
 use borrow.Author.Tests.{ne-eqb}
 use Rattle.listing_text.specs.Number.{bytes}
 use Rattle.listing_text.specs.Call.{names}

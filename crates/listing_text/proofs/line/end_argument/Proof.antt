@@ -1,4 +1,4 @@
--- `line::end_argument` meets its contract: its tests are those of `argued`, and the store is the one that `withArgument` states.
+-- Its tests are those of `argued`, and the store is the one that `withArgument` states.
 use borrow.Author.Needs.{needs}
 use Rattle.listing_text.proofs.MachineLaws.{argued-empty, argued-more, argued-full}
 use Rattle.listing_text.proofs.line.end_argument.Statement.{statement}

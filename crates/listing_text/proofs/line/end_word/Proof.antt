@@ -1,4 +1,4 @@
--- `line::end_word` meets its contract: its tests are those of `ended`.
+-- Its tests are those of `ended`.
 use borrow.Author.Needs.{needs}
 use mathlib.Core.Path.{sym}
 use Rattle.listing_text.proofs.MachineLaws.{ended-bad, ended-named, ended-unnamed}

@@ -1,4 +1,4 @@
--- `line::feed_until_newline` meets its contract. The loop's invariant: the rest of the block makes of the line what the whole part makes of it. The
+-- The loop's invariant: the rest of the block makes of the line what the whole part makes of it. The
 -- measure is what is left of the block.
 use Prim.Native.Nat.{_-_}
 use native.Mathlib.Omega.{arith}

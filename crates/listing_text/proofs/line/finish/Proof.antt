@@ -1,4 +1,4 @@
--- `line::finish` meets its contract: the last word has its end, and what the line asks for then is what `parsed` says.
+-- The last word has its end, and what the line asks for then is what `parsed` says.
 use borrow.Author.Needs.{needs}
 use mathlib.Core.Path.{sym, ap, _∙_}
 use Rattle.listing_text.specs.Machine.{askedOf}

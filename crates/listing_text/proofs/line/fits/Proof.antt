@@ -1,4 +1,4 @@
--- `line::fits` meets its contract. The loop's invariant: each number passed is below its limit. The measure is how many are left.
+-- The loop's invariant: each number passed is below its limit. The measure is how many are left.
 use Prim.Native.Nat.{ℕ, _≤_, _<_, _-_}
 use native.Mathlib.Omega.{arith}
 use borrow.Author.Needs.{needs}

@@ -1,4 +1,4 @@
--- `line::grow_word` meets its contract: its tests are those of `grown`.
+-- Its tests are those of `grown`.
 use borrow.Author.Needs.{needs}
 use mathlib.Core.Path.{sym}
 use Rattle.listing_text.proofs.MachineLaws.{grown-bad, grown-named, grown-unnamed}

@@ -1,4 +1,4 @@
--- `line::make_asked` meets its contract: the call of each command takes as many of the numbers as it needs, cut to their widths.
+-- The call of each command takes as many of the numbers as it needs, cut to their widths.
 use Rattle.listing_text.specs.Call.{limits, callOf}
 use Rattle.listing_text.specs.Machine.{coded, made}
 use Rattle.listing_text.specs.Reading.{parsedOf}

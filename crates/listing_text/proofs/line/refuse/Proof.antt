@@ -1,4 +1,4 @@
--- `line::refuse` meets its contract: the flag is the one field that it writes.
+-- The flag is the one field that it writes.
 use mathlib.Core.Path.{refl}
 use Rattle.listing_text.specs.Machine.{refused}
 use Rattle.listing_text.proofs.line.refuse.Statement.{statement}

@@ -1,4 +1,4 @@
--- `line::shape_of` meets its contract: the limits of each command are as many as the count, and the second is the one that may differ.
+-- The limits of each command are as many as the count, and the second is the one that may differ.
 use mathlib.Core.Path.{refl}
 use lib.Dec.{lit≤}
 use Rattle.listing_text.specs.Call.{limits}

@@ -1,4 +1,4 @@
--- `line::start` meets its contract: no byte has been fed.
+-- No byte has been fed.
 use mathlib.Core.Path.{refl}
 use Rattle.listing_text.specs.Machine.{fedAll}
 use Rattle.listing_text.proofs.line.start.Statement.{statement}
