@@ -266,6 +266,18 @@ static void print_calls(void)
 	}
 }
 
+/* How many pairs of a call's causes were met at once, of those that do not exclude each other. */
+static uint32_t pairs_met(void)
+{
+	uint32_t pairs = 0;
+
+	for (int name = 0; name < CALLS; name++)
+		for (uint32_t cause = 0; cause <= LAST_CAUSE; cause++)
+			for (uint32_t other = 0; other <= LAST_CAUSE; other++)
+				pairs += shared->tally.before[name][cause][other] > 0 ? 1u : 0u;
+	return pairs;
+}
+
 /* The report; returns whether the engine conforms. */
 static bool report(void)
 {
@@ -277,6 +289,7 @@ static bool report(void)
 			print_found(&found[which], which);
 		}
 	print_calls();
+	printf("  %" PRIu32 " pairs of a call and two of its causes that applied at once\n", pairs_met());
 	printf("\nSentences of document 01, as docs/TRACE.md has them\n");
 	conforms = tally_print(&shared->tally) && conforms;
 	printf("\n%s, beside %s, seed %" PRIu64 ": %" PRIu64 " calls in %.1f s\n%s\n", trial.name, judge_name,
