@@ -6,6 +6,7 @@
 #   progress_update TEXT        how far it is
 #   progress_while PID COMMAND ..   as long as the process runs; the command prints how far it is
 #   progress_done [TEXT]        the part ended; its time
+#   progress_took               prints the part's time so far, for a line of the run's own
 #   progress_fault WHAT [COMMAND ..]   one failure more, and the command that repeats it alone
 #   progress_clear              before the run prints a line of its own
 #   progress_finish             the time of all; on standard output what failed and how to repeat it
@@ -66,6 +67,8 @@ progress_done() {
   progress_clear
   echo "$progress_name: ${1:-done}, $(progress_time $((SECONDS - progress_since)))" >&2
 }
+
+progress_took() { progress_time $((SECONDS - progress_since)); }
 
 progress_fault() {
   progress_faults+=("FAILED $1")

@@ -37,6 +37,9 @@ static pid_t start(void (*play)(void *context), void *context)
 		exit(2);
 	}
 	if (child == 0) {
+		if (trial.quiet && (freopen("/dev/null", "w", stdout) == NULL ||
+				freopen("/dev/null", "w", stderr) == NULL))
+			_exit(EXIT_DONE + END_CRASHED);
 		play(context);
 		_exit(EXIT_DONE + END_DONE);
 	}

@@ -27,7 +27,7 @@ static const double SHRINKING_SECONDS = 60;
 /* A part ends early when so many of its lists have ended so. */
 static const uint32_t most[ENDS] = { [END_DIFFERS] = 25, [END_CRASHED] = 25, [END_HANGS] = 2 };
 
-struct trial trial = { .seed = 1, .seconds = 20 };
+struct trial trial = { .seed = 1, .seconds = 20, .quiet = true };
 struct shared *shared;
 
 /* The first list that ended so, with what ended it; what the ledger finds stands apart. */
@@ -99,36 +99,44 @@ static bool over(const struct part *part, double since, uint64_t calls)
 	return seconds_now() - since >= part->share * trial.seconds;
 }
 
+/* The line of a part: how many lists and calls were made, and how many lists did not end well. */
+static void print_part(const struct part *part, const uint32_t ended[ENDS], uint64_t calls,
+		double seconds, bool cut)
+{
+	uint32_t bad = ended[END_DIFFERS] + ended[END_CRASHED] + ended[END_HANGS];
+
+	progress_clear();
+	printf("  %-52s %6" PRIu32 " lists %9" PRIu64 " calls %6.1f s", part->name,
+		ended[END_DONE] + bad, calls, seconds);
+	if (bad == 0)
+		printf("  no difference\n");
+	else
+		printf("  %" PRIu32 " differ, %" PRIu32 " crash, %" PRIu32 " hang%s\n", ended[END_DIFFERS],
+			ended[END_CRASHED], ended[END_HANGS], cut ? "; the part ends here" : "");
+	fflush(stdout);
+}
+
 static void run_part(const struct part *part)
 {
 	uint32_t lists = part->lists != NULL ? part->lists() : UINT32_MAX;
-	uint32_t ended[ENDS] = { 0 }, list = 0;
+	uint32_t ended[ENDS] = { 0 };
 	uint64_t calls = shared->tally.calls;
 	double since = seconds_now();
+	bool cut = false;
 
-	for (; list < lists && !over(part, since, calls); list++) {
+	for (uint32_t list = 0; list < lists && !cut && !over(part, since, calls); list++) {
 		struct asked asked = { part, list };
+		double limit = found[FOUND_HANG].there ? HANGS_AGAIN_AFTER : HANGS_AFTER;
 		int signal;
-		enum end end = child_run(play_asked, &asked, found[FOUND_HANG].there ? HANGS_AGAIN_AFTER : HANGS_AFTER, &signal);
+		enum end end = child_run(play_asked, &asked, limit, &signal);
 
 		ended[end]++;
 		if (end != END_DONE)
 			keep(&asked, end, signal);
-		if (end != END_DONE && ended[end] >= most[end])
-			break;
-		say_progress(part, list, lists);
+		cut = end != END_DONE && ended[end] >= most[end];
+		say_progress(part, list + 1, lists);
 	}
-	progress_clear();
-	printf("  %-52s %6" PRIu32 " lists %9" PRIu64 " calls %6.1f s", part->name,
-		list < lists && part->lists != NULL ? list + 1 : list, shared->tally.calls - calls,
-		seconds_now() - since);
-	if (ended[END_DIFFERS] + ended[END_CRASHED] + ended[END_HANGS] == 0)
-		printf("  no difference\n");
-	else
-		printf("  %" PRIu32 " differ, %" PRIu32 " crash, %" PRIu32 " hang%s\n", ended[END_DIFFERS],
-			ended[END_CRASHED], ended[END_HANGS],
-			list < lists && part->lists != NULL ? "; the part ends here" : "");
-	fflush(stdout);
+	print_part(part, ended, shared->tally.calls - calls, seconds_now() - since, cut);
 }
 
 /* ---- shrinking */
@@ -258,6 +266,18 @@ static void print_calls(void)
 	}
 }
 
+/* How many pairs of a call's causes were met at once, of those that do not exclude each other. */
+static uint32_t pairs_met(void)
+{
+	uint32_t pairs = 0;
+
+	for (int name = 0; name < CALLS; name++)
+		for (uint32_t cause = 0; cause <= LAST_CAUSE; cause++)
+			for (uint32_t other = 0; other <= LAST_CAUSE; other++)
+				pairs += shared->tally.before[name][cause][other] > 0 ? 1u : 0u;
+	return pairs;
+}
+
 /* The report; returns whether the engine conforms. */
 static bool report(void)
 {
@@ -269,6 +289,7 @@ static bool report(void)
 			print_found(&found[which], which);
 		}
 	print_calls();
+	printf("  %" PRIu32 " pairs of a call and two of its causes that applied at once\n", pairs_met());
 	printf("\nSentences of document 01, as docs/TRACE.md has them\n");
 	conforms = tally_print(&shared->tally) && conforms;
 	printf("\n%s, beside %s, seed %" PRIu64 ": %" PRIu64 " calls in %.1f s\n%s\n", trial.name, judge_name,
@@ -306,6 +327,7 @@ static bool replay(const char *path)
 	int signal;
 
 	read_list(path);
+	trial.quiet = false;
 	end = child_run(play_wanted, NULL, HANGS_AFTER, &signal);
 	record_print(&shared->record, trial.program != NULL ? "the program" : "the engine", judge_name, stdout);
 	if (end != END_DONE)

@@ -33,6 +33,7 @@ struct trial {
 	uint64_t seed;
 	uint64_t calls; /* of the lists that are drawn; 0: by time */
 	double seconds;
+	bool quiet; /* what the engine prints is not shown */
 };
 
 extern struct trial trial;
