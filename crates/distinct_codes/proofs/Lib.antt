@@ -1,3 +1,4 @@
--- Both for clients: `TreeLaws` for a loop that enters slots one after the other, `Distinct` for what it tells of a list of slots.
-pub mod TreeLaws
-pub mod Distinct
+-- For clients: `CellLaws` for the slots met one after the other. `TreeLaws` and `MeetLaws` for the functions of this crate.
+pub mod CellLaws
+mod TreeLaws
+mod MeetLaws

@@ -1,17 +1,35 @@
--- The tree of codes: a code on its way through the cells, and the slots entered one after the other. Assumes nothing.
+-- The tree of codes: a code on its way through the cells, and the numbers entered one after the other.
 use Prim.Native.Nat.{ℕ, zero, suc, _+_, _*_, _-_, _/_, _%_, _≤_, _<_}
 use mathlib.Core.Bool.{Bool, true, false}
 use mathlib.Core.Path.{_≡_, refl, ap, sym, _∙_, subst}
-use mathlib.Core.List.{List}
+use mathlib.Core.List.{List, [], _∷_, map}
 use native.Mathlib.Omega.{arith}
 use native.Mathlib.Decide.{decLt}
-use lib.ListN.{getD, set, length, length-set, replicate, getD-replicate, length-replicate, List·getD-eq-default}
+use lib.ListN.{getD, set, length, take, length-set, replicate, getD-replicate, length-replicate, List·getD-eq-default}
 use lib.Seq.{getD-set-same, getD-set-other}
+use Rattle.model.specs.Lists.{count, from, member, distinct}
 use Rattle.laws.specs.Tests.{Same, same, other, decide}
-use Rattle.distinct_codes.specs.Tree.{spread, Empty, Path, here, down, Keeps, Shape, In, New, Old, Entered, Twice, Apart, Tells}
+use Rattle.laws.specs.Lists.{map-map-from, take-map-from}
+use Rattle.laws.specs.Counts.{count-from, count-from-below}
+use Rattle.laws.specs.Repeats.{distinct-map, distinct-map-intro}
+use Rattle.distinct_codes.specs.Cells.{codeAt}
+use Rattle.distinct_codes.specs.Tree.{root, Empty, Path, here, down, Keeps, Shape, In, New, Old, Entered}
 
 unlike : false ≡ true → ⊥
 unlike e = let z : _≡_ {A = ℕ} 0 1 = cc in omega arith
+
+-- a test that cannot hold fails
+refuted : (b : Bool) → (b ≡ true → ⊥) → false ≡ b
+refuted true h = absurd (h refl)
+refuted false h = refl
+
+-- no number stands twice among those below n
+once-below : (n i : ℕ) → count i (from 0 n) ≤ 1
+once-below n i =
+    elim (decLt 0 (count i (from 0 n))) [
+      | yes p ↦ omega (arith, count-from i 0 n (omega arith) (count-from-below i 0 n p))
+      | no p ↦ omega arith
+    ]
 
 pub keep : {R : ℕ} {k l : List ℕ} {p d t : ℕ} → Keeps k l → Path R k p d t → Path R l p d t
 keep h (here e) = here (h _ _ e)
@@ -24,12 +42,12 @@ module _ (R : ℕ) (f : ℕ → ℕ) (n : ℕ) (k : List ℕ) where
     pub behind : (l : List ℕ) → Keeps k l → Path R l p d n → In R f l n
     pub ahead : (t : ℕ) → In R f k t → f t ≡ f n → Path R k p d t
 
-  pub way-start : Way (spread R (f n)) (f n / R)
-  way-start = record { behind = λ l h r. r; ahead = λ t r e. subst (λ (c : ℕ). Path R k (spread R c) (c / R) t) e r }
+  pub way-start : Way (root R (f n)) (f n / R)
+  way-start = record { behind = λ l h r. r; ahead = λ t r e. subst (λ (c : ℕ). Path R k (root R c) (c / R) t) e r }
 
-  pub way-begin : (p c d : ℕ) → c ≡ f n → p ≡ spread R c → d ≡ c / R → Way p d
+  pub way-begin : (p c d : ℕ) → c ≡ f n → p ≡ root R c → d ≡ c / R → Way p d
   way-begin p c d e g h =
-      subst (λ (y : ℕ). Way p y) (sym (h ∙ ap (λ (x : ℕ). x / R) e)) (subst (λ (x : ℕ). Way x (f n / R)) (sym (g ∙ ap (spread R) e)) way-start)
+      subst (λ (y : ℕ). Way p y) (sym (h ∙ ap (λ (x : ℕ). x / R) e)) (subst (λ (x : ℕ). Way x (f n / R)) (sym (g ∙ ap (root R) e)) way-start)
 
   past : {p d t v : ℕ} → getD k p 0 ≡ suc v → (t ≡ v → ⊥) → Path R k p d t → Path R k (R + 8 * v + d % 8) (d / 8) t
   past e h (here g) = absurd (h (omega arith))
@@ -72,13 +90,6 @@ module _ (R : ℕ) (f : ℕ → ℕ) (n : ℕ) (k : List ℕ) where
     keeps : Keeps k l
     keeps q v g = others q (λ z. absurd (omega (arith, ap (λ (x : ℕ). getD k x 0) z))) ∙ g
 
-    only : (q v : ℕ) → getD l q 0 ≡ suc v → (v ≡ n → ⊥) → getD k q 0 ≡ suc v
-    only q v g h =
-        elim (decide q p) [
-          | same z t u ↦ absurd (h (omega (arith, ap (λ (x : ℕ). getD l x 0) z, stored)))
-          | other z t u ↦ sym (others q z) ∙ g
-        ]
-
     within : (q : ℕ) → getD l q 0 ≤ n + 1
     within q =
         elim (decide q p) [
@@ -99,7 +110,6 @@ module _ (R : ℕ) (f : ℕ → ℕ) (n : ℕ) (k : List ℕ) where
       size = length-set k p (n + 1);
       keeps = keeps;
       entered = w .behind l keeps (here stored);
-      only = only;
       apart = λ t r q. ended e (w .ahead t r q);
     }
 
@@ -114,96 +124,85 @@ empty-cells n q =
       | no p ↦ List·getD-eq-default (replicate n 0) 0 {n = q} (omega (arith, length-replicate {A = ℕ} n 0))
     ]
 
--- ---- the slots chosen by e, one after the other
+-- ---- the numbers, one after the other
 
-module _ (R c : ℕ) (f : ℕ → ℕ) (e : ℕ → Bool) where
-  -- the chosen slots below n stand in k, of c cells
+module _ (R c : ℕ) (f : ℕ → ℕ) where
+  -- the numbers below n stand in k, of c cells, and have different codes
   pub record Sofar (n : ℕ) (k : List ℕ) : Type 0 where
     pub size : length k ≡ c
     pub shape : Shape R n k
-    pub found : (t : ℕ) → t < n → e t ≡ true → In R f k t
-    pub chosen : (q v : ℕ) → getD k q 0 ≡ suc v → e v ≡ true
-    pub apart : Apart f e n
+    pub found : (t : ℕ) → t < n → In R f k t
+    pub apart : (i j : ℕ) → i < n → j < n → f i ≡ f j → i ≡ j
 
   pub sofar-start : (k : List ℕ) → length k ≡ c → Empty k → Sofar 0 k
   sofar-start k l z = record {
     size = l;
     shape = record { within = λ q. omega (arith, z q); order = λ q v g. absurd (omega (arith, z q)) };
-    found = λ t b c. absurd (omega arith);
-    chosen = λ q v g. absurd (omega (arith, z q));
-    apart = λ i j b c g h q. absurd (omega arith);
+    found = λ t b. absurd (omega arith);
+    apart = λ i j b c q. absurd (omega arith);
   }
 
-  module _ (n : ℕ) (k : List ℕ) (s : Sofar n k) where
-    pub sofar-skip : e n ≡ false → Sofar (n + 1) k
-    sofar-skip h = record {
-      size = s .size;
-      shape = record { within = λ q. omega (arith, s .shape .within q); order = s .shape .order };
-      found = λ t b c. s .found t (below t b c) c;
-      chosen = s .chosen;
-      apart = λ i j b c g l q. s .apart i j (below i b g) (below j c l) g l q;
-    }
+  module _ (n : ℕ) (k : List ℕ) (s : Sofar n k) (r : Bool) (l : List ℕ) (w : Entered R f n k r l) where
+    pub sofar-on : r ≡ true → Sofar (n + 1) l
+    sofar-on h = record { size = new .size ∙ s .size; shape = new .shape; found = found; apart = apart }
       where
-        below : (t : ℕ) → t < n + 1 → e t ≡ true → t < n
-        below t b c =
+        new : New R f n k l
+        new = w .new h
+
+        found : (t : ℕ) → t < n + 1 → In R f l t
+        found t b =
             elim (decide t n) [
-              | same z u w ↦ absurd (unlike (sym h ∙ ap e (sym z) ∙ c))
-              | other z u w ↦ omega arith
+              | same z u v ↦ subst (λ (x : ℕ). In R f l x) (sym z) (new .entered)
+              | other z u v ↦ keep (new .keeps) (s .found t (omega arith))
             ]
 
-    module _ (b : e n ≡ true) where
-      pub sofar-enter : (l : List ℕ) → New R f n k l → Sofar (n + 1) l
-      sofar-enter l w = record { size = w .size ∙ s .size; shape = w .shape; found = found; chosen = chosen; apart = apart }
-        where
-          found : (t : ℕ) → t < n + 1 → e t ≡ true → In R f l t
-          found t h c =
-              elim (decide t n) [
-                | same z u v ↦ subst (λ (x : ℕ). In R f l x) (sym z) (w .entered)
-                | other z u v ↦ keep (w .keeps) (s .found t (omega arith) c)
+        apart : (i j : ℕ) → i < n + 1 → j < n + 1 → f i ≡ f j → i ≡ j
+        apart i j b c q =
+            elim (decide i n) [
+              | same z u v ↦ elim (decide j n) [
+                | same y t x ↦ z ∙ sym y
+                | other y t x ↦ absurd (new .apart j (s .found j (omega arith)) (sym q ∙ ap f z))
               ]
-
-          chosen : (q v : ℕ) → getD l q 0 ≡ suc v → e v ≡ true
-          chosen q v g =
-              elim (decide v n) [
-                | same z u x ↦ ap e z ∙ b
-                | other z u x ↦ s .chosen q v (w .only q v g z)
+              | other z u v ↦ elim (decide j n) [
+                | same y t x ↦ absurd (new .apart i (s .found i (omega arith)) (q ∙ ap f y))
+                | other y t x ↦ s .apart i j (omega arith) (omega arith) q
               ]
+            ]
 
-          apart : Apart f e (n + 1)
-          apart i j g h c d q =
-              elim (decide i n) [
-                | same z u v ↦ elim (decide j n) [
-                  | same y t x ↦ z ∙ sym y
-                  | other y t x ↦ absurd (w .apart j (s .found j (omega arith) d) (sym q ∙ ap f z))
-                ]
-                | other z u v ↦ elim (decide j n) [
-                  | same y t x ↦ absurd (w .apart i (s .found i (omega arith) c) (q ∙ ap f y))
-                  | other y t x ↦ s .apart i j (omega arith) (omega arith) c d q
-                ]
-              ]
+    pub sofar-fails : r ≡ false → (N : ℕ) → n < N → false ≡ distinct (map f (from 0 N))
+    sofar-fails h N b = refuted (distinct (map f (from 0 N))) never
+      where
+        old : Old R f n k
+        old = w .old h
 
-      pub sofar-twice : (N : ℕ) → n < N → Old R f n k → Tells f e N false
-      sofar-twice N h o = record {
-        apart = λ z. absurd (unlike z);
-        twice = λ z. record {
-          one = o .slot;
-          two = n;
-          before = omega (arith, s .shape .within (o .cell), o .stands);
-          below = h;
-          chosen₁ = s .chosen (o .cell) (o .slot) (o .stands);
-          chosen₂ = b;
-          equal = o .equal;
-        };
-      }
+        never : distinct (map f (from 0 N)) ≡ true → ⊥
+        never d =
+            let u : old .slot < n = omega (arith, s .shape .within (old .cell), old .stands) in
+            let e : old .slot ≡ n = distinct-map f (from 0 N) d (old .slot) n (omega (arith, count-from (old .slot) 0 N (omega arith) (omega arith))) (omega (arith, count-from n 0 N (omega arith) (omega arith))) (old .equal) in
+            omega arith
 
-    pub sofar-left : (l : List ℕ) → l ≡ k → e n ≡ false → Sofar (n + 1) l
-    sofar-left l z h = subst (λ (x : List ℕ). Sofar (n + 1) x) (sym z) (sofar-skip h)
+  pub sofar-end : (n : ℕ) (k : List ℕ) → Sofar n k → (N : ℕ) → N ≤ n → true ≡ distinct (map f (from 0 N))
+  sofar-end n k s N h =
+      sym (distinct-map-intro f (from 0 N) (once-below N)
+      (λ i j b c q. s .apart i j (omega (arith, count-from-below i 0 N b)) (omega (arith, count-from-below j 0 N c)) q))
 
-    pub sofar-on : (r : Bool) (l j : List ℕ) → j ≡ l → e n ≡ true → Entered R f n k r l → r ≡ true → Sofar (n + 1) j
-    sofar-on r l j z b w h = subst (λ (x : List ℕ). Sofar (n + 1) x) (sym z) (sofar-enter b l (w .new h))
+-- ---- the slots of a list, by their places
 
-    pub sofar-fails : (r : Bool) (l : List ℕ) (N : ℕ) → n < N → e n ≡ true → Entered R f n k r l → r ≡ false → Tells f e N false
-    sofar-fails r l N g b w h = sofar-twice b N g (w .old h)
+module _ (m : List ℕ) (base : ℕ) (a : List ℕ) (n : ℕ) where
+  abbrev numbered : ℕ → ℕ
+  numbered t = codeAt m base (getD a t 0)
 
-    pub sofar-end : (N : ℕ) → N ≡ n → Tells f e N true
-    sofar-end N h = record { apart = λ z i j b c. s .apart i j (omega arith) (omega arith); twice = λ z. absurd (unlike (sym z)) }
+  pub apart-listed : n ≤ length a → (r : Bool) → r ≡ distinct (map numbered (from 0 n)) → r ≡ distinct (map (codeAt m base) (take n a))
+  apart-listed h r e =
+      e ∙ ap distinct (sym (map-map-from (codeAt m base) (λ (t : ℕ). getD a t 0) 0 n) ∙ ap (map (codeAt m base)) (sym (take-map-from a n h)))
+
+  -- one code or none
+  pub apart-short : n < 2 → true ≡ distinct (map (codeAt m base) (take n a))
+  unfolding distinct member
+  apart-short h = go n a h
+    where
+      go : (n : ℕ) (a : List ℕ) → n < 2 → true ≡ distinct (map (codeAt m base) (take n a))
+      go zero a h = refl
+      go (suc zero) [] h = refl
+      go (suc zero) (x ∷ a) h = refl
+      go (suc (suc n)) a h = absurd (omega arith)

@@ -1,6 +1,4 @@
--- Laws on plain lists and numbers, for the proofs of this crate, from the parts to the whole: a slot; the steps that mark the slots, then the table;
--- legality.
-mod SlotLaws
+-- Laws on plain lists and numbers, for the proofs of this crate, from the parts to the whole: the walks' steps, then the table; legality.
 mod StepsRead
 mod TableSaid
 mod TableLaws

@@ -1,8 +1,8 @@
--- The steps that mark the slots, in the chains and queues that a memory reads: their slots are those of all chains and queues, their checks are
--- "lines agree with first and last". Assumes nothing.
+-- The steps of the walks, in the chains and queues that a memory reads: their slots are those of all chains and queues, and the checks of the queues
+-- have "lines agree with first and last" among them.
 use Prim.Native.Nat.{ℕ, zero, suc, _+_, _*_, _≤_, _<_}
-use mathlib.Core.Bool.{Bool, true, false, _&&_}
-use mathlib.Core.Path.{_≡_, refl, ap, ap₂, sym, _∙_}
+use mathlib.Core.Bool.{Bool, true, false, _&&_, _||_}
+use mathlib.Core.Path.{_≡_, refl, ap, ap₂, sym, _∙_, subst}
 use mathlib.Core.List.{List, [], _∷_, _++_, map}
 use native.Mathlib.Omega.{arith}
 use native.Mathlib.Numerals.{add-one}
@@ -11,152 +11,126 @@ use lib.Dec.{eqb}
 use borrow.Author.Tests.{le-leb, lt-leb}
 use Rattle.model.specs.Word.{none}
 use Rattle.model.specs.Lists.{all, every, from, count, last, concat, concatMap}
-use Rattle.model.specs.State.{Lane}
-use Rattle.model.specs.Layout.{slotsBody, slotAddress, laneAddress, lanesBody}
+use Rattle.model.specs.State.{Lane, Queues}
+use Rattle.model.specs.Layout.{chainCount, headsAt, freeAt, globalQueuesAt, globalGenerationAt, generationAt, queuesAt, queueWidth, currentOffset, doneOffset, lastOffset, chainLinkAt, queueLinkAt, slotLength, laneLength, slotsBody, slotAddress, laneAddress, lanesBody}
 use Rattle.model.specs.Engine.{laneAt, freshLane}
-use Rattle.model.specs.Memory.{at, sizes, walk, slotField, readChain, readChains, readQueue, readQueues, readLane, queuesOf, laneQueues, allQueues, state}
-use Rattle.model.specs.Legal.{lastsAt, lastsAgree}
+use Rattle.model.specs.Memory.{at, sizes, walk, slotField, slotWord, readChain, readChains, readQueue, readQueues, readLane, queuesOf, laneQueues, allQueues, state}
+use Rattle.model.specs.Legal.{laneNumbers, lastsAt, lastsAgree}
+use Rattle.laws.specs.Tests.{Every, every-true, every-intro, and-true, and-intro, all-below, all-below-intro}
 use Rattle.laws.specs.Lists.{length-map-from, getD-map-below}
 use Rattle.laws.specs.Walks.{walk-stop, walk-on, Step as Onward, stop, on, step}
 use Rattle.laws.specs.Counts.{count-append}
-use Rattle.slot_places.specs.Steps.{Step, check, puts, several, trail, trailAt, chainSteps, queueSteps, laneSteps}
-use Rattle.slot_places.proofs.Marked.{slotsOf, checks, kindIn, Right, look, stop as ended}
-use Rattle.slot_places.proofs.Places.{slots-append, kind-append, checks-append, slots-puts, kind-puts, checks-puts, several-alike, Uniform, uniform-append, uniform-several, chainMarks, right-trail, right-append, right-several}
-use Rattle.legality.specs.Parts.{placeSteps}
-
--- a test at each number, where two agree
-all-alike : (p q : ℕ → Bool) (a n : ℕ) → ((i : ℕ) → a ≤ i → i < a + n → p i ≡ q i) → all p (from a n) ≡ all q (from a n)
-unfolding all from
-all-alike p q a zero e = refl
-all-alike p q a (suc n) e = ap₂ _&&_ (e a (omega arith) (omega arith)) (all-alike p q (suc a) n (λ i b c. e i (omega arith) (omega arith)))
-
-and-one : (b : Bool) → (b && true) ≡ b
-and-one true = refl
-and-one false = refl
+use Rattle.slot_places.specs.Slots.{slotOrNone, queuedFits}
+use Rattle.slot_places.specs.Steps.{Step, check, slotsOf, several, walks, chainSteps, linkSteps, queueSteps, retiredSteps, laneSteps}
+use Rattle.slot_places.proofs.StepLaws.{slotsOf-append}
+use Rattle.slot_places.proofs.Marked.{checks, Right, look, stop as ended}
+use Rattle.slot_places.proofs.Places.{slots-append, checks-both, both-check, right-walks, right-append, right-several, several-check, check-several, told-walks}
+use Rattle.legality.specs.Parts.{queuedSteps}
 
 module _ (m : List ℕ) where
-  abbrev S : ℕ
+  abbrev pub S : ℕ
   S = at m 3
+
+  abbrev pub base : ℕ
+  base = slotsBody (sizes m)
+
+  abbrev pub laneTotal : ℕ
+  laneTotal = at m 1 * at m 2
 
   -- ---- a walk of the check is the model's
 
-  trail-walk : (k f : ℕ) → f ≡ slotsBody (sizes m) + k → (n i : ℕ) → trail m f S i n ≡ walk (slotField m k) i n
-  unfolding trail walk
-  trail-walk k f e zero i = refl
-  trail-walk k f e (suc n) i =
+  walk-slots : (p : ℕ → Bool) (k n i : ℕ) → slotsOf (walks m (base + k) S p i n) ≡ walk (slotField m k) i n
+  unfolding walks walk slotsOf
+  walk-slots p k zero i = refl
+  walk-slots p k (suc n) i =
       elim (step (slotField m k) i) [
-        | stop q ↦ rw (le-leb S i (omega (arith, length-map-from (λ (j : ℕ). at m (slotAddress (sizes m) j + k)) 0 S)), trail) (sym (walk-stop (slotField m k) i (suc n) q))
+        | stop q ↦ rw (le-leb S i (omega (arith, length-map-from (λ (j : ℕ). at m (slotAddress (sizes m) j + k)) 0 S)), walks) (sym (walk-stop (slotField m k) i (suc n) q))
         | on q ↦
             let b : i < S = omega (arith, length-map-from (λ (j : ℕ). at m (slotAddress (sizes m) j + k)) 0 S) in
-            let a : f + 6 * i ≡ slotAddress (sizes m) i + k = omega arith in
-            rw (lt-leb S i b, trail)
+            let a : base + k + slotLength * i ≡ slotAddress (sizes m) i + k = omega arith in
+            rw (lt-leb S i b, walks)
             (ap (λ (xs : List ℕ). i ∷ xs)
-            (trail-walk k f e n (at m (f + 6 * i))
+            (walk-slots p k n (at m (base + k + slotLength * i))
             ∙ ap (λ (j : ℕ). walk (slotField m k) j n) (ap (at m) a ∙ sym (getD-map-below (λ (j : ℕ). at m (slotAddress (sizes m) j + k)) S i none b)))
             ∙ sym (walk-on (slotField m k) i n q))
       ]
 
-  pub chain-trail : (f : ℕ) → f ≡ slotsBody (sizes m) + 4 → (k : ℕ) → trailAt m f S (15 + k) ≡ readChain m k
-  chain-trail f e k = trail-walk 4 f e (S + 1) (at m (15 + k)) ∙ ap (walk (slotField m 4) (at m (15 + k))) (add-one S)
+  pub chain-slots : (k : ℕ) → slotsOf (chainSteps m base S k) ≡ readChain m k
+  chain-slots k = walk-slots _ chainLinkAt (S + 1) (at m (headsAt + k)) ∙ ap (walk (slotField m chainLinkAt) (at m (headsAt + k))) (add-one S)
 
-  pub queue-trail : (f : ℕ) → f ≡ slotsBody (sizes m) + 5 → (a : ℕ) → trailAt m f S a ≡ readQueue m a
-  queue-trail f e a = trail-walk 5 f e (S + 1) (at m a) ∙ ap (walk (slotField m 5) (at m a)) (add-one S)
+  pub link-slots : (free : Bool) (a : ℕ) → slotsOf (linkSteps m base S free a) ≡ readQueue m a
+  link-slots free a = walk-slots _ queueLinkAt (S + 1) (at m a) ∙ ap (walk (slotField m queueLinkAt) (at m a)) (add-one S)
 
-  -- ---- the steps, in the model's chains and queues
-
-  abbrev pub queueMarks : ℕ → ℕ → List Step
-  queueMarks k a = puts k (readQueue m a) ++ (check (eqb (last (readQueue m a)) (at m (a + 1))) ∷ [])
-
-  abbrev pub threeMarks : ℕ → List Step
-  threeMarks a = several (queueMarks 66) 2 a 3
-
-  abbrev pub laneMarks : ℕ → List Step
-  laneMarks a = threeMarks (a + 10)
+  -- ---- the parts
 
   abbrev pub chainPart : List Step
-  chainPart = several (chainMarks (readChain m)) 1 0 64
+  chainPart = several (chainSteps m base S) 1 0 chainCount
 
   abbrev pub freePart : List Step
-  freePart = several (queueMarks 65) 2 79 1
+  freePart = several (queueSteps m base S true) queueWidth freeAt 1
+
+  abbrev pub threeSteps : ℕ → List Step
+  threeSteps a = several (queueSteps m base S false) queueWidth a 3
 
   abbrev pub lanePart : List Step
-  lanePart = several laneMarks 19 (lanesBody (sizes m)) (at m 1 * at m 2)
+  lanePart = several (laneSteps m base S) laneLength (lanesBody (sizes m)) laneTotal
 
-  abbrev pub allMarks : List Step
-  allMarks = chainPart ++ (freePart ++ (threeMarks 81 ++ lanePart))
+  abbrev pub queuedPart : List Step
+  queuedPart = queuedSteps m base (lanesBody (sizes m)) laneTotal S
 
-  queue-marks : (f k : ℕ) → f ≡ slotsBody (sizes m) + 5 → (a : ℕ) → queueSteps m f S k a ≡ queueMarks k a
-  queue-marks f k e a = ap (λ (xs : List ℕ). puts k xs ++ (check (eqb (last xs) (at m (a + 1))) ∷ [])) (queue-trail f e a)
+  queue-right : (free : Bool) (a : ℕ) → Right S (queueSteps m base S free a)
+  queue-right free a = right-append (right-walks m _ S _ (at m a) (S + 1)) (look ended)
 
-  module _ (base lane n : ℕ) (eb : base ≡ slotsBody (sizes m)) (el : lane ≡ lanesBody (sizes m)) (en : n ≡ at m 1 * at m 2) where
-    f₄ : base + 4 ≡ slotsBody (sizes m) + 4
-    f₄ = omega arith
-
-    f₅ : base + 5 ≡ slotsBody (sizes m) + 5
-    f₅ = omega arith
-
-    pub steps-are : placeSteps m base lane n S ≡ allMarks
-    unfolding placeSteps
-    steps-are =
-        ap₂ _++_
-        (several-alike (chainSteps m (base + 4) S) 1 (chainMarks (readChain m)) (λ k. ap (puts (k + 1)) (chain-trail (base + 4) f₄ k)) 0 64)
-        (ap₂ _++_ (several-alike (queueSteps m (base + 5) S 65) 2 (queueMarks 65) (queue-marks (base + 5) 65 f₅) 79 1)
-        (ap₂ _++_ (three 81)
-        (several-alike (laneSteps m (base + 5) S) 19 laneMarks (λ a. three (a + 10)) lane n
-        ∙ ap₂ (λ (x y : ℕ). several laneMarks 19 x y) el en)))
-      where
-        three : (a : ℕ) → several (queueSteps m (base + 5) S 66) 2 a 3 ≡ threeMarks a
-        three a = several-alike (queueSteps m (base + 5) S 66) 2 (queueMarks 66) (queue-marks (base + 5) 66 f₅) a 3
-
-    right-queue : (k : ℕ) → 0 < k → (a : ℕ) → Right S (queueSteps m (base + 5) S k a)
-    right-queue k h a = right-append (right-trail m (base + 5) S k (at m a) (S + 1) h) (look ended)
-
-    pub steps-right : Right S (placeSteps m base lane n S)
-    unfolding placeSteps
-    steps-right =
-        right-append (right-several (chainSteps m (base + 4) S) 1 (λ k. right-trail m (base + 4) S (k + 1) (at m (15 + k)) (S + 1) (omega arith)) 0 64)
-        (right-append (right-several (queueSteps m (base + 5) S 65) 2 (right-queue 65 (omega arith)) 79 1)
-        (right-append (three 81) (right-several (laneSteps m (base + 5) S) 19 (λ a. three (a + 10)) lane n)))
-      where
-        three : (a : ℕ) → Right S (several (queueSteps m (base + 5) S 66) 2 a 3)
-        three a = right-several (queueSteps m (base + 5) S 66) 2 (right-queue 66 (omega arith)) a 3
+  pub steps-right : Right S (chainPart ++ queuedPart)
+  unfolding queuedSteps
+  steps-right =
+      right-append (right-several (chainSteps m base S) 1 (λ k. right-walks m _ S _ (at m (headsAt + k)) (S + 1)) 0 chainCount)
+      (right-append (right-several (queueSteps m base S true) queueWidth (queue-right true) freeAt 1)
+      (right-append (three globalQueuesAt) (right-several (laneSteps m base S) laneLength (λ a. three (a + queuesAt)) (lanesBody (sizes m)) laneTotal)))
+    where
+      three : (a : ℕ) → Right S (threeSteps a)
+      three a = right-several (queueSteps m base S false) queueWidth (queue-right false) a 3
 
   -- ---- their slots
 
-  pub slots-queue : (i k a : ℕ) → count i (slotsOf (queueMarks k a)) ≡ count i (readQueue m a)
+  pub slots-queue : (i : ℕ) (free : Bool) (a : ℕ) → count i (slotsOf (queueSteps m base S free a)) ≡ count i (readQueue m a)
   unfolding slotsOf count
-  slots-queue i k a = omega (arith, slots-append i (puts k (readQueue m a)) (check (eqb (last (readQueue m a)) (at m (a + 1))) ∷ []), slots-puts i k (readQueue m a))
+  slots-queue i free a =
+      omega (
+        arith,
+        slots-append i (linkSteps m base S free a) (check (eqb (last (slotsOf (linkSteps m base S free a))) (at m (a + lastOffset))) ∷ []),
+        ap (count i) (link-slots free a),
+      )
 
-  slots-chains : (i a n : ℕ) → count i (slotsOf (several (chainMarks (readChain m)) 1 a n)) ≡ count i (concat (map (readChain m) (from a n)))
-  unfolding several slotsOf count concat from
-  slots-chains i a zero = refl
-  slots-chains i a (suc n) =
+  slots-chains : (a n : ℕ) → slotsOf (several (chainSteps m base S) 1 a n) ≡ concat (map (readChain m) (from a n))
+  unfolding several slotsOf concat from
+  slots-chains a zero = refl
+  slots-chains a (suc n) =
       let e : a + 1 ≡ suc a = omega arith in
-      slots-append i (chainMarks (readChain m) a) (several (chainMarks (readChain m)) 1 (a + 1) n)
-      ∙ ap₂ _+_ (slots-puts i (a + 1) (readChain m a)) (slots-chains i (a + 1) n ∙ ap (λ (x : ℕ). count i (concat (map (readChain m) (from x n)))) e)
-      ∙ sym (count-append i (readChain m a) (concat (map (readChain m) (from (suc a) n))))
+      slotsOf-append (chainSteps m base S a) (several (chainSteps m base S) 1 (a + 1) n)
+      ∙ ap₂ _++_ (chain-slots a) (slots-chains (a + 1) n ∙ ap (λ (x : ℕ). concat (map (readChain m) (from x n))) e)
 
-  pub chains-count : (i : ℕ) → count i (slotsOf chainPart) ≡ count i (concat (readChains m))
+  pub chains-are : slotsOf chainPart ≡ concat (readChains m)
   unfolding readChains
-  chains-count i = slots-chains i 0 64
+  chains-are = slots-chains 0 chainCount
 
-  pub free-count : (i : ℕ) → count i (slotsOf freePart) ≡ count i (readQueue m 79)
+  pub free-count : (i : ℕ) → count i (slotsOf freePart) ≡ count i (readQueue m freeAt)
   unfolding several slotsOf count
-  free-count i = omega (arith, slots-append i (queueMarks 65 79) [], slots-queue i 65 79)
+  free-count i = omega (arith, slots-append i (queueSteps m base S true freeAt) [], slots-queue i true freeAt)
 
   -- three queues, the first of them at a
-  three-count : (i a c : ℕ) → c ≡ a + 4 → count i (slotsOf (threeMarks a)) ≡ count i (readQueue m a) + (count i (readQueue m (a + 2)) + count i (readQueue m c))
+  three-count : (i a c : ℕ) → c ≡ a + 4 → count i (slotsOf (threeSteps a)) ≡ count i (readQueue m a) + (count i (readQueue m (a + 2)) + count i (readQueue m c))
   unfolding several slotsOf count
   three-count i a c e =
       let q : a + 2 + 2 ≡ c = omega arith in
       omega (
         arith,
-        slots-append i (queueMarks 66 a) (several (queueMarks 66) 2 (a + 2) 2),
-        slots-append i (queueMarks 66 (a + 2)) (several (queueMarks 66) 2 (a + 2 + 2) 1),
-        slots-append i (queueMarks 66 (a + 2 + 2)) [],
-        slots-queue i 66 a,
-        slots-queue i 66 (a + 2),
-        slots-queue i 66 (a + 2 + 2),
+        slots-append i (queueSteps m base S false a) (several (queueSteps m base S false) 2 (a + 2) 2),
+        slots-append i (queueSteps m base S false (a + 2)) (several (queueSteps m base S false) 2 (a + 2 + 2) 1),
+        slots-append i (queueSteps m base S false (a + 2 + 2)) [],
+        slots-queue i false a,
+        slots-queue i false (a + 2),
+        slots-queue i false (a + 2 + 2),
         ap (λ (x : ℕ). count i (readQueue m x)) q,
       )
 
@@ -164,110 +138,131 @@ module _ (m : List ℕ) where
   unfolding concat
   three-concat i x y z r = omega (arith, count-append i x (y ++ (z ++ concat r)), count-append i y (z ++ concat r), count-append i z (concat r))
 
-  slots-lanes : (i j a n : ℕ) → a ≡ laneAddress (sizes m) j → count i (slotsOf (several laneMarks 19 a n)) ≡ count i (concat (concatMap laneQueues (map (readLane m) (from j n))))
+  slots-lanes : (i j a n : ℕ) → a ≡ laneAddress (sizes m) j
+      → count i (slotsOf (several (laneSteps m base S) laneLength a n)) ≡ count i (concat (concatMap laneQueues (map (readLane m) (from j n))))
   unfolding several slotsOf count concat concatMap from readLane
   slots-lanes i j a zero e = refl
   slots-lanes i j a (suc n) e =
       let rest = concatMap laneQueues (map (readLane m) (from (suc j) n)) in
       let b = laneAddress (sizes m) j in
-      slots-append i (laneMarks a) (several laneMarks 19 (a + 19) n)
-      ∙ ap₂ _+_ (ap (λ (x : ℕ). count i (slotsOf (laneMarks x))) e ∙ three-count i (b + 10) (b + 10 + 4) refl) (slots-lanes i (suc j) (a + 19) n (omega arith))
+      slots-append i (laneSteps m base S a) (several (laneSteps m base S) 19 (a + 19) n)
+      ∙ ap₂ _+_ (ap (λ (x : ℕ). count i (slotsOf (laneSteps m base S x))) e ∙ three-count i (b + 10) (b + 10 + 4) refl) (slots-lanes i (suc j) (a + 19) n (omega arith))
       ∙ sym (three-concat i (readQueue m (b + 10)) (readQueue m (b + 10 + 2)) (readQueue m (b + 10 + 4)) rest
       ∙ let z : count i (readQueue m (b + 10)) + (count i (readQueue m (b + 10 + 2)) + (count i (readQueue m (b + 10 + 4)) + count i (concat rest)))
       ≡ count i (readQueue m (b + 10)) + (count i (readQueue m (b + 10 + 2)) + count i (readQueue m (b + 10 + 4))) + count i (concat rest) = omega arith in z)
 
   -- the queues other than the free one
   abbrev pub retiredQueues : List (List ℕ)
-  retiredQueues = queuesOf (readQueues m 87 81) ++ concatMap laneQueues (map (readLane m) (from 0 (at m 1 * at m 2)))
+  retiredQueues = queuesOf (readQueues m globalGenerationAt globalQueuesAt) ++ concatMap laneQueues (map (readLane m) (from 0 laneTotal))
 
-  pub retired-count : (i : ℕ) → count i (slotsOf (threeMarks 81 ++ lanePart)) ≡ count i (concat retiredQueues)
+  pub retired-count : (i : ℕ) → count i (slotsOf (threeSteps globalQueuesAt ++ lanePart)) ≡ count i (concat retiredQueues)
   retired-count i =
-      slots-append i (threeMarks 81) lanePart
-      ∙ ap₂ _+_ (three-count i 81 85 refl) (slots-lanes i 0 (lanesBody (sizes m)) (at m 1 * at m 2) (omega arith))
+      slots-append i (threeSteps 81) lanePart
+      ∙ ap₂ _+_ (three-count i 81 85 refl) (slots-lanes i 0 (lanesBody (sizes m)) laneTotal (omega arith))
       ∙ sym (three-concat i (readQueue m 81) (readQueue m 83) (readQueue m 85) rest
       ∙ let z : count i (readQueue m 81) + (count i (readQueue m 83) + (count i (readQueue m 85) + count i (concat rest)))
       ≡ count i (readQueue m 81) + (count i (readQueue m 83) + count i (readQueue m 85)) + count i (concat rest) = omega arith in z)
     where
       rest : List (List ℕ)
-      rest = concatMap laneQueues (map (readLane m) (from 0 (at m 1 * at m 2)))
+      rest = concatMap laneQueues (map (readLane m) (from 0 laneTotal))
 
-  -- ---- their kinds
-
-  uniform-queue : (k a : ℕ) → Uniform k (queueMarks k a)
-  unfolding kindIn slotsOf count
-  uniform-queue k a =
-      uniform-append k (puts k (readQueue m a)) (check (eqb (last (readQueue m a)) (at m (a + 1))) ∷ [])
-      (λ i. kind-puts i k (readQueue m a) ∙ ap (λ (x : ℕ). k * x) (sym (slots-puts i k (readQueue m a)))) (λ i. omega arith)
-
-  pub free-kind : (i : ℕ) → kindIn i freePart ≡ 65 * count i (readQueue m 79)
-  free-kind i = uniform-several 65 (queueMarks 65) 2 (uniform-queue 65) 79 1 i ∙ ap (λ (x : ℕ). 65 * x) (free-count i)
-
-  pub retired-kind : (i : ℕ) → kindIn i (threeMarks 81 ++ lanePart) ≡ 66 * count i (concat retiredQueues)
-  retired-kind i =
-      uniform-append 66 (threeMarks 81) lanePart (three 81) (uniform-several 66 laneMarks 19 (λ a. three (a + 10)) (lanesBody (sizes m)) (at m 1 * at m 2)) i
-      ∙ ap (λ (x : ℕ). 66 * x) (retired-count i)
-    where
-      three : (a : ℕ) → Uniform 66 (threeMarks a)
-      three a = uniform-several 66 (queueMarks 66) 2 (uniform-queue 66) a 3
-
-  pub all-kind : (i : ℕ) → kindIn i allMarks ≡ kindIn i chainPart + (65 * count i (readQueue m 79) + 66 * count i (concat retiredQueues))
-  all-kind i =
-      omega (arith, kind-append i chainPart (freePart ++ (threeMarks 81 ++ lanePart)), kind-append i freePart (threeMarks 81 ++ lanePart), free-kind i, retired-kind i)
-
-  pub all-count : (i : ℕ) → count i (slotsOf allMarks) ≡ count i (concat (readChains m)) + (count i (readQueue m 79) + count i (concat retiredQueues))
+  pub all-count : (i : ℕ) → count i (slotsOf (chainPart ++ queuedPart)) ≡ count i (concat (readChains m)) + (count i (readQueue m freeAt) + count i (concat retiredQueues))
+  unfolding queuedSteps
   all-count i =
-      omega (arith, slots-append i chainPart (freePart ++ (threeMarks 81 ++ lanePart)), slots-append i freePart (threeMarks 81 ++ lanePart), chains-count i, free-count i, retired-count i)
+      omega (
+        arith,
+        slots-append i chainPart queuedPart,
+        slots-append i freePart (threeSteps globalQueuesAt ++ lanePart),
+        ap (count i) chains-are,
+        free-count i,
+        retired-count i,
+      )
 
-  -- ---- their checks
+  -- ---- their checks: one queue
 
-  checks-chains : (a n : ℕ) → checks (several (chainMarks (readChain m)) 1 a n) ≡ true
-  unfolding several checks
-  checks-chains a zero = refl
-  checks-chains a (suc n) =
-      checks-append (chainMarks (readChain m) a) (several (chainMarks (readChain m)) 1 (a + 1) n)
-      ∙ ap₂ _&&_ (checks-puts (a + 1) (readChain m a)) (checks-chains (a + 1) n)
+  abbrev lastGiven : ℕ → Bool
+  lastGiven a = eqb (last (readQueue m a)) (at m (a + lastOffset))
 
-  checks-queue : (k a : ℕ) → checks (queueMarks k a) ≡ eqb (last (readQueue m a)) (at m (a + 1))
+  pub queue-last : (free : Bool) (a : ℕ) → checks (queueSteps m base S free a) ≡ true → lastGiven a ≡ true
   unfolding checks
-  checks-queue k a =
-      checks-append (puts k (readQueue m a)) (check (eqb (last (readQueue m a)) (at m (a + 1))) ∷ [])
-      ∙ ap (λ (b : Bool). b && (eqb (last (readQueue m a)) (at m (a + 1)) && true)) (checks-puts k (readQueue m a))
-      ∙ and-one _
+  queue-last free a h =
+      let k = checks-both (linkSteps m base S free a) (check (eqb (last (slotsOf (linkSteps m base S free a))) (at m (a + lastOffset))) ∷ []) h .1 in
+      ap (λ (xs : List ℕ). eqb (last xs) (at m (a + lastOffset))) (sym (link-slots free a)) ∙ and-true (eqb (last (slotsOf (linkSteps m base S free a))) (at m (a + lastOffset))) true k .0
 
-  checks-three : (a g : ℕ) → checks (threeMarks a) ≡ lastsAt m a (readQueues m g a)
-  unfolding several checks every
-  checks-three a g =
-      let q : a + 2 + 2 ≡ a + 4 = omega arith in
-      checks-append (queueMarks 66 a) (several (queueMarks 66) 2 (a + 2) 2)
-      ∙ ap₂ _&&_ (checks-queue 66 a)
-      (checks-append (queueMarks 66 (a + 2)) (several (queueMarks 66) 2 (a + 2 + 2) 1)
-      ∙ ap₂ _&&_ (checks-queue 66 (a + 2))
-      (checks-append (queueMarks 66 (a + 2 + 2)) []
-      ∙ ap (λ (b : Bool). b && true) (checks-queue 66 (a + 2 + 2) ∙ ap (λ (x : ℕ). eqb (last (readQueue m x)) (at m (x + 1))) q)))
+  module _ (links : (x : ℕ) → x < S → slotOrNone S (at m (base + queueLinkAt + slotLength * x)) ≡ true) where
+    pub last-queue : (free : Bool) (a : ℕ) → slotOrNone S (at m a) ≡ true → ((x : ℕ) → 0 < count x (readQueue m a) → queuedFits m base S free x ≡ true) → lastGiven a ≡ true
+        → checks (queueSteps m base S free a) ≡ true
+    unfolding checks
+    last-queue free a h f l =
+        both-check (linkSteps m base S free a) (check (eqb (last (slotsOf (linkSteps m base S free a))) (at m (a + lastOffset))) ∷ [])
+        (told-walks m (base + queueLinkAt) S (queuedFits m base S free) links (at m a) (S + 1) h (λ x p. f x (subst (λ (xs : List ℕ). 0 < count x xs) (link-slots free a) p)))
+        (and-intro (eqb (last (slotsOf (linkSteps m base S free a))) (at m (a + lastOffset))) true (ap (λ (xs : List ℕ). eqb (last xs) (at m (a + lastOffset))) (link-slots free a) ∙ l) refl)
 
-  checks-lanes : (j a n : ℕ) → a ≡ laneAddress (sizes m) j → checks (several laneMarks 19 a n) ≡ all (λ (i : ℕ). lastsAt m (laneAddress (sizes m) i + 10) (readLane m i .queues)) (from j n)
-  unfolding several checks all from readLane
-  checks-lanes j a zero e = refl
-  checks-lanes j a (suc n) e =
-      checks-append (laneMarks a) (several laneMarks 19 (a + 19) n)
-      ∙ ap₂ _&&_
-      (ap (λ (x : ℕ). checks (laneMarks x)) e ∙ checks-three (laneAddress (sizes m) j + 10) (laneAddress (sizes m) j + 9))
-      (checks-lanes (suc j) (a + 19) n (omega arith))
+  -- ---- three queues
 
-  lane-of : (i : ℕ) → i < at m 1 * at m 2 → laneAt (state m .engine) i ≡ readLane m i
+  three-lasts : (a g : ℕ) → checks (threeSteps a) ≡ true → lastsAt m a (readQueues m g a) ≡ true
+  three-lasts a g h =
+      every-intro _ (given 0 a (omega arith) (omega arith), (given 1 (a + 2) (omega arith) (omega arith), (given 2 (a + 4) (omega arith) (omega arith), tt)))
+    where
+      given : (j x : ℕ) → j < 3 → a + queueWidth * j ≡ x → lastGiven x ≡ true
+      given j x b e = subst (λ (y : ℕ). lastGiven y ≡ true) e (queue-last false (a + queueWidth * j) (several-check (queueSteps m base S false) queueWidth a 3 h j b))
+
+  lane-of : (i : ℕ) → i < laneTotal → laneAt (state m .engine) i ≡ readLane m i
   unfolding state
-  lane-of i b = getD-map-below (readLane m) (at m 1 * at m 2) i freshLane b
+  lane-of i b = getD-map-below (readLane m) laneTotal i freshLane b
 
-  pub all-checks : checks allMarks ≡ lastsAgree m (state m)
-  unfolding lastsAgree every several checks state
-  all-checks =
-      checks-append chainPart (freePart ++ (threeMarks 81 ++ lanePart))
-      ∙ ap₂ _&&_ (checks-chains 0 64)
-      (checks-append freePart (threeMarks 81 ++ lanePart)
-      ∙ ap₂ _&&_ (checks-append (queueMarks 65 79) [] ∙ and-one _ ∙ checks-queue 65 79)
-      (checks-append (threeMarks 81) lanePart
-      ∙ ap₂ _&&_ (checks-three 81 87)
-      (checks-lanes 0 (lanesBody (sizes m)) (at m 1 * at m 2) (omega arith)
-      ∙ all-alike (λ (i : ℕ). lastsAt m (laneAddress (sizes m) i + 10) (readLane m i .queues)) (λ (i : ℕ). lastsAt m (laneAddress (sizes m) i + 10) (laneAt (state m .engine) i .queues)) 0 (at m 1 * at m 2)
-      (λ i b c. ap (λ (l : Lane). lastsAt m (laneAddress (sizes m) i + 10) (l .queues)) (sym (lane-of i (omega arith))))
-      ∙ sym (and-one _))))
+  pub steps-lasts : checks queuedPart ≡ true → lastsAgree m (state m) ≡ true
+  unfolding queuedSteps lastsAgree state readLane several
+  steps-lasts h =
+      let k = checks-both freePart (threeSteps globalQueuesAt ++ lanePart) h in
+      let r = checks-both (threeSteps globalQueuesAt) lanePart (k .1) in
+      every-intro _ (
+        queue-last true freeAt (several-check (queueSteps m base S true) queueWidth freeAt 1 (k .0) 0 (omega arith)),
+        (
+          three-lasts globalQueuesAt globalGenerationAt (r .0),
+          (
+            all-below-intro (λ (i : ℕ). lastsAt m (laneAddress (sizes m) i + queuesAt) (laneAt (state m .engine) i .queues)) laneTotal
+                (λ i b. ap (λ (l : Lane). lastsAt m (laneAddress (sizes m) i + queuesAt) (l .queues)) (lane-of i b)
+                ∙ three-lasts (laneAddress (sizes m) i + queuesAt) (laneAddress (sizes m) i + generationAt) (several-check (laneSteps m base S) laneLength (lanesBody (sizes m)) laneTotal (r .1) i b)),
+            tt,
+          ),
+        ),
+      )
+
+  -- ---- and back
+
+  module _ (links : (x : ℕ) → x < S → slotOrNone S (at m (base + queueLinkAt + slotLength * x)) ≡ true)
+      (retired : (a x : ℕ) → 0 < count x (readQueue m a) → queuedFits m base S false x ≡ true) where
+    lasts-three : (a g : ℕ) → slotOrNone S (at m a) ≡ true → slotOrNone S (at m (a + 2)) ≡ true → slotOrNone S (at m (a + 4)) ≡ true → lastsAt m a (readQueues m g a) ≡ true
+        → checks (threeSteps a) ≡ true
+    lasts-three a g h₀ h₁ h₂ l =
+        let e = every-true _ l in
+        check-several (queueSteps m base S false) queueWidth a 3 (given (e .0) (e .1 .0) (e .1 .1 .0))
+      where
+        here : (x y : ℕ) → x ≡ y → slotOrNone S (at m x) ≡ true → lastGiven x ≡ true → checks (queueSteps m base S false y) ≡ true
+        here x y q h t = subst (λ (z : ℕ). checks (queueSteps m base S false z) ≡ true) q (last-queue links false x h (retired x) t)
+
+        given : lastGiven a ≡ true → lastGiven (a + 2) ≡ true → lastGiven (a + 4) ≡ true → (j : ℕ) → j < 3 → checks (queueSteps m base S false (a + queueWidth * j)) ≡ true
+        given t₀ t₁ t₂ zero b = here a (a + queueWidth * 0) (omega arith) h₀ t₀
+        given t₀ t₁ t₂ (suc zero) b = here (a + 2) (a + queueWidth * 1) (omega arith) h₁ t₁
+        given t₀ t₁ t₂ (suc (suc zero)) b = here (a + 4) (a + queueWidth * 2) (omega arith) h₂ t₂
+        given t₀ t₁ t₂ (suc (suc (suc j))) b = absurd (omega arith)
+
+    pub lasts-steps : ((x : ℕ) → 0 < count x (readQueue m freeAt) → queuedFits m base S true x ≡ true)
+        → slotOrNone S (at m freeAt) ≡ true
+        → slotOrNone S (at m globalQueuesAt) ≡ true → slotOrNone S (at m (globalQueuesAt + 2)) ≡ true → slotOrNone S (at m (globalQueuesAt + 4)) ≡ true
+        → ((i : ℕ) → i < laneTotal
+        → (slotOrNone S (at m (laneAddress (sizes m) i + queuesAt)) ≡ true) × (slotOrNone S (at m (laneAddress (sizes m) i + queuesAt + currentOffset)) ≡ true)
+        × (slotOrNone S (at m (laneAddress (sizes m) i + queuesAt + doneOffset)) ≡ true))
+        → lastsAgree m (state m) ≡ true → checks queuedPart ≡ true
+    unfolding queuedSteps lastsAgree state readLane
+    lasts-steps blank f g₀ g₁ g₂ h l =
+        let e = every-true _ l in
+        both-check freePart (threeSteps globalQueuesAt ++ lanePart)
+        (check-several (queueSteps m base S true) queueWidth freeAt 1 (λ j b. let q : freeAt ≡ freeAt + queueWidth * j = omega arith in subst (λ (z : ℕ). checks (queueSteps m base S true z) ≡ true) q (last-queue links true freeAt f blank (e .0))))
+        (both-check (threeSteps globalQueuesAt) lanePart (lasts-three globalQueuesAt globalGenerationAt g₀ g₁ g₂ (e .1 .0))
+        (check-several (laneSteps m base S) laneLength (lanesBody (sizes m)) laneTotal (λ i b.
+        lasts-three (laneAddress (sizes m) i + queuesAt) (laneAddress (sizes m) i + generationAt)
+        (h i b .0) (h i b .1) (h i b .2)
+        (sym (ap (λ (l : Lane). lastsAt m (laneAddress (sizes m) i + queuesAt) (l .queues)) (lane-of i b))
+        ∙ all-below (λ (i : ℕ). lastsAt m (laneAddress (sizes m) i + queuesAt) (laneAt (state m .engine) i .queues)) laneTotal i (e .1 .1 .0) b))))

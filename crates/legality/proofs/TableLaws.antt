@@ -1,308 +1,384 @@
--- The marks, the slots' tests and the codes' tree decide the sentences about the slots. Assumes nothing.
+-- The walks and the codes put aside decide the sentences about the slots: each slot is right for the place where it is met, each is met once, and
+-- two codes are equal only where two put aside are.
 use Prim.Native.Nat.{ℕ, zero, suc, _+_, _*_, _%_, _≤_, _<_}
 use mathlib.Core.Bool.{Bool, true, false, not, cond, _&&_, _||_}
 use mathlib.Core.Path.{_≡_, refl, ap, ap₂, sym, _∙_, subst}
 use mathlib.Core.List.{List, [], _∷_, _++_, map}
 use native.Mathlib.Omega.{arith}
 use native.Mathlib.Decide.{decLt}
-use lib.ListN.{getD, length, replicate, getD-replicate, length-replicate, List·getD-eq-default}
+use native.Mathlib.Nat.{mod-lt}
+use lib.ListN.{getD, length, take, replicate, length-replicate}
 use lib.Dec.{leb, ltb, eqb}
-use borrow.Author.Tests.{eq-eqb, ne-eqb, eqb-true, le-leb, lt-leb, leb-true}
+use borrow.Author.Tests.{eq-eqb, eqb-true}
 use Rattle.model.specs.Word.{none}
-use Rattle.model.specs.Lists.{all, from, count, distinct, concat}
-use Rattle.model.specs.Layout.{slotsBody, slotAddress, lanesBody}
-use Rattle.model.specs.Memory.{at, wide, sizes, slotWord, readChain, readChains, readQueue, state}
-use Rattle.model.specs.Legal.{lastsAgree}
-use Rattle.laws.specs.Tests.{and-true, and-intro, or-right, all-below, all-below-intro, clash}
-use Rattle.slot_places.specs.Steps.{Step, run, spoilt, painted}
-use Rattle.slot_places.proofs.Marked.{slotsOf, checks, kindIn, taken, marks-are, marks-once, marks-checked, Spoilt, failed, doubled, spoilt-why}
-use Rattle.slot_places.proofs.Places.{kind-none, chain-kind, chain-find, Chained}
-use Rattle.distinct_codes.specs.Tree.{Tells}
-use Rattle.distinct_codes.proofs.Distinct.{is, isnt, known, Lists, tells-distinct}
-use Rattle.legality.specs.Slots.{slotInRange, slotInPlace, slotFits, chainedFits, queuedFits, CodesTell, Decides, unfit, twice, right}
-use Rattle.legality.specs.Parts.{tableLegal, placeSteps}
-use Rattle.legality.proofs.StepsRead.{chainPart, allMarks, steps-are, steps-right, all-kind, all-count, all-checks, chains-count}
-use Rattle.legality.proofs.TableSaid.{chainedCount, freeCount, retiredCount, codeAt, blankSaid, productSaid, TableSaid, chain-below, free-below, chain-chained, chained-below, table-said, said-table}
+use Rattle.model.specs.Lists.{all, every, from, count, distinct, concat}
+use Rattle.model.specs.Layout.{maxSlots, chainCount, queueWidth, currentOffset, doneOffset, lastOffset, headsAt, freeAt, globalQueuesAt, masksAt, queuesAt, positionAt, depositAt, materialAt, chainLinkAt, queueLinkAt, slotLength, laneLength, slotsBody, slotAddress, laneAddress, lanesBody}
+use Rattle.model.specs.Rules.{wrongProduct}
+use Rattle.model.specs.Memory.{at, wide, sizes, slotWord, laneWord, readChain, readChains, readQueue, state}
+use Rattle.model.specs.Legal.{lastsAgree, laneNumbers, endsInRange, queuesInRange, laneLinksInRange, slotOrNone as inRange}
+use Rattle.laws.specs.Tests.{every-true, and-true, and-intro, or-right, all-below, clash}
+use Rattle.laws.specs.Lists.{getD-replicate-default}
+use Rattle.laws.specs.Counts.{count-append}
+use Rattle.distinct_codes.specs.Cells.{cellsOf, spread, codeAt, Held, held, Places, Room}
+use Rattle.distinct_codes.specs.Cells.{clash as repeated}
+use Rattle.distinct_codes.proofs.CellLaws.{meets-told, meets-twice}
+use Rattle.slot_places.specs.Slots.{slotOrNone, productInRange, chainedFits, queuedFits, freeAt as blankAt, retiredAt}
+use Rattle.slot_places.specs.Steps.{Step, Outcome, spoilt, painted, run, slotsOf, several, chainSteps, linkSteps, queueSteps, laneSteps, unmarked, Counted, Ready, entersAll, Enters, Runs}
+use Rattle.slot_places.proofs.StepLaws.{unlike, going, run-append, unmarked-all, unmarked-none, unmarked-some}
+use Rattle.slot_places.proofs.Marked.{checks, marks-are, marks-most, marks-checked, Spoilt, failed, doubled, spoilt-why}
+use Rattle.slot_places.proofs.Places.{Told, checks-both, both-check, told-append, told-several, several-check, check-several, walks-told, told-walks}
+use Rattle.engine_legality.specs.Sentences.{engineLegal}
+use Rattle.legality.specs.Parts.{Table, tableLegal, queuedSteps, Lent}
+use Rattle.legality.proofs.StepsRead.{S, base, laneTotal, chainPart, freePart, threeSteps, lanePart, queuedPart, chain-slots, link-slots, chains-are, free-count, retired-count, all-count, steps-right, steps-lasts, lasts-steps}
+use Rattle.legality.proofs.TableSaid.{chainedCount, freeCount, retiredCount, TableSaid, chain-below, queue-below-at, chain-chained, chained-below, table-said, said-table}
 
 -- a test that cannot hold fails
 refuted : (b : Bool) → (b ≡ true → ⊥) → false ≡ b
 refuted true h = absurd (h refl)
 refuted false h = refl
 
--- ---- the marks before the first step
+abbrev Firsts : List ℕ → (ℕ → ℕ) → ℕ → Type 0
+Firsts m word k = (slotOrNone (S m) (word k) ≡ true) × (slotOrNone (S m) (word (k + currentOffset)) ≡ true) × (slotOrNone (S m) (word (k + doneOffset)) ≡ true)
 
-abbrev pub zeros : List ℕ
-zeros = replicate 1024 0
+module _ (m : List ℕ) where
+  abbrev slotAt : ℕ → ℕ
+  slotAt i = base m + slotLength * i
 
-zero-at : (i : ℕ) → getD zeros i 0 ≡ 0
-zero-at i =
-    elim (decLt i 1024) [
-      | yes p ↦ getD-replicate 1024 i 0 0 p
-      | no p ↦ List·getD-eq-default zeros 0 {n = i} (omega (arith, length-replicate {A = ℕ} 1024 0))
-    ]
+  -- a slot's link, as a walk reads it and as the sentences do
+  link-said : (k i : ℕ) → slotOrNone (S m) (slotWord m k i) ≡ true → slotOrNone (S m) (at m (base m + k + slotLength * i)) ≡ true
+  link-said k i h = let e : slotAt i + k ≡ base m + k + slotLength * i = omega arith in subst (λ (x : ℕ). slotOrNone (S m) (at m x) ≡ true) e h
 
--- ---- one slot and its mark
+  said-link : (k i : ℕ) → slotOrNone (S m) (at m (base m + k + slotLength * i)) ≡ true → slotOrNone (S m) (slotWord m k i) ≡ true
+  said-link k i h = let e : base m + k + slotLength * i ≡ slotAt i + k = omega arith in subst (λ (x : ℕ). slotOrNone (S m) (at m x) ≡ true) e h
 
-module _ (m : List ℕ) (b : ℕ) where
-  place-chain : (k mark : ℕ) → k < 64 → mark ≡ k + 1 → slotInPlace m b mark ≡ (eqb (at m b % 64 + 1) (k + 1) && eqb (at m (b + 5)) none)
-  place-chain k mark h e = ap (slotInPlace m b) e ∙ rw (le-leb (k + 1) 64 (omega arith))
+  -- ---- legal tables pass every check
 
-  place-free : (mark : ℕ) → mark ≡ 65 → slotInPlace m b mark ≡ (eqb (at m b) 0 && eqb (at m (b + 1)) 0 && eqb (at m (b + 2)) 0 && eqb (at m (b + 3)) 0 && eqb (at m (b + 4)) none)
-  place-free mark e = ap (slotInPlace m b) e
+  -- the first of a queue, of three
+  first-fits : (word : ℕ → ℕ) (k : ℕ) → endsInRange m word k ≡ true → slotOrNone (S m) (word k) ≡ true
+  first-fits word k h = and-true (inRange m (word k)) (inRange m (word (k + lastOffset))) h .0
 
-  place-retired : (mark : ℕ) → mark ≡ 66 → slotInPlace m b mark ≡ true
-  place-retired mark e = ap (slotInPlace m b) e
+  firsts-fit : (word : ℕ → ℕ) (k : ℕ) → queuesInRange m word k ≡ true → Firsts m word k
+  firsts-fit word k h =
+      let t = and-true (endsInRange m word k && endsInRange m word (k + currentOffset)) (endsInRange m word (k + doneOffset)) h in
+      let u = and-true (endsInRange m word k) (endsInRange m word (k + currentOffset)) (t .0) in
+      (first-fits word k (u .0), first-fits word (k + currentOffset) (u .1), first-fits word (k + doneOffset) (t .1))
 
-  -- no slot without a mark is in its place
-  place-marked : (mark : ℕ) → slotInPlace m b mark ≡ true → 0 < mark
-  place-marked zero h = clash (and-true (eqb (at m b % 64 + 1) 0) (eqb (at m (b + 5)) none) h .0) (ne-eqb (at m b % 64 + 1) 0 (λ e. omega arith))
-  place-marked (suc k) h = omega arith
+  module _ (engine : engineLegal m ≡ true) (s : TableSaid m) where
+    -- a walk begins at a slot or at none
+    head-fits : (k : ℕ) → k < chainCount → slotOrNone (S m) (at m (headsAt + k)) ≡ true
+    unfolding engineLegal
+    head-fits k b =
+        let h = and-true (all (λ (k : ℕ). inRange m (at m (headsAt + k))) (from 0 chainCount) && endsInRange m (at m) freeAt) (queuesInRange m (at m) globalQueuesAt) (every-true _ engine .1 .1 .0) .0 in
+        all-below (λ (k : ℕ). inRange m (at m (headsAt + k))) chainCount k (and-true (all (λ (k : ℕ). inRange m (at m (headsAt + k))) (from 0 chainCount)) (endsInRange m (at m) freeAt) h .0) b
 
-  -- the low word decides the chain
-  low-chain : (k : ℕ) → (wide m b % 64 ≡ k → at m b % 64 + 1 ≡ k + 1) × (at m b % 64 + 1 ≡ k + 1 → wide m b % 64 ≡ k)
-  low-chain k = (λ e. omega arith, λ e. omega arith)
+    free-fits : slotOrNone (S m) (at m freeAt) ≡ true
+    unfolding engineLegal
+    free-fits =
+        let h = and-true (all (λ (k : ℕ). inRange m (at m (headsAt + k))) (from 0 chainCount) && endsInRange m (at m) freeAt) (queuesInRange m (at m) globalQueuesAt) (every-true _ engine .1 .1 .0) .0 in
+        first-fits (at m) freeAt (and-true (all (λ (k : ℕ). inRange m (at m (headsAt + k))) (from 0 chainCount)) (endsInRange m (at m) freeAt) h .1)
 
-  -- both words of a code are 0
-  blank-in : (eqb (wide m b) 0 && eqb (at m (b + 2)) 0 && eqb (at m (b + 3)) 0 && eqb (at m (b + 4)) none) ≡ true
-      → (eqb (at m b) 0 && eqb (at m (b + 1)) 0 && eqb (at m (b + 2)) 0 && eqb (at m (b + 3)) 0 && eqb (at m (b + 4)) none) ≡ true
-  blank-in h =
-      let t₁ = and-true (eqb (wide m b) 0 && eqb (at m (b + 2)) 0 && eqb (at m (b + 3)) 0) (eqb (at m (b + 4)) none) h in
-      let t₂ = and-true (eqb (wide m b) 0 && eqb (at m (b + 2)) 0) (eqb (at m (b + 3)) 0) (t₁ .0) in
-      let t₃ = and-true (eqb (wide m b) 0) (eqb (at m (b + 2)) 0) (t₂ .0) in
-      let z : wide m b ≡ 0 = eqb-true _ _ (t₃ .0) in
-      and-intro _ _ (and-intro _ _ (and-intro _ _ (and-intro _ _ (eq-eqb (at m b) 0 (omega arith)) (eq-eqb (at m (b + 1)) 0 (omega arith))) (t₃ .1)) (t₂ .1)) (t₁ .1)
+    global-fits : Firsts m (at m) globalQueuesAt
+    unfolding engineLegal
+    global-fits =
+        firsts-fit (at m) globalQueuesAt
+        (and-true (all (λ (k : ℕ). inRange m (at m (headsAt + k))) (from 0 chainCount) && endsInRange m (at m) freeAt) (queuesInRange m (at m) globalQueuesAt) (every-true _ engine .1 .1 .0) .1)
 
-  in-blank : (eqb (at m b) 0 && eqb (at m (b + 1)) 0 && eqb (at m (b + 2)) 0 && eqb (at m (b + 3)) 0 && eqb (at m (b + 4)) none) ≡ true
-      → (eqb (wide m b) 0 && eqb (at m (b + 2)) 0 && eqb (at m (b + 3)) 0 && eqb (at m (b + 4)) none) ≡ true
-  in-blank h =
-      let t₁ = and-true (eqb (at m b) 0 && eqb (at m (b + 1)) 0 && eqb (at m (b + 2)) 0 && eqb (at m (b + 3)) 0) (eqb (at m (b + 4)) none) h in
-      let t₂ = and-true (eqb (at m b) 0 && eqb (at m (b + 1)) 0 && eqb (at m (b + 2)) 0) (eqb (at m (b + 3)) 0) (t₁ .0) in
-      let t₃ = and-true (eqb (at m b) 0 && eqb (at m (b + 1)) 0) (eqb (at m (b + 2)) 0) (t₂ .0) in
-      let t₄ = and-true (eqb (at m b) 0) (eqb (at m (b + 1)) 0) (t₃ .0) in
-      let x : at m b ≡ 0 = eqb-true _ _ (t₄ .0) in
-      let y : at m (b + 1) ≡ 0 = eqb-true _ _ (t₄ .1) in
-      and-intro _ _ (and-intro _ _ (and-intro _ _ (eq-eqb (wide m b) 0 (omega arith)) (t₃ .1)) (t₂ .1)) (t₁ .1)
+    lane-fits : (i : ℕ) → i < laneTotal m → Firsts m (laneWord m i) queuesAt
+    unfolding engineLegal
+    lane-fits i b =
+        let t = all-below (laneLinksInRange m) (laneTotal m) i (every-true _ engine .1 .1 .1 .0) b in
+        firsts-fit (laneWord m i) queuesAt (and-true (queuesInRange m (laneWord m i) queuesAt) (inRange m (laneWord m i positionAt)) t .0)
 
-module _ (m : List ℕ) (base lane n : ℕ) (eb : base ≡ slotsBody (sizes m)) (el : lane ≡ lanesBody (sizes m)) (en : n ≡ at m 1 * at m 2) (few : at m 3 ≤ 1024) where
-  abbrev S : ℕ
-  S = at m 3
+    -- the same by addresses
+    end-fits : (i k x : ℕ) → laneAddress (sizes m) i + k ≡ x → slotOrNone (S m) (laneWord m i k) ≡ true → slotOrNone (S m) (at m x) ≡ true
+    end-fits i k x e h = subst (λ (y : ℕ). slotOrNone (S m) (at m y) ≡ true) e h
 
-  abbrev steps : List Step
-  steps = placeSteps m base lane n S
+    queue-below : (a x : ℕ) → 0 < count x (readQueue m a) → x < S m
+    queue-below a x p = queue-below-at m a x p
+
+    retired-fits : (a x : ℕ) → 0 < count x (readQueue m a) → queuedFits m (base m) (S m) false x ≡ true
+    retired-fits a x p =
+        let b = queue-below a x p in
+        and-intro (productInRange m (slotAt x)) (slotOrNone (S m) (at m (slotAt x + chainLinkAt))) (s .products x b) (s .chainLinks x b)
+
+    chain-fits : (k : ℕ) → k < chainCount → (x : ℕ) → 0 < count x (readChain m k) → chainedFits m (base m) k x ≡ true
+    chain-fits k b x p =
+        let l = chain-below m k x p in
+        and-intro (eqb (wide m (slotAt x) % chainCount) k && productInRange m (slotAt x)) (eqb (at m (slotAt x + queueLinkAt)) none)
+        (and-intro (eqb (wide m (slotAt x) % chainCount) k) (productInRange m (slotAt x)) (eq-eqb _ _ (s .chained k x b p)) (s .products x l))
+        (eq-eqb _ _ (s .rest x l (omega (arith, s .once x l, chain-chained m k x b, p))))
+
+    said-checks : checks (chainPart m ++ queuedPart m) ≡ true
+    said-checks =
+        both-check (chainPart m) (queuedPart m)
+        (check-several (chainSteps m (base m) (S m)) 1 0 chainCount (λ j b.
+        let e : j ≡ 0 + 1 * j = omega arith in
+        subst (λ (k : ℕ). checks (chainSteps m (base m) (S m) k) ≡ true) e
+        (told-walks m (base m + chainLinkAt) (S m) (chainedFits m (base m) j) (λ x l. link-said chainLinkAt x (s .chainLinks x l)) (at m (headsAt + j)) (S m + 1) (head-fits j b)
+        (λ x p. chain-fits j b x (subst (λ (xs : List ℕ). 0 < count x xs) (chain-slots m j) p)))))
+        (lasts-steps m (λ x l. link-said queueLinkAt x (s .queueLinks x l)) retired-fits (λ x p. s .blank x p)
+        free-fits (global-fits .0) (global-fits .1) (global-fits .2)
+        (λ i b. let f = lane-fits i b in (f .0, end-fits i (queuesAt + currentOffset) _ (omega arith) (f .1), end-fits i (queuesAt + doneOffset) _ (omega arith) (f .2))) (s .lasts))
+
+  -- ---- tables that pass every check, and in which each slot is met once
 
   abbrev standing : ℕ → ℕ
   standing i = chainedCount m i + (freeCount m i + retiredCount m i)
 
-  steps-count : (i : ℕ) → count i (slotsOf steps) ≡ standing i
-  steps-count i = ap (λ (ps : List Step). count i (slotsOf ps)) (steps-are m base lane n eb el en) ∙ all-count m i
+  module _ (h : checks (chainPart m ++ queuedPart m) ≡ true) (once : (i : ℕ) → i < S m → standing i ≡ 1) where
+    parts : (checks (chainPart m) ≡ true) × (checks (queuedPart m) ≡ true)
+    parts = checks-both (chainPart m) (queuedPart m) h
 
-  steps-checks : checks steps ≡ lastsAgree m (state m)
-  steps-checks = ap checks (steps-are m base lane n eb el en) ∙ all-checks m
+    queued : (checks (freePart m) ≡ true) × (checks (threeSteps m globalQueuesAt ++ lanePart m) ≡ true)
+    unfolding queuedSteps
+    queued = checks-both (freePart m) (threeSteps m globalQueuesAt ++ lanePart m) (parts .1)
 
-  room : S ≤ length zeros
-  room = omega (arith, length-replicate {A = ℕ} 1024 0)
+    -- a slot in a queue
+    abbrev Fit : Bool → ℕ → Type 0
+    Fit free x = (queuedFits m (base m) (S m) free x ≡ true) × (slotOrNone (S m) (at m (base m + queueLinkAt + slotLength * x)) ≡ true)
 
-  -- ---- the steps are spoilt
+    queue-told : (free : Bool) (a : ℕ) → Told (Fit free) (queueSteps m (base m) (S m) free a)
+    unfolding slotsOf count
+    queue-told free a =
+        told-append (Fit free) (linkSteps m (base m) (S m) free a) _ (walks-told m (base m + queueLinkAt) (S m) (queuedFits m (base m) (S m) free) (at m a) (S m + 1)) (λ k i b. absurd (omega arith))
 
-  pub table-spoilt : run steps zeros ≡ spoilt → false ≡ tableLegal m
-  table-spoilt h = refuted (tableLegal m) (λ t. never (table-said m t) (spoilt-why S zeros (steps-right m base lane n eb el en) room h))
-    where
-      never : TableSaid m → Spoilt S steps zeros → ⊥
-      never s (failed f) = clash (steps-checks ∙ s .lasts) f
-      never s (doubled i b d) = omega (arith, s .once i b, steps-count i, zero-taken i)
-        where
-          zero-taken : (i : ℕ) → taken (getD zeros i 0) ≡ 0
-          zero-taken i = ap taken (zero-at i)
+    three-told : (a : ℕ) → Told (Fit false) (threeSteps m a)
+    three-told a = told-several (queueSteps m (base m) (S m) false) queueWidth (Fit false) (queue-told false) a 3
 
-  -- ---- or they are painted
+    free-told : (x : ℕ) → 0 < freeCount m x → Fit true x
+    free-told x p = told-several (queueSteps m (base m) (S m) true) queueWidth (Fit true) (queue-told true) freeAt 1 (queued .0) x (omega (arith, free-count m x, p))
 
-  module _ (t : List ℕ) (h : run steps zeros ≡ painted t) where
-    mark-is : (i : ℕ) → getD t i 0 ≡ kindIn i (chainPart m) + (65 * freeCount m i + 66 * retiredCount m i)
-    mark-is i =
-        let q : getD t i 0 ≡ getD zeros i 0 + kindIn i steps = marks-are S zeros t (steps-right m base lane n eb el en) room h i in
-        let e : kindIn i steps ≡ kindIn i (allMarks m) = ap (kindIn i) (steps-are m base lane n eb el en) in
-        omega (arith, zero-at i, all-kind m i)
+    retired-told : (x : ℕ) → 0 < retiredCount m x → Fit false x
+    retired-told x p =
+        told-append (Fit false) (threeSteps m globalQueuesAt) (lanePart m) (three-told globalQueuesAt)
+        (told-several (laneSteps m (base m) (S m)) laneLength (Fit false) (λ a. three-told (a + queuesAt)) (lanesBody (sizes m)) (laneTotal m)) (queued .1) x (omega (arith, retired-count m x, p))
 
-    mark-taken : (i : ℕ) → taken (getD t i 0) ≡ standing i
-    mark-taken i =
-        marks-once S zeros t (steps-right m base lane n eb el en) room h i
-        ∙ ap₂ _+_ (ap taken (zero-at i)) (steps-count i) ∙ let z : 0 + standing i ≡ standing i = omega arith in z
+    -- a slot on a chain
+    record Linked (k x : ℕ) : Type 0 where
+      number : eqb (wide m (slotAt x) % chainCount) k ≡ true
+      product : productInRange m (slotAt x) ≡ true
+      rest : eqb (at m (slotAt x + queueLinkAt)) none ≡ true
+      link : slotOrNone (S m) (slotWord m chainLinkAt x) ≡ true
 
-    lasts-hold : lastsAgree m (state m) ≡ true
-    lasts-hold = sym steps-checks ∙ marks-checked S zeros t (steps-right m base lane n eb el en) h
+    chain-told : (k : ℕ) → k < chainCount → (x : ℕ) → 0 < count x (readChain m k) → Linked k x
+    chain-told k b x p =
+        let e : 0 + 1 * k ≡ k = omega arith in
+        let c : checks (chainSteps m (base m) (S m) k) ≡ true =
+        subst (λ (j : ℕ). checks (chainSteps m (base m) (S m) j) ≡ true) e (several-check (chainSteps m (base m) (S m)) 1 0 chainCount (parts .0) k b) in
+        let t = walks-told m (base m + chainLinkAt) (S m) (chainedFits m (base m) k) (at m (headsAt + k)) (S m + 1) c x (subst (λ (xs : List ℕ). 0 < count x xs) (sym (chain-slots m k)) p) in
+        let u = and-true (eqb (wide m (slotAt x) % chainCount) k && productInRange m (slotAt x)) (eqb (at m (slotAt x + queueLinkAt)) none) (t .0) in
+        let v = and-true (eqb (wide m (slotAt x) % chainCount) k) (productInRange m (slotAt x)) (u .0) in
+        record { number = v .0; product = v .1; rest = u .1; link = said-link chainLinkAt x (t .1) }
 
-    -- a slot that stands once, by its place
-    module _ (i : ℕ) (once : standing i ≡ 1) where
-      mark-chain : (k : ℕ) → k < 64 → 0 < count i (readChain m k) → getD t i 0 ≡ k + 1
-      mark-chain k b c =
-          let q : count i (readChain m k) ≤ chainedCount m i = chain-chained m k i b in
-          let e : 0 + k ≡ k = omega arith in
-          let g : kindIn i (chainPart m) ≡ 0 + k + 1 = chain-kind (readChain m) 0 64 k i b (rw e c) (omega (arith, chains-count m i)) in
-          omega (arith, mark-is i)
+    -- the place of a slot
+    data Place (i : ℕ) : Type 0 where
+      chained : (k : ℕ) → Linked k i → Place i
+      free : 0 < freeCount m i → Fit true i → Place i
+      retired : 0 < retiredCount m i → Fit false i → Place i
 
-      unchained : chainedCount m i ≡ 0 → kindIn i (chainPart m) ≡ 0
-      unchained z = kind-none i (chainPart m) (chains-count m i ∙ z)
+    find : (i a n : ℕ) → a + n ≤ chainCount → 0 < count i (concat (map (readChain m) (from a n))) → Place i
+    unfolding count concat from
+    find i a zero l p = absurd (omega arith)
+    find i a (suc n) l p =
+        elim (decLt 0 (count i (readChain m a))) [
+          | yes q ↦ chained a (chain-told a (omega arith) i q)
+          | no q ↦ find i (suc a) n (omega arith) (omega (arith, p, count-append i (readChain m a) (concat (map (readChain m) (from (suc a) n)))))
+        ]
 
-      mark-free : 0 < freeCount m i → getD t i 0 ≡ 65
-      mark-free c = omega (arith, mark-is i, unchained (omega arith))
-
-      mark-retired : 0 < retiredCount m i → getD t i 0 ≡ 66
-      mark-retired c = omega (arith, mark-is i, unchained (omega arith))
-
-      find-chain : 0 < chainedCount m i → Chained (readChain m) 0 64 i
-      find-chain c = chain-find (readChain m) 0 64 i (omega (arith, chains-count m i))
-
-    found-on : {i : ℕ} (c : Chained (readChain m) 0 64 i) → 0 < count i (readChain m (c .chain))
-    found-on {i} c = let e : 0 + c .chain ≡ c .chain = omega arith in subst (λ (k : ℕ). 0 < count i (readChain m k)) e (c .on)
-
-    abbrev slotAt : ℕ → ℕ
-    slotAt i = slotAddress (sizes m) i
-
-    fits-at : (i : ℕ) → slotFits m base S t i ≡ (slotInRange m S (slotAt i) && slotInPlace m (slotAt i) (getD t i 0))
-    unfolding slotFits
-    fits-at i = ap (λ (x : ℕ). slotInRange m S (x + 6 * i) && slotInPlace m (x + 6 * i) (getD t i 0)) eb
-
-    -- ---- legal tables fit
-
-    place-said : TableSaid m → (i : ℕ) → i < S → slotInPlace m (slotAt i) (getD t i 0) ≡ true
-    place-said s i b =
+    place : (i : ℕ) → i < S m → Place i
+    unfolding readChains
+    place i b =
         elim (decLt 0 (chainedCount m i)) [
-          | yes c ↦ on-chain (find-chain i (s .once i b) c)
-          | no c ↦ elim (decLt 0 (freeCount m i)) [
-            | yes d ↦ place-free m (slotAt i) (getD t i 0) (mark-free i (s .once i b) d) ∙ blank-in m (slotAt i) (s .blank i d)
-            | no d ↦ place-retired m (slotAt i) (getD t i 0) (mark-retired i (s .once i b) (omega (arith, s .once i b)))
+          | yes p ↦ find i 0 chainCount (omega arith) p
+          | no p ↦ elim (decLt 0 (freeCount m i)) [
+            | yes q ↦ free q (free-told i q)
+            | no q ↦ let r : 0 < retiredCount m i = omega (arith, once i b) in retired r (retired-told i r)
           ]
         ]
+
+    module _ (i : ℕ) where
+      abbrev a : ℕ
+      a = slotAt i
+
+      blank-parts : Fit true i → (wide m a ≡ 0) × (at m (a + depositAt) ≡ 0) × (at m (a + materialAt) ≡ 0) × (eqb (at m (a + chainLinkAt)) none ≡ true)
+      blank-parts f =
+          let t₁ = and-true (eqb (wide m a) 0 && eqb (at m (a + depositAt)) 0 && eqb (at m (a + materialAt)) 0) (eqb (at m (a + chainLinkAt)) none) (f .0) in
+          let t₂ = and-true (eqb (wide m a) 0 && eqb (at m (a + depositAt)) 0) (eqb (at m (a + materialAt)) 0) (t₁ .0) in
+          let t₃ = and-true (eqb (wide m a) 0) (eqb (at m (a + depositAt)) 0) (t₂ .0) in
+          (eqb-true _ _ (t₃ .0), eqb-true _ _ (t₃ .1), eqb-true _ _ (t₂ .1), t₁ .1)
+
+      chain-link : Place i → slotOrNone (S m) (slotWord m chainLinkAt i) ≡ true
+      chain-link (chained k l) = l .link
+      chain-link (free p f) = or-right (ltb (at m (a + chainLinkAt)) (S m)) (eqb (at m (a + chainLinkAt)) none) (blank-parts f .3)
+      chain-link (retired p f) = and-true (productInRange m a) (slotOrNone (S m) (at m (a + chainLinkAt))) (f .0) .1
+
+      queue-link : Place i → slotOrNone (S m) (slotWord m queueLinkAt i) ≡ true
+      queue-link (chained k l) = or-right (ltb (at m (a + queueLinkAt)) (S m)) (eqb (at m (a + queueLinkAt)) none) (l .rest)
+      queue-link (free p f) = said-link queueLinkAt i (f .1)
+      queue-link (retired p f) = said-link queueLinkAt i (f .1)
+
+      product-said : Place i → productInRange m a ≡ true
+      product-said (chained k l) = l .product
+      product-said (free p f) = let z = blank-parts f in rw (z .0, z .1, z .2)
+      product-said (retired p f) = and-true (productInRange m a) (slotOrNone (S m) (at m (a + chainLinkAt))) (f .0) .0
+
+      rest-said : freeCount m i + retiredCount m i ≡ 0 → Place i → slotWord m queueLinkAt i ≡ none
+      rest-said z (chained k l) = eqb-true _ _ (l .rest)
+      rest-said z (free p f) = absurd (omega arith)
+      rest-said z (retired p f) = absurd (omega arith)
+
+    checks-said : distinct (map (codeAt m (base m)) (concat (readChains m))) ≡ true → TableSaid m
+    checks-said d = record {
+      chainLinks = λ i b. chain-link i (place i b);
+      queueLinks = λ i b. queue-link i (place i b);
+      products = λ i b. product-said i (place i b);
+      once = once;
+      lasts = steps-lasts m (parts .1);
+      chained = λ k i b c. eqb-true _ _ (chain-told k b i c .number);
+      codes = d;
+      rest = λ i b z. rest-said i z (place i b);
+      blank = λ i c. free-told i c .0;
+    }
+
+  -- ---- the ways out of the walks
+
+  module _ (s : List ℕ) (zeros : (i : ℕ) → getD s i 0 ≡ 0) (room : S m ≤ length s) where
+    spoilt-table : engineLegal m ≡ true → run (chainPart m ++ queuedPart m) s ≡ spoilt → false ≡ tableLegal m
+    spoilt-table engine h = refuted (tableLegal m) (λ t. never (table-said m t) (spoilt-why (S m) s (steps-right m) room h))
       where
-        on-chain : Chained (readChain m) 0 64 i → slotInPlace m (slotAt i) (getD t i 0) ≡ true
-        on-chain c =
-            let on = found-on c in
-            place-chain m (slotAt i) (c .chain) (getD t i 0) (c .below) (mark-chain i (s .once i b) (c .chain) (c .below) on)
-            ∙ and-intro (eqb (at m (slotAt i) % 64 + 1) (c .chain + 1)) (eqb (at m (slotAt i + 5)) none)
-            (eq-eqb _ _ (low-chain m (slotAt i) (c .chain) .0 (s .chained (c .chain) i (c .below) on)))
-            (eq-eqb _ _ (s .rest i b (omega (arith, s .once i b, chain-chained m (c .chain) i (c .below)))))
+        never : TableSaid m → Spoilt (S m) (chainPart m ++ queuedPart m) s → ⊥
+        never t (failed f) = clash (said-checks engine t) f
+        never t (doubled i b d) = omega (arith, t .once i b, all-count m i, zeros i, d)
 
-    said-fits : TableSaid m → all (slotFits m base S t) (from 0 S) ≡ true
-    said-fits s =
-        all-below-intro (slotFits m base S t) S (λ i b. fits-at i
-        ∙ and-intro (slotInRange m S (slotAt i)) (slotInPlace m (slotAt i) (getD t i 0))
-        (and-intro (productSaid m i && (ltb (slotWord m 4 i) S || eqb (slotWord m 4 i) none)) (ltb (slotWord m 5 i) S || eqb (slotWord m 5 i) none)
-        (and-intro (productSaid m i) (ltb (slotWord m 4 i) S || eqb (slotWord m 4 i) none) (s .products i b) (s .chainLinks i b)) (s .queueLinks i b))
-        (place-said s i b))
+    module _ (t : List ℕ) (h : run (chainPart m ++ queuedPart m) s ≡ painted t) where
+      mark-is : (i : ℕ) → getD t i 0 ≡ standing i
+      mark-is i = omega (arith, marks-are (S m) s t (steps-right m) room h i, zeros i, all-count m i)
 
-    -- tests that slots pass if they fit
-    unfit-by : (p : ℕ → Bool) → ((i : ℕ) → slotFits m base S t i ≡ true → p i ≡ true) → false ≡ all p (from 0 S) → false ≡ tableLegal m
-    unfit-by p h q =
-        refuted (tableLegal m) (λ l. clash (all-below-intro p S (λ i b. h i (all-below (slotFits m base S t) S i (said-fits (table-said m l)) b))) (sym q))
+      left-table : (n : ℕ) → n ≡ unmarked (S m) t → (n ≡ 0 → ⊥) → false ≡ tableLegal m
+      left-table n e z = refuted (tableLegal m) (λ l. let u = unmarked-some (S m) t (λ q. z (e ∙ q)) in omega (arith, table-said m l .once (u .0) (u .1), mark-is (u .0), u .2))
 
-    pub table-unfit : (r : Bool) → r ≡ all (queuedFits m base S t) (from 0 S) → r ≡ false → false ≡ tableLegal m
-    unfolding queuedFits
-    table-unfit r q e = unfit-by (queuedFits m base S t) (λ i f. or-right (leb (getD t i 0) 64) (slotFits m base S t i) f) (sym e ∙ q)
-
-    table-unchained : false ≡ all (chainedFits m base S t) (from 0 S) → false ≡ tableLegal m
-    unfolding chainedFits
-    table-unchained q = unfit-by (chainedFits m base S t) (λ i f. or-right (not (leb (getD t i 0) 64)) (slotFits m base S t i) f) q
-
-    -- ---- tables that fit, and whose codes differ, are legal
-
-    module _ (fit : all (slotFits m base S t) (from 0 S) ≡ true) where
-      both : (i : ℕ) → i < S → (slotInRange m S (slotAt i) ≡ true) × (slotInPlace m (slotAt i) (getD t i 0) ≡ true)
-      both i b = and-true (slotInRange m S (slotAt i)) (slotInPlace m (slotAt i) (getD t i 0)) (sym (fits-at i) ∙ all-below (slotFits m base S t) S i fit b)
-
-      links : (i : ℕ) → i < S → ((productSaid m i && (ltb (slotWord m 4 i) S || eqb (slotWord m 4 i) none)) ≡ true) × ((ltb (slotWord m 5 i) S || eqb (slotWord m 5 i) none) ≡ true)
-      links i b = and-true (productSaid m i && (ltb (slotWord m 4 i) S || eqb (slotWord m 4 i) none)) (ltb (slotWord m 5 i) S || eqb (slotWord m 5 i) none) (both i b .0)
-
-      stands : (i : ℕ) → i < S → standing i ≡ 1
-      stands i b =
-          let q : 0 < getD t i 0 = place-marked m (slotAt i) (getD t i 0) (both i b .1) in
-          sym (mark-taken i) ∙ rw (ne-eqb (getD t i 0) 0 (λ e. omega arith))
-
-      chain-tests : (k i : ℕ) → k < 64 → 0 < count i (readChain m k) → (codeAt m i % 64 ≡ k) × (slotWord m 5 i ≡ none)
-      chain-tests k i b c =
-          let l : i < S = chain-below m k i c in
-          let u = and-true (eqb (at m (slotAt i) % 64 + 1) (k + 1)) (eqb (at m (slotAt i + 5)) none)
-          (sym (place-chain m (slotAt i) k (getD t i 0) b (mark-chain i (stands i l) k b c)) ∙ both i l .1) in
-          (low-chain m (slotAt i) k .1 (eqb-true _ _ (u .0)), eqb-true _ _ (u .1))
-
-      at-rest : (i : ℕ) → i < S → freeCount m i + retiredCount m i ≡ 0 → slotWord m 5 i ≡ none
-      at-rest i b z = let c = find-chain i (stands i b) (omega (arith, stands i b)) in chain-tests (c .chain) i (c .below) (found-on c) .1
-
-      blanks : (i : ℕ) → 0 < freeCount m i → blankSaid m i ≡ true
-      blanks i c =
-          let l : i < S = free-below m i c in
-          in-blank m (slotAt i) (sym (place-free m (slotAt i) (getD t i 0) (mark-free i (stands i l) c)) ∙ both i l .1)
-
-      abbrev isChained : ℕ → Bool
-      isChained i = leb (getD t i 0) 64
-
-      -- the chains have each slot with a chain's mark once, and no other
-      listed : Lists (codeAt m) isChained S (concat (readChains m))
-      listed = record {
-        once = once;
-        chosen = λ i c. let l : i < S = chained-below m i c in (l, chosen i l (find-chain i (stands i l) c));
-        whole = whole;
-      }
+      decided-table : (n : ℕ) → n ≡ unmarked (S m) t → n ≡ 0 → (r : Bool) → r ≡ distinct (map (codeAt m (base m)) (concat (readChains m))) → r ≡ tableLegal m
+      decided-table n e z true q = sym (said-table m (checks-said (marks-checked (S m) s t (steps-right m) h) once (sym q)))
         where
-          once : (i : ℕ) → chainedCount m i ≤ 1
-          once i =
-              elim (decLt 0 (chainedCount m i)) [
-                | yes c ↦ omega (arith, stands i (chained-below m i c))
-                | no c ↦ omega arith
-              ]
+          once : (i : ℕ) → i < S m → standing i ≡ 1
+          once i b =
+              let u : 0 < getD t i 0 = positive (getD t i 0) (unmarked-none (S m) t (sym e ∙ z) i b) in
+              omega (arith, mark-is i, marks-most (S m) s t (steps-right m) room h (λ x. omega (arith, zeros x)) i, u)
+            where
+              positive : (x : ℕ) → (x ≡ 0 → ⊥) → 0 < x
+              positive zero f = absurd (f refl)
+              positive (suc x) f = omega arith
+      decided-table n e z false q = refuted (tableLegal m) (λ l. clash (table-said m l .codes) (sym q))
 
-          chosen : (i : ℕ) → i < S → Chained (readChain m) 0 64 i → isChained i ≡ true
-          chosen i l c = le-leb (getD t i 0) 64 (omega (arith, mark-chain i (stands i l) (c .chain) (c .below) (found-on c), c .below))
+-- ---- the same for the addresses that the code has
 
-          whole : (i : ℕ) → i < S → isChained i ≡ true → 0 < chainedCount m i
-          whole i l e =
-              let k : getD t i 0 ≤ 64 = leb-true (getD t i 0) 64 e in
-              elim (decLt 0 (chainedCount m i)) [
-                | yes c ↦ c
-                | no c ↦ elim (decLt 0 (freeCount m i)) [
-                  | yes d ↦ absurd (omega (arith, mark-free i (stands i l) d))
-                  | no d ↦ absurd (omega (arith, mark-retired i (stands i l) (omega (arith, stands i l))))
-                ]
-              ]
+module _ (m : List ℕ) (base lane n : ℕ) (t : Table m base lane n) (few : Bool) (s k a : List ℕ) (l : Lent few (at m 3) s k a) where
+  abbrev chainSide : List Step
+  chainSide = several (chainSteps m base (at m 3)) 1 0 chainCount
 
-      fit-said : distinct (map (codeAt m) (concat (readChains m))) ≡ true → TableSaid m
-      fit-said d = record {
-        chainLinks = λ i b. and-true (productSaid m i) (ltb (slotWord m 4 i) S || eqb (slotWord m 4 i) none) (links i b .0) .1;
-        queueLinks = λ i b. links i b .1;
-        products = λ i b. and-true (productSaid m i) (ltb (slotWord m 4 i) S || eqb (slotWord m 4 i) none) (links i b .0) .0;
-        once = stands;
-        lasts = lasts-hold;
-        chained = λ k i b c. chain-tests k i b c .0;
-        codes = d;
-        rest = at-rest;
-        blank = blanks;
-      }
+  abbrev queueSide : List Step
+  queueSide = queuedSteps m base lane n (at m 3)
 
-      decided : (r : Bool) → CodesTell m base S t r → r ≡ tableLegal m
-      decided r w = answer r (tells-distinct (codeAt m) isChained S (concat (readChains m)) r listed told)
+  same-chains : chainSide ≡ chainPart m
+  same-chains = ap (λ (x : ℕ). several (chainSteps m x (at m 3)) 1 0 chainCount) (t .slots)
+
+  same-queues : queueSide ≡ queuedPart m
+  same-queues = ap₂ (λ (x y : ℕ). queuedSteps m x y n (at m 3)) (t .slots) (t .lanes) ∙ ap (λ (y : ℕ). queuedSteps m (slotsBody (sizes m)) (lanesBody (sizes m)) y (at m 3)) (t .count)
+
+  same-steps : chainSide ++ queueSide ≡ chainPart m ++ queuedPart m
+  same-steps = ap₂ _++_ same-chains same-queues
+
+  -- what the chains ask for
+  pub chains-asks : Counted m base (at m 3) s (at m 3) × Ready m base (at m 3) few k a 0 (at m 3) × (masksAt ≤ length m)
+  chains-asks = (
+    record { within = t .total; few = t .few; marks = l .markRoom; left = unmarked-all (at m 3) s (l .marks) },
+    record {
+      room = record {
+        cells = l .cellRoom;
+        holders = λ q. omega (arith, l .cells q, t .total);
+        aside = record { listed = omega arith; members = λ j b. absurd (omega arith) };
+      };
+      places = l .asideRoom;
+      most = omega arith;
+    },
+    omega (arith, t .total, t .slots),
+  )
+
+  spread-below : (c : ℕ) → spread (cellsOf few) c < length k
+  spread-below c = go few (l .cellRoom)
+    where
+      go : (few : Bool) → cellsOf few ≤ length k → spread (cellsOf few) c < length k
+      go true h = omega arith
+      go false h = omega arith
+
+  codes-same : distinct (map (codeAt m base) (slotsOf chainSide)) ≡ distinct (map (codeAt m (slotsBody (sizes m))) (concat (readChains m)))
+  codes-same =
+      ap₂ (λ (x : ℕ) (xs : List ℕ). distinct (map (codeAt m x) xs)) (t .slots) (ap slotsOf same-chains ∙ chains-are m)
+
+  module _ (r : Bool) (x y : ℕ) (u j b : List ℕ) (w : Enters m base (at m 3) few chainSide s k a 0 r x y u j b) where
+    pub table-chains : r ≡ false → false ≡ tableLegal m
+    unfolding going
+    table-chains e = go r w e
+      where
+        go : (r : Bool) → Enters m base (at m 3) few chainSide s k a 0 r x y u j b → r ≡ false → false ≡ tableLegal m
+        go false (Enters.spoils q) e =
+            spoilt-table m s (l .marks) (l .markRoom) (t .engine)
+            (ap (λ (ps : List Step). run ps s) (sym same-steps) ∙ run-append chainSide queueSide s ∙ ap (λ (o : Outcome). going o queueSide) q)
+        go false (Enters.repeats q) e =
+            refuted (tableLegal m) (λ z. meets-twice (codeAt m base) (spread (cellsOf few)) k (l .cells) spread-below (slotsOf chainSide) q (codes-same ∙ table-said m z .codes))
+        go true (Enters.passes q f c g) e = absurd (unlike (sym e))
+
+    module _ (e : r ≡ true) where
+      passed : (run chainSide s ≡ painted u) × (entersAll m base (at m 3) few chainSide k a 0 ≡ held j (take y b)) × Counted m base (at m 3) u x × Ready m base (at m 3) few j b y x
+      passed = go r w e
         where
-          told : Tells (codeAt m) isChained S r
-          told = subst (λ (x : ℕ). Tells (λ (i : ℕ). wide m (x + 6 * i)) isChained S r) eb w
+          go : (r : Bool) → Enters m base (at m 3) few chainSide s k a 0 r x y u j b → r ≡ true
+              → (run chainSide s ≡ painted u) × (entersAll m base (at m 3) few chainSide k a 0 ≡ held j (take y b)) × Counted m base (at m 3) u x × Ready m base (at m 3) few j b y x
+          go false (Enters.spoils q) e = absurd (unlike e)
+          go false (Enters.repeats q) e = absurd (unlike e)
+          go true (Enters.passes q f c g) e = (q, f, c, g)
 
-          answer : (r : Bool) → r ≡ distinct (map (codeAt m) (concat (readChains m))) → r ≡ tableLegal m
-          answer true q = sym (said-table m (fit-said (sym q)))
-          answer false q = refuted (tableLegal m) (λ l. clash (table-said m l .codes) (sym q))
+      -- what the queues ask for, and the codes put aside
+      pub queues-asks : Counted m base (at m 3) u x × (masksAt ≤ length m) × (lane + laneLength * n ≤ length m)
+      queues-asks = (passed .2, omega (arith, t .total, t .slots), omega (arith, t .total, t .slots, t .lanes, t .count))
 
-    -- ---- both together
+      pub apart-asks : Places m base b y × (y ≤ maxSlots)
+      apart-asks = (passed .3 .room .aside, omega (arith, passed .3 .most, t .few))
 
-    module _ (queued : all (queuedFits m base S t) (from 0 S) ≡ true) where
-      all-fit : true ≡ all (chainedFits m base S t) (from 0 S) → all (slotFits m base S t) (from 0 S) ≡ true
-      unfolding chainedFits queuedFits
-      all-fit q = all-below-intro (slotFits m base S t) S (λ i b. pick i (leb (getD t i 0) 64) (all-below (queuedFits m base S t) S i queued b) (all-below (chainedFits m base S t) S i (sym q) b))
-        where
-          pick : (i : ℕ) (c : Bool) → (c || slotFits m base S t i) ≡ true → (not c || slotFits m base S t i) ≡ true → slotFits m base S t i ≡ true
-          pick i true g h = h
-          pick i false g h = g
+      module _ (v : Bool) (z : ℕ) (o : List ℕ) (q : Runs m base (at m 3) queueSide u v z o) where
+        both : run (chainPart m ++ queuedPart m) s ≡ run queueSide u
+        unfolding going
+        both = ap (λ (ps : List Step). run ps s) (sym same-steps) ∙ run-append chainSide queueSide s ∙ ap (λ (o : Outcome). going o queueSide) (passed .0)
 
-      pub table-decided : (r : Bool) → Decides m base S t r → r ≡ tableLegal m
-      table-decided false (unfit q) = table-unchained q
-      table-decided false (twice w) =
-          elim (known (all (chainedFits m base S t) (from 0 S))) [
-            | is f ↦ decided (all-fit (sym f)) false w
-            | isnt f ↦ table-unchained (sym f)
-          ]
-      table-decided true (right q w) = decided (all-fit q) true w
+        pub table-queues : v ≡ false → false ≡ tableLegal m
+        table-queues h = go v q h
+          where
+            go : (v : Bool) → Runs m base (at m 3) queueSide u v z o → v ≡ false → false ≡ tableLegal m
+            go false (Runs.spoils f) h = spoilt-table m s (l .marks) (l .markRoom) (t .engine) (both ∙ f)
+            go true (Runs.passes f c) h = absurd (unlike (sym h))
+
+        module _ (h : v ≡ true) where
+          ended : (run queueSide u ≡ painted o) × Counted m base (at m 3) o z
+          ended = go v q h
+            where
+              go : (v : Bool) → Runs m base (at m 3) queueSide u v z o → v ≡ true → (run queueSide u ≡ painted o) × Counted m base (at m 3) o z
+              go false (Runs.spoils f) h = absurd (unlike h)
+              go true (Runs.passes f c) h = (f, c)
+
+          pub table-left : (z ≡ 0 → ⊥) → false ≡ tableLegal m
+          table-left g = left-table m s (l .marks) (l .markRoom) o (both ∙ ended .0) z (ended .1 .left) g
+
+          pub table-decided : z ≡ 0 → (d : Bool) → d ≡ distinct (map (codeAt m base) (take y b)) → d ≡ tableLegal m
+          table-decided g d f =
+              decided-table m s (l .marks) (l .markRoom) o (both ∙ ended .0) z (ended .1 .left) g d
+              (f ∙ sym (meets-told (codeAt m base) (spread (cellsOf few)) k (l .cells) spread-below (slotsOf chainSide) j (take y b) (passed .1)) ∙ codes-same)
+
+-- arrays of 0
+pub lent-zeros : (few : Bool) (S n c : ℕ) → S ≤ n → cellsOf few ≤ c → Lent few S (replicate n 0) (replicate c 0) (replicate n 0)
+lent-zeros few S n c h g = record {
+  marks = getD-replicate-default 0 n;
+  cells = getD-replicate-default 0 c;
+  markRoom = omega (arith, length-replicate {A = ℕ} n 0);
+  cellRoom = omega (arith, g, length-replicate {A = ℕ} c 0);
+  asideRoom = omega (arith, length-replicate {A = ℕ} n 0);
+}

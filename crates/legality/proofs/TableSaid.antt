@@ -73,8 +73,8 @@ module _ (m : List ℕ) where
   pub chain-below : (k i : ℕ) → 0 < count i (readChain m k) → i < S
   chain-below k i b = walk-in 4 _ _ i b
 
-  pub free-below : (i : ℕ) → 0 < freeCount m i → i < S
-  free-below i b = walk-in 5 _ _ i b
+  pub queue-below-at : (a i : ℕ) → 0 < count i (readQueue m a) → i < S
+  queue-below-at a i b = walk-in 5 _ _ i b
 
   pub chain-at : (k : ℕ) → k < 64 → getD (readChains m) k [] ≡ readChain m k
   unfolding readChains

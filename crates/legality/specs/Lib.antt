@@ -1,3 +1,2 @@
--- What the functions of the check decide of the slots: `Slots` one slot at a time, `Parts` the sentences of document 01.
-pub mod Slots
+-- What the functions of the check decide of the slots.
 pub mod Parts

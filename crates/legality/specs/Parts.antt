@@ -1,23 +1,27 @@
--- Legality's sentences about the slots, as the check decides them, and the steps that mark the slots.
+-- Legality's sentences about the slots, as the check decides them, and the walks of the queues.
 use Prim.Native.Nat.{ℕ, _+_, _*_, _≤_}
 use mathlib.Core.Path.{_≡_}
-use mathlib.Core.Bool.{Bool, not}
+use mathlib.Core.Bool.{Bool, true, false, not}
 use mathlib.Core.List.{List, [], _∷_, _++_}
-use lib.ListN.{length}
+use lib.ListN.{length, getD}
 use Rattle.model.specs.Lists.{all, every}
-use Rattle.model.specs.Layout.{laneLength, slotLength, chainCount, queueWidth, freeAt, globalQueuesAt, depositAt, materialAt, chainLinkAt, queueLinkAt, lanesBody, slotsBody, slotAddress, total}
+use Rattle.model.specs.Layout.{maxSlots, laneLength, slotLength, queueWidth, freeAt, globalQueuesAt, depositAt, materialAt, chainLinkAt, queueLinkAt, lanesBody, slotsBody, slotAddress}
 use Rattle.model.specs.Rules.{wrongProduct}
 use Rattle.model.specs.Memory.{at, wide, sizes, slotWord, state}
 use Rattle.model.specs.Legal.{slotNumbers, slotOrNone, standsOnce, lastsAgree, onTheirChains, noCodeTwice, queueLinksAtRest, freeBlank}
-use Rattle.slot_places.specs.Steps.{Step, several, chainSteps, queueSteps, laneSteps, freeKind, retiredKind}
+use Rattle.slot_places.specs.Steps.{Step, several, queueSteps, laneSteps}
+use Rattle.distinct_codes.specs.Cells.{cellsOf}
+use Rattle.engine_legality.specs.Sentences.{engineLegal}
 
--- the sizes are in range, and the memory has the table's words; with the addresses of slot 0 and lane 0 and the number of lanes
+-- the sizes are in range, the memory has the table's words, and the rest of it is legal; with the addresses of slot 0 and lane 0 and the number of
+-- lanes
 pub record Table (m : List ℕ) (base lane n : ℕ) : Type 0 where
   pub slots : base ≡ slotsBody (sizes m)
   pub lanes : lane ≡ lanesBody (sizes m)
   pub count : n ≡ sizes m .cabinets * sizes m .places
-  pub few : sizes m .slots ≤ 1024
+  pub few : sizes m .slots ≤ maxSlots
   pub total : base + slotLength * sizes m .slots ≤ length m
+  pub engine : engineLegal m ≡ true
 
 module _ (m : List ℕ) where
   abbrev pub chainLinksInRange : Bool
@@ -40,10 +44,16 @@ module _ (m : List ℕ) where
       ∷ standsOnce (state m) ∷ lastsAgree m (state m) ∷ onTheirChains (state m) ∷ noCodeTwice (state m)
       ∷ queueLinksAtRest m (state m) ∷ freeBlank m (state m) ∷ [])
 
--- the steps that mark each slot with the kind of its place; slot 0's words begin at base, those of n lanes at lane
-unfoldable pub placeSteps : List ℕ → ℕ → ℕ → ℕ → ℕ → List Step
-placeSteps m base lane n S =
-    several (chainSteps m (base + chainLinkAt) S) 1 0 chainCount
-    ++ (several (queueSteps m (base + queueLinkAt) S freeKind) queueWidth freeAt 1
-    ++ (several (queueSteps m (base + queueLinkAt) S retiredKind) queueWidth globalQueuesAt 3
-    ++ several (laneSteps m (base + queueLinkAt) S) laneLength lane n))
+-- the walks of all queues: the free one, the global ones, and those of n lanes, whose words begin at lane
+unfoldable pub queuedSteps : List ℕ → ℕ → ℕ → ℕ → ℕ → List Step
+queuedSteps m base lane n S =
+    several (queueSteps m base S true) queueWidth freeAt 1
+    ++ (several (queueSteps m base S false) queueWidth globalQueuesAt 3 ++ several (laneSteps m base S) laneLength lane n)
+
+-- the marks, the cells and the slots put aside as they are lent: all 0
+pub record Lent (few : Bool) (S : ℕ) (s k a : List ℕ) : Type 0 where
+  pub marks : (i : ℕ) → getD s i 0 ≡ 0
+  pub cells : (i : ℕ) → getD k i 0 ≡ 0
+  pub markRoom : S ≤ length s
+  pub cellRoom : cellsOf few ≤ length k
+  pub asideRoom : S ≤ length a

@@ -1,77 +1,132 @@
 // The legality check: whether a memory is legal (document 01, "The memory", last paragraph), for any
 // words and any number of them. It reads no word past the total and follows no link out of range; a
 // walk that comes round again meets a marked slot and ends.
-mod slots;
-
 ghost use mathlib.Core.Path.{_≡_};
 ghost use Prim.Native.Nat.{_+_, _*_, _≤_};
+ghost use mathlib.Core.Bool.{true};
 ghost use lib.ListN.{length};
+ghost use Rattle.model.specs.Layout.{masksAt, laneLength};
+ghost use Rattle.model.specs.Memory.{sizes};
 ghost use Rattle.model.specs.Legal.{legal as isLegal};
-ghost use Rattle.slot_places.specs.Steps.{Runs};
+ghost use Rattle.distinct_codes.specs.Cells.{fewCells};
+ghost use Rattle.slot_places.specs.Steps.{Counted, Runs};
 ghost use Rattle.engine_legality.specs.Contents.{Fits};
-ghost use Rattle.legality.specs.Parts.{Table, tableLegal, placeSteps};
+ghost use Rattle.engine_legality.specs.Sentences.{engineLegal};
+ghost use Rattle.legality.specs.Parts.{Table, tableLegal, queuedSteps, Lent};
 
-// Marks each slot with the kind of its place; slot 0's words begin at base, lane 0's at lane.
-fn mark_slots(
+// the slots of a small table, and of any
+const FEW_SLOTS: u32 = 64;
+
+const FEW: usize = FEW_SLOTS as usize;
+
+const MANY: usize = words::MAX_SLOTS as usize;
+
+// The queues: the free one, the global ones and those of the lanes, whose words begin at lane.
+fn walk_queues(
     m: &[u32],
     base: usize,
     lane: usize,
     lanes: usize,
     slots: u32,
-    marks: &mut [u8; 1024],
-) -> bool
-    requires { ⌜ (base + 6 * slots ≤ length (now m)) × (slots ≤ 1024) × (88 ≤ base) × (lane + 19 * lanes ≤ length (now m)) ⌝ }
-    ensures { λ r. ⌜ Runs (placeSteps (now (m .entry)) base lane lanes slots) (now (marks .entry)) r (now (marks .exit)) ⌝ }
+    left: u32,
+    marks: &mut [u8],
+) -> slot_places::queue::Queued
+    requires { ⌜ Counted (now m) base slots (now marks) left × (masksAt ≤ length (now m)) × (lane + laneLength * lanes ≤ length (now m)) ⌝ }
+    ensures { λ r. ⌜ Runs (now (m .entry)) base slots (queuedSteps (now (m .entry)) base lane lanes slots) (now (marks .entry)) (r .ok) (r .left) (now (marks .exit)) ⌝ }
 {
-    if !slot_places::chains(m, base + words::CHAIN_LINK_AT, slots, marks) {
-        return false;
+    let f = slot_places::queue::queues(m, base, slots, words::FREE_AT, 1, true, left, marks);
+    if !f.ok {
+        return slot_places::queue::Queued { ok: false, left };
     }
-    let field = base + words::QUEUE_LINK_AT;
-    if !slot_places::queues(
+    let g = slot_places::queue::queues(
         m,
-        field,
-        slots,
-        words::FREE_AT,
-        1,
-        slot_places::FREE_KIND,
-        marks,
-    ) {
-        return false;
-    }
-    if !slot_places::queues(
-        m,
-        field,
+        base,
         slots,
         words::GLOBAL_QUEUES_AT,
-        3,
-        slot_places::RETIRED_KIND,
+        slot_places::queue::QUEUES,
+        false,
+        f.left,
         marks,
-    ) {
-        return false;
+    );
+    if !g.ok {
+        return slot_places::queue::Queued { ok: false, left };
     }
-    slot_places::lane_queues(m, field, slots, lane, lanes, marks)
+    slot_places::queue::lane_queues(m, base, slots, lane, lanes, g.left, marks)
 }
 
 // The sentences about the slots, of which slot 0's words begin at base, for lanes from lane on: each
 // stands in one place and is right for it, and no code stands twice.
-fn slots_agree(m: &[u32], base: usize, lane: usize, lanes: usize) -> bool
-    requires { ⌜ Table (now m) base lane lanes ⌝ }
+fn slots_agree(
+    m: &[u32],
+    base: usize,
+    lane: usize,
+    lanes: usize,
+    few: bool,
+    marks: &mut [u8],
+    cells: &mut [u16],
+    aside: &mut [u16],
+) -> bool
+    requires { ⌜ Table (now m) base lane lanes × Lent few (sizes (now m) .slots) (now marks) (now cells) (now aside) ⌝ }
     ensures { λ r. ⌜ r ≡ tableLegal (now (m .entry)) ⌝ }
 {
     let slots = m[words::SLOTS_AT];
-    let mut marks = [0u8; 1024];
-    if !mark_slots(m, base, lane, lanes, slots, &mut marks) {
+    let c = slot_places::chain::chains(m, base, slots, few, marks, cells, aside);
+    if !c.ok {
         return false;
     }
-    if !slots::queued_fit(m, base, slots, &marks) {
+    let q = walk_queues(m, base, lane, lanes, slots, c.left, marks);
+    if !q.ok {
         return false;
     }
-    slots::chained_fit(m, base, slots, &marks)
+    if q.left != 0 {
+        return false;
+    }
+    distinct_codes::apart(m, base, aside, c.aside)
 }
 
-// The sentences about the slots.
+// The same for a small table, on small arrays.
+fn few_agree(m: &[u32], base: usize, lane: usize, lanes: usize) -> bool
+    requires { ⌜ Table (now m) base lane lanes × (sizes (now m) .slots ≤ fewCells) ⌝ }
+    ensures { λ r. ⌜ r ≡ tableLegal (now (m .entry)) ⌝ }
+{
+    let mut marks = [0u8; FEW];
+    let mut cells = [0u16; distinct_codes::cells::FEW_CELLS];
+    let mut aside = [0u16; FEW];
+    slots_agree(
+        m,
+        base,
+        lane,
+        lanes,
+        true,
+        &mut marks,
+        &mut cells,
+        &mut aside,
+    )
+}
+
+// The same for any.
+fn many_agree(m: &[u32], base: usize, lane: usize, lanes: usize) -> bool
+    requires { ⌜ Table (now m) base lane lanes ⌝ }
+    ensures { λ r. ⌜ r ≡ tableLegal (now (m .entry)) ⌝ }
+{
+    let mut marks = [0u8; MANY];
+    let mut cells = [0u16; distinct_codes::cells::MANY_CELLS];
+    let mut aside = [0u16; MANY];
+    slots_agree(
+        m,
+        base,
+        lane,
+        lanes,
+        false,
+        &mut marks,
+        &mut cells,
+        &mut aside,
+    )
+}
+
+// The sentences about the slots, where those about the rest hold.
 fn table_fits(m: &[u32]) -> bool
-    requires { ⌜ Fits (now m) ⌝ }
+    requires { ⌜ Fits (now m) × (engineLegal (now m) ≡ true) ⌝ }
     ensures { λ r. ⌜ r ≡ tableLegal (now (m .entry)) ⌝ }
 {
     let lanes = words::index(engine_legality::contents::lane_count(
@@ -79,7 +134,11 @@ fn table_fits(m: &[u32]) -> bool
         m[words::PLACES_AT],
     ));
     let lane = words::MASKS_AT + words::index(m[words::CABINETS_AT]);
-    slots_agree(m, lane + words::LANE_LENGTH * lanes, lane, lanes)
+    let base = lane + words::LANE_LENGTH * lanes;
+    if m[words::SLOTS_AT] <= FEW_SLOTS {
+        return few_agree(m, base, lane, lanes);
+    }
+    many_agree(m, base, lane, lanes)
 }
 
 // Whether the memory is legal.

@@ -1,175 +1,218 @@
--- The steps of the marks, for the loops that make them. Assumes nothing.
+-- The steps of the walks, for the loops that make them: the marks, a walk on its way, and steps one after the other.
 use Prim.Native.Nat.{ℕ, zero, suc, _+_, _*_, _-_, _≤_, _<_}
-use mathlib.Core.Bool.{Bool, true, false}
-use mathlib.Core.Path.{_≡_, refl, ap, sym, _∙_}
-use mathlib.Core.List.{List, [], _∷_, _++_, map}
+use mathlib.Core.Bool.{Bool, true, false, cond}
+use mathlib.Core.Path.{_≡_, refl, ap, sym, _∙_, subst}
+use mathlib.Core.List.{List, [], _∷_, _++_}
 use native.Mathlib.Omega.{arith}
-use lib.ListN.{getD, set}
+use lib.ListN.{getD, set, length, length-set}
 use lib.Dec.{leb, eqb}
+use lib.Seq.{getD-set-same, getD-set-other}
 use borrow.Author.Tests.{eq-eqb, ne-eqb, le-leb, lt-leb}
 use Rattle.model.specs.Word.{none}
 use Rattle.model.specs.Lists.{last}
+use Rattle.model.specs.Layout.{slotLength}
 use Rattle.model.specs.Memory.{at}
 use Rattle.laws.specs.Tests.{Same, same, other, decide}
-use Rattle.slot_places.specs.Steps.{Step, put, check, Outcome, spoilt, painted, run, Runs, puts, Walks, several, trail, trailAt, chainSteps, queueSteps}
+use Rattle.slot_places.specs.Steps.{Step, put, check, Outcome, spoilt, painted, met, run, slotsOf, several, walks, unmarked, Counted}
 
--- what follows the outcome
+pub unlike : false ≡ true → ⊥
+unlike e = let z : _≡_ {A = ℕ} 0 1 = cc in omega arith
+
+-- ---- how many slots have no mark
+
+unmarked-above : (n : ℕ) (s : List ℕ) (i v : ℕ) → n ≤ i → unmarked n (set s i v) ≡ unmarked n s
+unfolding unmarked
+unmarked-above zero s i v h = refl
+unmarked-above (suc n) s i v h = rw (getD-set-other s i n v 0 (λ e. omega arith), unmarked-above n s i v (omega arith))
+
+pub unmarked-set : (n : ℕ) (s : List ℕ) (i : ℕ) → i < n → i < length s → getD s i 0 ≡ 0 → unmarked n (set s i met) + 1 ≡ unmarked n s
+unfolding unmarked
+unmarked-set zero s i b l z = absurd (omega arith)
+unmarked-set (suc n) s i b l z =
+    elim (decide n i) [
+      | same e t u ↦
+          let new : getD (set s i met) n 0 ≡ 1 = ap (λ (j : ℕ). getD (set s i met) j 0) e ∙ getD-set-same s i met 0 l in
+          let old : getD s n 0 ≡ 0 = ap (λ (j : ℕ). getD s j 0) e ∙ z in
+          rw (new, old) (omega (arith, unmarked-above n s i met (omega arith)))
+      | other e t u ↦
+          let new : getD (set s i met) n 0 ≡ getD s n 0 = getD-set-other s i n met 0 e in
+          rw new (omega (arith, unmarked-set n s i (omega arith) l z))
+    ]
+
+pub unmarked-most : (n : ℕ) (s : List ℕ) → unmarked n s ≤ n
+unfolding unmarked
+unmarked-most zero s = omega arith
+unmarked-most (suc n) s =
+    elim (decide (getD s n 0) 0) [
+      | same e t u ↦ rw t (omega (arith, unmarked-most n s))
+      | other e t u ↦ rw t (omega (arith, unmarked-most n s))
+    ]
+
+-- where none is unmarked each has a mark
+pub unmarked-none : (n : ℕ) (s : List ℕ) → unmarked n s ≡ 0 → (i : ℕ) → i < n → getD s i 0 ≡ 0 → ⊥
+unfolding unmarked
+unmarked-none zero s h i b z = omega arith
+unmarked-none (suc n) s h i b z =
+    elim (decide i n) [
+      | same e t u ↦
+          let q : getD s n 0 ≡ 0 = ap (λ (j : ℕ). getD s j 0) (sym e) ∙ z in
+          let k : 1 + unmarked n s ≡ 0 = rw q at h in
+          omega arith
+      | other e t u ↦ unmarked-none n s (omega (arith, h)) i (omega arith) z
+    ]
+
+-- otherwise one has none
+pub unmarked-some : (n : ℕ) (s : List ℕ) → (unmarked n s ≡ 0 → ⊥) → (i : ℕ) × (i < n) × (getD s i 0 ≡ 0)
+unfolding unmarked
+unmarked-some zero s h = absurd (h refl)
+unmarked-some (suc n) s h =
+    elim (decide (getD s n 0) 0) [
+      | same e t u ↦ (n, omega arith, e)
+      | other e t u ↦ let w = unmarked-some n s (λ z. h (rw t (omega (arith, z)))) in (w .0, omega (arith, w .1), w .2)
+    ]
+
+-- marks that are all 0
+pub unmarked-all : (n : ℕ) (s : List ℕ) → ((i : ℕ) → getD s i 0 ≡ 0) → n ≡ unmarked n s
+unfolding unmarked
+unmarked-all zero s h = refl
+unmarked-all (suc n) s h = rw (h n) (omega (arith, unmarked-all n s h))
+
+-- ---- one list of steps after the other
+
 unfoldable pub going : Outcome → List Step → Outcome
 going spoilt ps = spoilt
 going (painted s) ps = run ps s
 
-unlike : false ≡ true → ⊥
-unlike e = let z : _≡_ {A = ℕ} 0 1 = cc in omega arith
-
-pub says-yes : {ps : List Step} {s t : List ℕ} → run ps s ≡ painted t → Runs ps s true t
-says-yes e = record { good = λ z. e; bad = λ z. absurd (unlike (sym z)) }
-
-pub says-no : {ps : List Step} {s : List ℕ} (t : List ℕ) → run ps s ≡ spoilt → Runs ps s false t
-says-no t e = record { good = λ z. absurd (unlike z); bad = λ z. e }
-
 pub run-append : (ps qs : List Step) (s : List ℕ) → run (ps ++ qs) s ≡ going (run ps s) qs
 unfolding run going
 run-append [] qs s = refl
-run-append (put i k ∷ ps) qs s =
+run-append (put i ∷ ps) qs s =
     elim (decide (getD s i 0) 0) [
-      | same e t u ↦ rw (t, run) (run-append ps qs (set s i k))
+      | same e t u ↦ rw (t, run) (run-append ps qs (set s i met))
       | other e t u ↦ rw (t, run)
     ]
 run-append (check true ∷ ps) qs s = run-append ps qs s
 run-append (check false ∷ ps) qs s = refl
 
--- ---- one after the other
+pub slotsOf-append : (ps qs : List Step) → slotsOf (ps ++ qs) ≡ slotsOf ps ++ slotsOf qs
+unfolding slotsOf
+slotsOf-append [] qs = refl
+slotsOf-append (put i ∷ ps) qs = ap (λ (xs : List ℕ). i ∷ xs) (slotsOf-append ps qs)
+slotsOf-append (check b ∷ ps) qs = slotsOf-append ps qs
 
-module _ (ps qs : List Step) {s t : List ℕ} {r : Bool} (w : Runs ps s r t) where
-  pub runs-fail : r ≡ false → (u : List ℕ) → Runs (ps ++ qs) s false u
-  unfolding going
-  runs-fail e u = says-no u (run-append ps qs s ∙ ap (λ (o : Outcome). going o qs) (w .bad e))
-
-  pub runs-then : r ≡ true → {r′ : Bool} {u : List ℕ} → Runs qs t r′ u → Runs (ps ++ qs) s r′ u
-  unfolding going
-  runs-then e v = record {
-    good = λ z. run-append ps qs s ∙ ap (λ (o : Outcome). going o qs) (w .good e) ∙ v .good z;
-    bad = λ z. run-append ps qs s ∙ ap (λ (o : Outcome). going o qs) (w .good e) ∙ v .bad z;
-  }
-
--- ---- the slots of a walk
-
-module _ (m : List ℕ) (field slots i n : ℕ) where
-  abbrev onward : List ℕ
-  onward = trail m field slots i n
-
-  pub trail-out : slots ≤ i → onward ≡ []
-  unfolding trail
-  trail-out h = go n
+module _ (g : ℕ → List Step) (d a n : ℕ) where
+  pub several-on : 0 < n → several g d a n ≡ g a ++ several g d (a + d) (n - 1)
+  unfolding several
+  several-on h = go n h
     where
-      go : (n : ℕ) → trail m field slots i n ≡ []
-      go zero = refl
-      go (suc n) = rw (le-leb slots i h, trail)
-
-  pub trail-end : n ≤ 0 → onward ≡ []
-  unfolding trail
-  trail-end h = let e : n ≡ 0 = omega arith in rw e
-
-  pub trail-on : 0 < n → i < slots → onward ≡ i ∷ trail m field slots (at m (field + 6 * i)) (n - 1)
-  unfolding trail
-  trail-on h b = go n h
-    where
-      go : (n : ℕ) → 0 < n → trail m field slots i n ≡ i ∷ trail m field slots (at m (field + 6 * i)) (n - 1)
+      go : (n : ℕ) → 0 < n → several g d a n ≡ g a ++ several g d (a + d) (n - 1)
       go zero h = absurd (omega arith)
-      go (suc n) h = let e : suc n - 1 ≡ n = omega arith in rw (lt-leb slots i b, e, trail)
+      go (suc n) h = let e : suc n - 1 ≡ n = omega arith in rw e
 
--- ---- one walk
+  pub several-done : n ≤ 0 → several g d a n ≡ []
+  unfolding several
+  several-done h = let e : n ≡ 0 = omega arith in rw e
 
-unfoldable pub lastFrom : ℕ → List ℕ → ℕ
-lastFrom d [] = d
-lastFrom d (x ∷ xs) = lastFrom x xs
+-- ---- a walk on its way
 
-pub last-from : (xs : List ℕ) → lastFrom none xs ≡ last xs
-unfolding lastFrom last
-last-from [] = refl
-last-from (x ∷ xs) = go x xs
-  where
-    go : (x : ℕ) (xs : List ℕ) → lastFrom x xs ≡ last (x ∷ xs)
-    go x [] = refl
-    go x (y ∷ ys) = go y ys
+module _ (m : List ℕ) (field slots : ℕ) (fits : ℕ → Bool) (i n : ℕ) (h : 0 < n) where
+  walks-end : slots ≤ i → walks m field slots fits i n ≡ check (eqb i none) ∷ []
+  unfolding walks
+  walks-end b = go n h
+    where
+      go : (n : ℕ) → 0 < n → walks m field slots fits i n ≡ check (eqb i none) ∷ []
+      go zero h = absurd (omega arith)
+      go (suc n) h = rw (le-leb slots i b, walks)
 
-module _ (m : List ℕ) (field slots k i n : ℕ) where
-  abbrev rest : List ℕ
-  rest = trail m field slots i n
+  walks-on : i < slots → walks m field slots fits i n ≡ put i ∷ check (fits i) ∷ walks m field slots fits (at m (field + slotLength * i)) (n - 1)
+  unfolding walks
+  walks-on b = go n h
+    where
+      go : (n : ℕ) → 0 < n → walks m field slots fits i n ≡ put i ∷ check (fits i) ∷ walks m field slots fits (at m (field + slotLength * i)) (n - 1)
+      go zero h = absurd (omega arith)
+      go (suc n) h = let e : suc n - 1 ≡ n = omega arith in rw (lt-leb slots i b, e, walks)
 
-  module _ (s xs s₀ : List ℕ) (inv : run (puts k rest) s ≡ run (puts k xs) s₀) where
-    pub walk-done : (l : ℕ) → lastFrom l rest ≡ lastFrom none xs → rest ≡ [] → Walks xs k s₀ true l s
-    unfolding run lastFrom
-    walk-done l f e = record {
-      runs = says-yes (sym inv ∙ ap (λ (r : List ℕ). run (puts k r) s) e);
-      end = λ z. sym (ap (lastFrom l) e) ∙ f ∙ last-from xs;
+-- the steps from cur on lead to the outcome o, and Q holds of their slots; there are more of them than slots without a mark
+module _ (m : List ℕ) (base slots field : ℕ) (fits : ℕ → Bool) where
+  pub record Going (Q : List ℕ → Type 0) (o : Outcome) (cur : ℕ) (s : List ℕ) (rest : ℕ) : Type 0 where
+    pub fuel : ℕ
+    pub more : rest < fuel
+    pub counted : Counted m base slots s rest
+    pub runs : run (walks m field slots fits cur fuel) s ≡ o
+    pub onward : Q (slotsOf (walks m field slots fits cur fuel))
+
+  module _ (Q : List ℕ → Type 0) where
+    pub going-start : (cur : ℕ) (s : List ℕ) (left : ℕ) → Counted m base slots s left → Q (slotsOf (walks m field slots fits cur (slots + 1)))
+        → Going Q (run (walks m field slots fits cur (slots + 1)) s) cur s left
+    going-start cur s left c q = record {
+      fuel = slots + 1;
+      more = omega (arith, unmarked-most slots s, c .left);
+      counted = c;
+      runs = refl;
+      onward = q;
     }
 
-    module _ (h : 0 < n) (b : i < slots) where
-      more : run (puts k rest) s ≡ run (put i k ∷ puts k (trail m field slots (at m (field + 6 * i)) (n - 1))) s
-      more = ap (λ (r : List ℕ). run (puts k r) s) (trail-on m field slots i n h b)
+    module _ (o : Outcome) (cur : ℕ) (s : List ℕ) (rest : ℕ) (w : Going Q o cur s rest) where
+      positive : 0 < w .fuel
+      positive = omega (arith, w .more)
 
-      pub walk-twice : (getD s i 0 ≡ 0 → ⊥) → (l : ℕ) (t : List ℕ) → Walks xs k s₀ false l t
+      pub going-ends : slots ≤ cur → cur ≡ none → (o ≡ painted s) × Q []
+      unfolding run slotsOf
+      going-ends b e =
+          let q = walks-end m field slots fits cur (w .fuel) positive b in
+          (sym (w .runs) ∙ ap (λ (ps : List Step). run ps s) q ∙ rw (eq-eqb cur none e), subst (λ (ps : List Step). Q (slotsOf ps)) q (w .onward))
+
+      pub going-astray : slots ≤ cur → (cur ≡ none → ⊥) → o ≡ spoilt
       unfolding run
-      walk-twice e l t = record {
-        runs = says-no t (sym inv ∙ more ∙ rw (ne-eqb _ _ e, run));
-        end = λ z. absurd (unlike z);
-      }
+      going-astray b e =
+          let q = walks-end m field slots fits cur (w .fuel) positive b in
+          sym (w .runs) ∙ ap (λ (ps : List Step). run ps s) q ∙ rw (ne-eqb cur none e)
 
-pub walk-on : (m : List ℕ) (field slots k i n : ℕ) (s : List ℕ) (o : Outcome) → run (puts k (trail m field slots i n)) s ≡ o → 0 < n → i < slots → getD s i 0 ≡ 0
-    → run (puts k (trail m field slots (at m (field + 6 * i)) (n - 1))) (set s i k) ≡ o
-unfolding run
-walk-on m field slots k i n s o inv h b e =
-    sym (sym inv ∙ ap (λ (r : List ℕ). run (puts k r) s) (trail-on m field slots i n h b) ∙ rw (eq-eqb _ _ e, run))
+      module _ (b : cur < slots) where
+        abbrev rest-of : List Step
+        rest-of = walks m field slots fits (at m (field + slotLength * cur)) (w .fuel - 1)
 
-pub last-on : (m : List ℕ) (field slots i n l l₀ : ℕ) → 0 < n → i < slots → lastFrom l (trail m field slots i n) ≡ l₀ → lastFrom i (trail m field slots (at m (field + 6 * i)) (n - 1)) ≡ l₀
-unfolding lastFrom
-last-on m field slots i n l l₀ h b f = sym (ap (lastFrom l) (trail-on m field slots i n h b)) ∙ f
+        on : walks m field slots fits cur (w .fuel) ≡ put cur ∷ check (fits cur) ∷ rest-of
+        on = walks-on m field slots fits cur (w .fuel) positive b
 
--- ---- several, at a, a + d, ..; n of them
+        first : run (put cur ∷ check (fits cur) ∷ rest-of) s ≡ o
+        first = sym (ap (λ (ps : List Step). run ps s) on) ∙ w .runs
 
-module _ (g : ℕ → List Step) (d : ℕ) where
-  module _ (a n : ℕ) (s : List ℕ) (o : Outcome) (inv : run (several g d a n) s ≡ o) where
-    pub several-done : n ≤ 0 → o ≡ painted s
-    unfolding several run
-    several-done h = let e : n ≡ 0 = omega arith in sym inv ∙ ap (λ (k : ℕ). run (several g d a k) s) e
+        pub going-twice : (getD s cur 0 ≡ 0 → ⊥) → o ≡ spoilt
+        unfolding run
+        going-twice e = sym first ∙ rw (ne-eqb _ _ e, run)
 
-    module _ (h : 0 < n) where
-      first : run (several g d a n) s ≡ going (run (g a) s) (several g d (a + d) (n - 1))
-      unfolding several
-      first = go n h ∙ run-append (g a) (several g d (a + d) (n - 1)) s
-        where
-          go : (n : ℕ) → 0 < n → run (several g d a n) s ≡ run (g a ++ several g d (a + d) (n - 1)) s
-          go zero h = absurd (omega arith)
-          go (suc n) h = let e : suc n - 1 ≡ n = omega arith in rw e
+        -- the slots from here on
+        pub going-next : (xs : List ℕ) × Q (cur ∷ xs)
+        unfolding slotsOf
+        going-next = (slotsOf rest-of, subst (λ (ps : List Step). Q (slotsOf ps)) on (w .onward))
 
-      pub several-bad : run (g a) s ≡ spoilt → o ≡ spoilt
-      unfolding going
-      several-bad e = sym inv ∙ first ∙ ap (λ (o : Outcome). going o (several g d (a + d) (n - 1))) e
+        module _ (z : getD s cur 0 ≡ 0) where
+          tested : run (check (fits cur) ∷ rest-of) (set s cur met) ≡ o
+          unfolding run
+          tested = sym (sym first ∙ rw (eq-eqb _ _ z, run))
 
-      pub several-on : (t : List ℕ) → run (g a) s ≡ painted t → run (several g d (a + d) (n - 1)) t ≡ o
-      unfolding going
-      several-on t e = sym (sym inv ∙ first ∙ ap (λ (o : Outcome). going o (several g d (a + d) (n - 1))) e)
+          pub going-unfit : (r : Bool) → r ≡ fits cur → r ≡ false → o ≡ spoilt
+          unfolding run
+          going-unfit r q e = sym tested ∙ ap (λ (b : Bool). run (check b ∷ rest-of) (set s cur met)) (sym q ∙ e)
 
--- ---- the places of a memory
+          pub going-left : unmarked slots (set s cur met) + 1 ≡ rest
+          going-left = unmarked-set slots s cur b (omega (arith, w .counted .marks)) z ∙ sym (w .counted .left)
 
-module _ (m : List ℕ) (field slots : ℕ) where
-  module _ (k a : ℕ) (s : List ℕ) (r : Bool) (l : ℕ) (t : List ℕ) (w : Walks (trailAt m field slots a) k s r l t) where
-    pub queue-bad : r ≡ false → run (queueSteps m field slots k a) s ≡ spoilt
-    unfolding going
-    queue-bad e = run-append (puts k (trailAt m field slots a)) _ s ∙ ap (λ (o : Outcome). going o (check (eqb (last (trailAt m field slots a)) (at m (a + 1))) ∷ [])) (w .runs .bad e)
-
-    queue-last : r ≡ true → run (queueSteps m field slots k a) s ≡ run (check (eqb l (at m (a + 1))) ∷ []) t
-    unfolding going
-    queue-last e =
-        run-append (puts k (trailAt m field slots a)) _ s
-        ∙ ap (λ (o : Outcome). going o (check (eqb (last (trailAt m field slots a)) (at m (a + 1))) ∷ [])) (w .runs .good e)
-        ∙ ap (λ (x : ℕ). run (check (eqb x (at m (a + 1))) ∷ []) t) (sym (w .end e))
-
-    pub queue-wrong : r ≡ true → (l ≡ at m (a + 1) → ⊥) → run (queueSteps m field slots k a) s ≡ spoilt
-    unfolding run
-    queue-wrong e h = queue-last e ∙ rw (ne-eqb _ _ h)
-
-    pub queue-good : r ≡ true → l ≡ at m (a + 1) → run (queueSteps m field slots k a) s ≡ painted t
-    unfolding run
-    queue-good e h = queue-last e ∙ rw (eq-eqb _ _ h)
+          pub going-on : (r : Bool) → r ≡ fits cur → r ≡ true → (x : ℕ) → x ≡ at m (field + slotLength * cur) → (Q′ : List ℕ → Type 0) → ((xs : List ℕ) → Q (cur ∷ xs) → Q′ xs)
+              → Going Q′ o x (set s cur met) (rest - 1)
+          unfolding run slotsOf
+          going-on r q e x y Q′ f = record {
+            fuel = w .fuel - 1;
+            more = omega (arith, w .more, going-left);
+            counted = record {
+              within = w .counted .within;
+              few = w .counted .few;
+              marks = omega (arith, w .counted .marks, length-set s cur met);
+              left = omega (arith, going-left);
+            };
+            runs =
+                ap (λ (j : ℕ). run (walks m field slots fits j (w .fuel - 1)) (set s cur met)) y
+                ∙ sym (ap (λ (b : Bool). run (check b ∷ rest-of) (set s cur met)) (sym q ∙ e)) ∙ tested;
+            onward = subst (λ (j : ℕ). Q′ (slotsOf (walks m field slots fits j (w .fuel - 1)))) (sym y) (f (slotsOf rest-of) (subst (λ (ps : List Step). Q (slotsOf ps)) on (w .onward)));
+          }
