@@ -21,12 +21,16 @@
 
 enum { WORDS = 7456, ANSWER = 5, ROUNDS = 200, ROUND_NANOSECONDS = 200000, CHANGES = 64, CODES = 1025 };
 
-/* How the slots of a table are used. */
-enum use { EVEN, ONE_CHAIN, HALF_RETIRED, COLLIDING, USES };
+/* How the slots of a table are used; the last ones have codes that the check's spreading function puts into one cell. */
+enum use { EVEN, ONE_CHAIN, HALF_RETIRED, COLLIDING, ONE_CELL_64, ONE_CELL_20, ONE_CELL_16, ONE_CELL_1, USES };
 
 static const char *const use_names[USES] = {
-	"chains even", "one chain", "half retired", "codes collide"
+	"chains even", "one chain", "half retired", "codes collide",
+	"one cell, 64 chains", "one cell, 20 chains", "one cell, 16 chains", "one cell, one chain"
 };
+
+/* On how many chains the codes of one cell stand. */
+static const uint32_t use_chains[USES] = { [ONE_CELL_64] = 64, [ONE_CELL_20] = 20, [ONE_CELL_16] = 16, [ONE_CELL_1] = 1 };
 
 static uint32_t memory[WORDS];
 static uint32_t answer[ANSWER];
@@ -49,7 +53,44 @@ static void must(uint32_t status)
 
 /* ---- tables, built by the C version */
 
-/* Code @n of the table, with a right check digit: of all in their order, or all of one chain. */
+/* crate distinct_codes, cells.rt: the cell of a code is (low * LOW_FACTOR + high * HIGH_FACTOR) / 2^20 % 4096 */
+static const uint32_t LOW_FACTOR = 1306944375;
+static const uint32_t HIGH_FACTOR = 1969992241;
+
+static uint32_t pick(uint32_t below)
+{
+	static uint64_t state = UINT64_C(88172645463325252);
+
+	state ^= state << 13;
+	state ^= state >> 7;
+	state ^= state << 17;
+	return (uint32_t)(state >> 16) % below;
+}
+
+/* A code of @chain in cell 5, which no other of the @n codes is: the low word is what the high one leaves to be added. */
+static uint64_t code_of_cell(const uint64_t *codes, uint32_t n, uint32_t chain)
+{
+	enum { HIGH_WORDS = 2328, ROOM = 1 << 20, CELL = 5 };
+	uint32_t inverse = LOW_FACTOR;
+	uint32_t i;
+
+	for (i = 0; i < 5; i++)
+		inverse *= 2 - LOW_FACTOR * inverse;
+	for (;;) {
+		uint32_t high = pick(HIGH_WORDS);
+		uint32_t low = (CELL * ROOM + pick(ROOM) - high * HIGH_FACTOR) * inverse;
+		uint64_t code = (uint64_t)high << 32 | low;
+
+		if (low % 64 != chain || !code_is_right(code))
+			continue;
+		for (i = 0; i < n && codes[i] != code; i++)
+			;
+		if (i == n)
+			return code;
+	}
+}
+
+/* Code @n of the table, with a right check digit: of all in their order, all of one chain, or all of one cell. */
 static uint64_t code_of(enum use use, uint32_t n)
 {
 	static uint64_t codes[USES][CODES]; /* each is found once; 0 is not yet found, or itself */
@@ -63,6 +104,12 @@ static uint64_t code_of(enum use use, uint32_t n)
 		break;
 	case COLLIDING:
 		*code = right_code(UINT64_C(1) << 29, 0, n); /* equal in every digit but the last */
+		break;
+	case ONE_CELL_64:
+	case ONE_CELL_20:
+	case ONE_CELL_16:
+	case ONE_CELL_1:
+		*code = code_of_cell(codes[use], n, n % use_chains[use]);
 		break;
 	default:
 		*code = CODE_OF_ALL(n);
@@ -365,6 +412,8 @@ int main(void)
 	printf("|---|---|---|---|---|---|---|\n");
 	for (s = 0; s < sizeof(sizes) / sizeof(sizes[0]); s++)
 		for (use = 0; use < USES; use++) {
+			if (use_chains[use] != 0 && sizes[s].slots < 1024)
+				continue;
 			build(sizes[s].cabinets, sizes[s].lanes, sizes[s].slots, (enum use)use);
 			rows_of_table(s, use);
 		}

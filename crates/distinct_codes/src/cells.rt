@@ -8,9 +8,13 @@ ghost use Rattle.model.specs.Layout.{maxSlots, slotLength};
 ghost use Rattle.distinct_codes.specs.Cells.{Begins, Room, Meets};
 
 // cells of a table of few slots, and of one of more
-pub const FEW_CELLS: usize = 64;
+pub const FEW: u64 = 64;
 
-pub const MANY_CELLS: usize = 4096;
+pub const MANY: u64 = 4096;
+
+pub const FEW_CELLS: usize = FEW as usize;
+
+pub const MANY_CELLS: usize = MANY as usize;
 
 // the spreading function: factors of a code's words, and what is dropped of the sum
 const LOW_FACTOR: u64 = 1306944375;
@@ -18,6 +22,9 @@ const LOW_FACTOR: u64 = 1306944375;
 const HIGH_FACTOR: u64 = 1969992241;
 
 const DROPPED: u64 = 1048576;
+
+// one more than the largest word
+const WORD_LIMIT: u64 = 4294967296;
 
 pub struct Met {
     pub ok: bool,
@@ -28,7 +35,7 @@ pub struct Met {
 fn spread(code: u64, few: bool) -> usize
     ensures { λ r. ⌜ Begins few code r ⌝ }
 {
-    let h = (code % 4294967296 * LOW_FACTOR + code / 4294967296 * HIGH_FACTOR) / DROPPED;
+    let h = (code % WORD_LIMIT * LOW_FACTOR + code / WORD_LIMIT * HIGH_FACTOR) / DROPPED;
     if few {
         (h % 64) as usize
     } else {

@@ -12,13 +12,18 @@ ghost use Rattle.model.specs.Layout.{maxSlots, slotLength};
 ghost use Rattle.distinct_codes.specs.Cells.{fewCells, cellsOf, codeAt, Places};
 ghost use Rattle.distinct_codes.specs.Tree.{branches, Roots, Rooted, Shape, Entered, Empty};
 
-// the cells of a number's own
-const BRANCHES: usize = 8;
+// the base of the digits, and the cells of a number's own
+const DIGIT: u64 = 8;
+
+const BRANCHES: usize = DIGIT as usize;
+
+// codes of one chain are equal but for what this divides
+const CHAINS: u64 = words::CHAIN_COUNT as u64;
 
 // the cells of a tree of few codes, and of one of as many as there are slots
-const TREE_OF_FEW: usize = 64 + 8 * 64;
+const TREE_OF_FEW: usize = cells::FEW_CELLS + BRANCHES * cells::FEW_CELLS;
 
-const TREE_OF_MANY: usize = 4096 + 8 * 1024;
+const TREE_OF_MANY: usize = cells::MANY_CELLS + BRANCHES * (words::MAX_SLOTS as usize);
 
 // The number of cells in which codes begin.
 fn roots(few: bool) -> usize
@@ -36,9 +41,9 @@ fn root(code: u64, few: bool) -> usize
     ensures { λ r. ⌜ Rooted few code r ⌝ }
 {
     if few {
-        ((code % 64 + code / 64 % 64) % 64) as usize
+        ((code % cells::FEW + code / CHAINS % cells::FEW) % cells::FEW) as usize
     } else {
-        ((code % 4096 + code / 64 % 4096) % 4096) as usize
+        ((code % cells::MANY + code / CHAINS % cells::MANY) % cells::MANY) as usize
     }
 }
 
@@ -46,7 +51,11 @@ fn root(code: u64, few: bool) -> usize
 fn digits_of(code: u64, few: bool) -> u64
     ensures { λ r. ⌜ r ≡ code / cellsOf few ⌝ }
 {
-    if few { code / 64 } else { code / 4096 }
+    if few {
+        code / cells::FEW
+    } else {
+        code / cells::MANY
+    }
 }
 
 // Number i is entered by its code, that of the slot aside[i]; false where one entered before has that
@@ -65,8 +74,8 @@ fn enter(m: &[u32], base: usize, aside: &[u16], i: usize, few: bool, cells: &mut
         if words::code_at(m, base + words::SLOT_LENGTH * cells::node(aside[s])) == code {
             return false;
         }
-        p = from + BRANCHES * s + ((digits % 8) as usize);
-        digits = digits / 8;
+        p = from + BRANCHES * s + ((digits % DIGIT) as usize);
+        digits = digits / DIGIT;
         v = cells::node(cells[p]);
     }
     cells[p] = (i + 1) as u16;

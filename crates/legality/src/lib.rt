@@ -14,15 +14,12 @@ ghost use Rattle.engine_legality.specs.Contents.{Fits};
 ghost use Rattle.engine_legality.specs.Sentences.{engineLegal};
 ghost use Rattle.legality.specs.Parts.{Table, tableLegal, queuedSteps, Lent};
 
-// slots of a small table, and of any
+// the slots of a small table, and of any
 const FEW_SLOTS: u32 = 64;
 
-const FEW: usize = 64;
+const FEW: usize = FEW_SLOTS as usize;
 
-const MANY: usize = 1024;
-
-// the global queues: next, current and done
-const QUEUES: usize = 3;
+const MANY: usize = words::MAX_SLOTS as usize;
 
 // The queues: the free one, the global ones and those of the lanes, whose words begin at lane.
 fn walk_queues(
@@ -33,28 +30,28 @@ fn walk_queues(
     slots: u32,
     left: u32,
     marks: &mut [u8],
-) -> slot_places::Queued
+) -> slot_places::queue::Queued
     requires { ⌜ Counted (now m) base slots (now marks) left × (masksAt ≤ length (now m)) × (lane + laneLength * lanes ≤ length (now m)) ⌝ }
     ensures { λ r. ⌜ Runs (now (m .entry)) base slots (queuedSteps (now (m .entry)) base lane lanes slots) (now (marks .entry)) (r .ok) (r .left) (now (marks .exit)) ⌝ }
 {
-    let f = slot_places::queues(m, base, slots, words::FREE_AT, 1, true, left, marks);
+    let f = slot_places::queue::queues(m, base, slots, words::FREE_AT, 1, true, left, marks);
     if !f.ok {
-        return slot_places::Queued { ok: false, left };
+        return slot_places::queue::Queued { ok: false, left };
     }
-    let g = slot_places::queues(
+    let g = slot_places::queue::queues(
         m,
         base,
         slots,
         words::GLOBAL_QUEUES_AT,
-        QUEUES,
+        slot_places::queue::QUEUES,
         false,
         f.left,
         marks,
     );
     if !g.ok {
-        return slot_places::Queued { ok: false, left };
+        return slot_places::queue::Queued { ok: false, left };
     }
-    slot_places::lane_queues(m, base, slots, lane, lanes, g.left, marks)
+    slot_places::queue::lane_queues(m, base, slots, lane, lanes, g.left, marks)
 }
 
 // The sentences about the slots, of which slot 0's words begin at base, for lanes from lane on: each
@@ -73,7 +70,7 @@ fn slots_agree(
     ensures { λ r. ⌜ r ≡ tableLegal (now (m .entry)) ⌝ }
 {
     let slots = m[words::SLOTS_AT];
-    let c = slot_places::chains(m, base, slots, few, marks, cells, aside);
+    let c = slot_places::chain::chains(m, base, slots, few, marks, cells, aside);
     if !c.ok {
         return false;
     }

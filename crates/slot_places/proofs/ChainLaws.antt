@@ -6,7 +6,7 @@ use mathlib.Core.List.{List, [], _∷_, _++_}
 use native.Mathlib.Omega.{arith}
 use lib.ListN.{getD, set, length, take}
 use Rattle.model.specs.Word.{none}
-use Rattle.model.specs.Layout.{maxSlots, slotLength, chainLinkAt}
+use Rattle.model.specs.Layout.{maxSlots, headsAt, slotLength, chainLinkAt}
 use Rattle.model.specs.Memory.{at}
 use Rattle.distinct_codes.specs.Cells.{cellsOf, spread, codeAt, Held, clash, held, meet, meets, Room, Meets}
 use Rattle.distinct_codes.proofs.CellLaws.{meets-clash, meets-append}
@@ -90,10 +90,10 @@ module _ (m : List ℕ) (base slots : ℕ) (few : Bool) where
               };
             }
 
-    pub chain-start : (cur left : ℕ) → cur ≡ at m (15 + k) → Counted m base slots s₀ left → Ready m base slots few k₀ a₀ n₀ left → Chaining cur s₀ k₀ a₀ n₀ left
+    pub chain-start : (cur left : ℕ) → cur ≡ at m (headsAt + k) → Counted m base slots s₀ left → Ready m base slots few k₀ a₀ n₀ left → Chaining cur s₀ k₀ a₀ n₀ left
     chain-start cur left e c r =
         subst (λ (x : ℕ). Chaining x s₀ k₀ a₀ n₀ left) (sym e)
-        (record { way = going-start m base slots _ _ (Onward k₀ a₀ n₀) (at m (15 + k)) s₀ left c refl; ready = r })
+        (record { way = going-start m base slots _ _ (Onward k₀ a₀ n₀) (at m (headsAt + k)) s₀ left c refl; ready = r })
 
   -- ---- one list of steps after the other
 

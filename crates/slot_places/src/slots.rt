@@ -7,7 +7,7 @@ ghost use Rattle.model.specs.Layout.{slotLength};
 ghost use Rattle.slot_places.specs.Slots.{chainedAt, freeAt, retiredAt};
 
 // chains, as a divisor of codes
-const CHAINS: u64 = 64;
+const CHAINS: u64 = words::CHAIN_COUNT as u64;
 
 // A slot on chain k: "chained slots are on chain (code mod 64)", "fields are in range", and "a slot
 // outside every line has line link none".

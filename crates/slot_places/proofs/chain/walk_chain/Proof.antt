@@ -6,8 +6,8 @@ use lib.ListN.{length}
 use borrow.Author.Tests.{not-true, not-false}
 use Rattle.slot_places.proofs.ChainLaws.{Chaining, chain-start, chain-done, chain-astray, chain-twice, chain-unfit, chain-asks, chain-less, chain-repeats, chain-on}
 use borrow.Author.Needs.{needs}
-use Rattle.slot_places.proofs.walk_chain.Statement.{statement}
-use Rattle.slot_places.proofs.walk_chain.Tie as tie
+use Rattle.slot_places.proofs.chain.walk_chain.Statement.{statement}
+use Rattle.slot_places.proofs.chain.walk_chain.Tie as tie
 
 abbrev Inv-loop : tie.InvT-loop
 Inv-loop m base slots k left n few marks₀ cells₀ aside₀ chain cur₀ rest₀ o₀ marks cells aside cur rest o =

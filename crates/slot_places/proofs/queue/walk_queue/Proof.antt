@@ -6,8 +6,8 @@ use lib.ListN.{length}
 use borrow.Author.Tests.{not-true, not-false}
 use Rattle.slot_places.proofs.QueueLaws.{Queueing, queue-start, queue-done, queue-astray, queue-twice, queue-unfit, queue-less, queue-on}
 use borrow.Author.Needs.{needs}
-use Rattle.slot_places.proofs.walk_queue.Statement.{statement}
-use Rattle.slot_places.proofs.walk_queue.Tie as tie
+use Rattle.slot_places.proofs.queue.walk_queue.Statement.{statement}
+use Rattle.slot_places.proofs.queue.walk_queue.Tie as tie
 
 abbrev Inv-loop : tie.InvT-loop
 Inv-loop m base slots at free left marks₀ cur₀ last₀ rest₀ marks cur last rest =

@@ -2,8 +2,8 @@
 use borrow.Author.Tests.{not-true, not-false}
 use Rattle.slot_places.proofs.QueueLaws.{queue-bad, queue-wrong, queue-good}
 use borrow.Author.Needs.{needs}
-use Rattle.slot_places.proofs.queue.Statement.{statement}
-use Rattle.slot_places.proofs.queue.Tie as tie
+use Rattle.slot_places.proofs.queue.queue.Statement.{statement}
+use Rattle.slot_places.proofs.queue.queue.Tie as tie
 
 walk-queue-requires : tie.Need-walk-queue-requires
 walk-queue-requires c κs = search needs

@@ -10,8 +10,8 @@ use Rattle.model.specs.Layout.{chainCount}
 use Rattle.slot_places.specs.Steps.{chainSteps, several, Counted, Ready, Enters}
 use Rattle.slot_places.proofs.ChainLaws.{chains-fail, chains-on, chains-done, chains-counted}
 use borrow.Author.Needs.{needs}
-use Rattle.slot_places.proofs.chains.Statement.{statement}
-use Rattle.slot_places.proofs.chains.Tie as tie
+use Rattle.slot_places.proofs.chain.chains.Statement.{statement}
+use Rattle.slot_places.proofs.chain.chains.Tie as tie
 
 abbrev Inv-loop : tie.InvT-loop
 Inv-loop m base slots few marks₀ cells₀ aside₀ k₀ chains₀ left₀ n₀ marks cells aside k chains left n =
