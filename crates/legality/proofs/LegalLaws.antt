@@ -1,12 +1,14 @@
--- Legality from its parts. Assumes nothing.
+-- Legality from its parts: its sentences are those about the global words, the cabinets and the lanes, and those about the slots.
 use Prim.Native.Nat.{ℕ}
 use mathlib.Core.Bool.{Bool, true, false, cond, _&&_}
-use mathlib.Core.Path.{_≡_, refl, ap, sym, _∙_}
+use mathlib.Core.Path.{_≡_, ap, sym, _∙_}
 use mathlib.Core.List.{List}
 use Rattle.model.specs.Lists.{every}
-use Rattle.model.specs.Memory.{state}
+use Rattle.model.specs.Layout.{freeAt, globalQueuesAt}
+use Rattle.model.specs.Memory.{sizes, state}
 use Rattle.model.specs.Legal.{contentsAgree, linksInRange, fieldsInRange, sentences, legal}
-use Rattle.laws.specs.Tests.{every-true, every-intro, and-true, and-intro}
+use Rattle.laws.specs.Tests.{_&_, every-true, every-intro, and-true, and-intro}
+use Rattle.engine_legality.specs.Lanes.{endsFit, queuesFit, headsFit}
 use Rattle.engine_legality.specs.Sentences.{engineLegal}
 use Rattle.legality.specs.Parts.{tableLegal}
 use Rattle.engine_legality.proofs.EngineLaws.{iff-eq}
@@ -14,81 +16,37 @@ use Rattle.engine_legality.proofs.EngineLaws.{iff-eq}
 module _ (m : List ℕ) where
   -- the sentences are those of the two parts
   split : every (sentences m (state m)) ≡ true → (engineLegal m && tableLegal m) ≡ true
-  unfolding engineLegal tableLegal linksInRange fieldsInRange
+  unfolding engineLegal tableLegal linksInRange fieldsInRange headsFit
   split h =
-      let e = every-true _ h in
-      let links = every-true _ (e .1 .1 .0) in
-      let fields = and-true _ _ (e .1 .1 .1 .0) in
-      let e₄ = e .1 .1 .1 .1 in
-      let e₈ = e₄ .1 .1 .1 .1 in
-      let e₁₂ = e₈ .1 .1 .1 .1 in
+      let (flags, (masks, (linked, (fielded, (once, (lasts, (chained, (codes, (snapshots, (lookups, (generations, rest₁₁))))))))))) = every-true _ h in
+      let (queueLinks, (off, (sections, (held, (bits, (blank, (largest, (lanes, (global, _))))))))) = rest₁₁ in
+      let (heads, (free, (queues, (laneLinks, (chainLinks, (slotLinks, _)))))) = every-true _ linked in
+      let (products, lookupCodes) = and-true _ _ fielded in
       and-intro _ _
-      (every-intro _ (e .0, (e .1 .0, (and-intro _ _ (and-intro _ _ (links .0) (links .1 .0)) (links .1 .1 .0), (links .1 .1 .1 .0, (fields .1, (e₈ .0, (e₈ .1 .0, (e₈ .1 .1 .0, (e₁₂ .0, (e₁₂ .1 .0, (e₁₂ .1 .1 .0, (e₁₂ .1 .1 .1 .0, (e₁₂ .1 .1 .1 .1 .1 .0, (e₁₂ .1 .1 .1 .1 .1 .1 .0, (e₁₂ .1 .1 .1 .1 .1 .1 .1 .0, tt))))))))))))))))
-      (every-intro _ (links .1 .1 .1 .1 .0, (links .1 .1 .1 .1 .1 .0, (fields .0, (e₄ .0, (e₄ .1 .0, (e₄ .1 .1 .0, (e₄ .1 .1 .1 .0, (e₈ .1 .1 .1 .0, (e₁₂ .1 .1 .1 .1 .0, tt))))))))))
+      (every-intro _ (
+      flags & masks & heads & and-intro _ _ free queues & laneLinks & lookupCodes
+      & snapshots & lookups & generations
+      & off & sections & held & bits
+      & largest & lanes & global & tt
+      ))
+      (every-intro _ (chainLinks & slotLinks & products & once & lasts & chained & codes & queueLinks & blank & tt))
 
   join : (engineLegal m && tableLegal m) ≡ true → every (sentences m (state m)) ≡ true
-  unfolding engineLegal tableLegal linksInRange fieldsInRange
+  unfolding engineLegal tableLegal linksInRange fieldsInRange headsFit
   join h =
-      let b = and-true (engineLegal m) (tableLegal m) h in
-      let e = every-true _ (b .0) in
-      let t = every-true _ (b .1) in
-      let ends = and-true _ _ (e .1 .1 .0) in
-      let front = and-true _ _ (ends .0) in
-      let e₅ = e .1 .1 .1 .1 .1 in
-      let e₈ = e₅ .1 .1 .1 in
-      let e₁₂ = e₈ .1 .1 .1 .1 in
-      let t₃ = t .1 .1 .1 in
+      let (e, t) = and-true (engineLegal m) (tableLegal m) h in
+      let (flags, (masks, (heads, (ends, (laneLinks, (lookupCodes, (snapshots, (lookups, (generations, rest₉))))))))) = every-true _ e in
+      let (off, (sections, (held, (bits, (largest, (lanes, (global, _))))))) = rest₉ in
+      let (chainLinks, (slotLinks, (products, (once, (lasts, (chained, (codes, (queueLinks, (blank, _))))))))) = every-true _ t in
+      let (free, queues) = and-true (endsFit m (sizes m .slots) freeAt) (queuesFit m (sizes m .slots) globalQueuesAt) ends in
       every-intro _ (
-        e .0,
-        (
-          e .1 .0,
-          (
-            every-intro _ (front .0, (front .1, (ends .1, (e .1 .1 .1 .0, (t .0, (t .1 .0, tt)))))),
-            (
-              and-intro _ _ (t .1 .1 .0) (e .1 .1 .1 .1 .0),
-              (
-                t₃ .0,
-                (
-                  t₃ .1 .0,
-                  (
-                    t₃ .1 .1 .0,
-                    (
-                      t₃ .1 .1 .1 .0,
-                      (
-                        e₅ .0,
-                        (
-                          e₅ .1 .0,
-                          (
-                            e₅ .1 .1 .0,
-                            (
-                              t₃ .1 .1 .1 .1 .0,
-                              (
-                                e₈ .0,
-                                (
-                                  e₈ .1 .0,
-                                  (
-                                    e₈ .1 .1 .0,
-                                    (
-                                      e₈ .1 .1 .1 .0,
-                                      (
-                                        t₃ .1 .1 .1 .1 .1 .0,
-                                        (e₁₂ .0, (e₁₂ .1 .0, (e₁₂ .1 .1 .0, tt))),
-                                      ),
-                                    ),
-                                  ),
-                                ),
-                              ),
-                            ),
-                          ),
-                        ),
-                      ),
-                    ),
-                  ),
-                ),
-              ),
-            ),
-          ),
-        ),
+      flags & masks
+      & every-intro _ (heads & free & queues & laneLinks & chainLinks & slotLinks & tt)
+      & and-intro _ _ products lookupCodes
+      & once & lasts & chained & codes
+      & snapshots & lookups & generations & queueLinks
+      & off & sections & held & bits & blank
+      & largest & lanes & global & tt
       )
 
   parts-eq : (engineLegal m && tableLegal m) ≡ every (sentences m (state m))
