@@ -27,6 +27,7 @@ use Rattle.slot_places.specs.Steps.{Step, Outcome, spoilt, painted, run, slotsO
 use Rattle.slot_places.proofs.StepLaws.{unlike, going, run-append, unmarked-all, unmarked-none, unmarked-some}
 use Rattle.slot_places.proofs.Marked.{checks, marks-are, marks-most, marks-checked, Spoilt, failed, doubled, spoilt-why}
 use Rattle.slot_places.proofs.Places.{Told, checks-both, both-check, told-append, told-several, several-check, check-several, walks-told, told-walks}
+use Rattle.engine_legality.specs.Lanes.{headsFit}
 use Rattle.engine_legality.specs.Sentences.{engineLegal}
 use Rattle.legality.specs.Parts.{Table, tableLegal, queuedSteps, Lent}
 use Rattle.legality.proofs.StepsRead.{S, base, laneTotal, chainPart, freePart, threeSteps, lanePart, queuedPart, chain-slots, link-slots, chains-are, free-count, retired-count, all-count, steps-right, steps-lasts, lasts-steps}
@@ -66,27 +67,24 @@ module _ (m : List ℕ) where
   module _ (engine : engineLegal m ≡ true) (s : TableSaid m) where
     -- a walk begins at a slot or at none
     head-fits : (k : ℕ) → k < chainCount → slotOrNone (S m) (at m (headsAt + k)) ≡ true
+    unfolding engineLegal headsFit
+    head-fits k b = all-below (λ (k : ℕ). inRange m (at m (headsAt + k))) chainCount k (every-true _ engine .1 .1 .0) b
+
+    -- the ends of the free queue, and those of the global ones
+    ends-fit : (endsInRange m (at m) freeAt ≡ true) × (queuesInRange m (at m) globalQueuesAt ≡ true)
     unfolding engineLegal
-    head-fits k b =
-        let h = and-true (all (λ (k : ℕ). inRange m (at m (headsAt + k))) (from 0 chainCount) && endsInRange m (at m) freeAt) (queuesInRange m (at m) globalQueuesAt) (every-true _ engine .1 .1 .0) .0 in
-        all-below (λ (k : ℕ). inRange m (at m (headsAt + k))) chainCount k (and-true (all (λ (k : ℕ). inRange m (at m (headsAt + k))) (from 0 chainCount)) (endsInRange m (at m) freeAt) h .0) b
+    ends-fit = and-true (endsInRange m (at m) freeAt) (queuesInRange m (at m) globalQueuesAt) (every-true _ engine .1 .1 .1 .0)
 
     free-fits : slotOrNone (S m) (at m freeAt) ≡ true
-    unfolding engineLegal
-    free-fits =
-        let h = and-true (all (λ (k : ℕ). inRange m (at m (headsAt + k))) (from 0 chainCount) && endsInRange m (at m) freeAt) (queuesInRange m (at m) globalQueuesAt) (every-true _ engine .1 .1 .0) .0 in
-        first-fits (at m) freeAt (and-true (all (λ (k : ℕ). inRange m (at m (headsAt + k))) (from 0 chainCount)) (endsInRange m (at m) freeAt) h .1)
+    free-fits = first-fits (at m) freeAt (ends-fit .0)
 
     global-fits : Firsts m (at m) globalQueuesAt
-    unfolding engineLegal
-    global-fits =
-        firsts-fit (at m) globalQueuesAt
-        (and-true (all (λ (k : ℕ). inRange m (at m (headsAt + k))) (from 0 chainCount) && endsInRange m (at m) freeAt) (queuesInRange m (at m) globalQueuesAt) (every-true _ engine .1 .1 .0) .1)
+    global-fits = firsts-fit (at m) globalQueuesAt (ends-fit .1)
 
     lane-fits : (i : ℕ) → i < laneTotal m → Firsts m (laneWord m i) queuesAt
     unfolding engineLegal
     lane-fits i b =
-        let t = all-below (laneLinksInRange m) (laneTotal m) i (every-true _ engine .1 .1 .1 .0) b in
+        let t = all-below (laneLinksInRange m) (laneTotal m) i (every-true _ engine .1 .1 .1 .1 .0) b in
         firsts-fit (laneWord m i) queuesAt (and-true (queuesInRange m (laneWord m i) queuesAt) (inRange m (laneWord m i positionAt)) t .0)
 
     -- the same by addresses
