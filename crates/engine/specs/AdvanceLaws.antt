@@ -1,5 +1,5 @@
 -- Which change of the state the words of Advance are, for any owner: a memory that shows a state s, advanced at the owner's addresses, is that of the
--- advanced state. Assumes nothing.
+-- advanced state.
 use Prim.Native.Nat.{ℕ}
 use mathlib.Core.Bool.{Bool, true, false, not, cond, _&&_}
 use mathlib.Core.Path.{_≡_, refl, ap, ap₂, sym, _∙_}

@@ -1,5 +1,4 @@
--- The steps of an advance on the state, for any owner: its current queue is settled, then a batch begins. They make the model's advance, and keep the
--- shape. Assumes nothing.
+-- The steps of an advance on the state, for any owner: its current queue is settled, then a batch begins. They make the model's advance, and keep the shape.
 use Prim.Native.Nat.{ℕ}
 use mathlib.Core.Bool.{Bool, true, false, not, cond, _&&_}
 use mathlib.Core.Path.{_≡_, refl, ap, sym, _∙_}

@@ -1,4 +1,4 @@
--- The words of Advance at an owner's addresses, and what their tests read of the state that a memory shows. Assumes nothing.
+-- The words of Advance at an owner's addresses, and what their tests read of the state that a memory shows.
 use Prim.Native.Nat.{ℕ, _-_}
 use mathlib.Core.Bool.{Bool, true, false, not, cond}
 use mathlib.Core.Path.{_≡_, refl, ap, ap₂, sym, _∙_}

@@ -1,4 +1,4 @@
--- The clock of a lane that no cause refuses: the words after it are those of the state after the call, and its answer is read from them. Assumes nothing.
+-- The clock of a lane that no cause refuses: the words after it are those of the state after the call, and its answer is read from them.
 use Prim.Native.Nat.{ℕ, _+_, _*_, _/_, _%_, _<_}
 use mathlib.Core.Bool.{Bool, true, false, not, cond}
 use mathlib.Core.Path.{_≡_, refl, ap, ap₂, sym, _∙_}

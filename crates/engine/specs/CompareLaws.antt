@@ -1,4 +1,4 @@
--- What compare reads of the state: `movedOn` is the model's `quiesced`. Assumes nothing.
+-- What compare reads of the state: `movedOn` is the model's `quiesced`.
 use Prim.Native.Nat.{ℕ, _+_, _<_, _≤_}
 use mathlib.Core.Bool.{Bool, not, _&&_}
 use mathlib.Core.Path.{_≡_, refl, ap, ap₂, _∙_}

@@ -1,4 +1,4 @@
--- A memory that shows a state holds what the functions of the engine ask for. Assumes nothing.
+-- A memory that shows a state holds what the functions of the engine ask for.
 use Prim.Native.Nat.{ℕ, _<_}
 use mathlib.Core.List.{List}
 use native.Mathlib.Omega.{arith}

@@ -1,4 +1,4 @@
--- Which change of the state the words of Off are: lane c × places + p goes off, as the model's rules say. Assumes nothing.
+-- Which change of the state the words of Off are: lane c × places + p goes off, as the model's rules say.
 use Prim.Native.Nat.{ℕ, _+_, _*_, _<_, _≤_}
 use mathlib.Core.Path.{_≡_, refl, ap, sym, _∙_}
 use mathlib.Core.List.{List}

@@ -1,4 +1,4 @@
--- The first steps of off on the state: lane i is marked off, and hands its queues over. Assumes nothing.
+-- The first steps of off on the state: lane i is marked off, and hands its queues over.
 use Prim.Native.Nat.{ℕ, _+_, _<_}
 use mathlib.Core.Bool.{false}
 use mathlib.Core.Path.{_≡_, refl, ap, ap₂, sym, _∙_}

@@ -1,4 +1,4 @@
--- Laws of the words of Off: what the code's steps give. Assumes nothing.
+-- Laws of the words of Off: what the code's steps give.
 use Prim.Native.Nat.{ℕ, _+_}
 use mathlib.Core.Path.{_≡_, ap, _∙_}
 use mathlib.Core.List.{List}

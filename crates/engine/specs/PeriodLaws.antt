@@ -1,5 +1,5 @@
--- Which change of the state the words of Period are: end and request; StartLaws has begin. Each law takes a memory that shows a state s, and says that
--- the memory afterwards is that of the changed state. Assumes nothing.
+-- Which change of the state the words of Period are: end and request; StartLaws has begin. Each law takes a memory that shows a state s, and says that the
+-- memory afterwards is that of the changed state.
 use Prim.Native.Nat.{ℕ}
 use mathlib.Core.Bool.{Bool, true, false, not, cond}
 use mathlib.Core.Path.{_≡_, refl, ap, ap₂, sym, _∙_}

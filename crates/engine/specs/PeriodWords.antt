@@ -1,4 +1,4 @@
--- Laws of the words of Period: what the lane masks leave, and one cabinet more. Assumes nothing.
+-- Laws of the words of Period: what the lane masks leave, and one cabinet more.
 use Prim.Native.Nat.{ℕ, zero, suc, _+_, _*_, _^_, _<_, _≤_}
 use mathlib.Core.Bool.{Bool, true, false, cond}
 use mathlib.Core.Path.{_≡_, refl, ap, ap₂, sym, _∙_}

@@ -1,4 +1,4 @@
--- A lane drops its snapshot; it drops its bit; the period ends where no lane is awaited any more. Assumes nothing.
+-- A lane drops its snapshot; it drops its bit; the period ends where no lane is awaited any more.
 use Prim.Native.Nat.{ℕ, zero, suc, _+_, _*_, _<_}
 use mathlib.Core.Bool.{Bool, true, false, not, cond}
 use mathlib.Core.Path.{_≡_, refl, ap, sym, _∙_}

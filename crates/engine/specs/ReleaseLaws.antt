@@ -1,4 +1,4 @@
--- Which change of the state the words of Release are: lane c × places + p drops its snapshot and its bit. Assumes nothing.
+-- Which change of the state the words of Release are: lane c × places + p drops its snapshot and its bit.
 use Prim.Native.Nat.{ℕ, zero, suc, _+_, _*_, _<_, _≤_}
 use mathlib.Core.Bool.{Bool, true, false, not, cond, _&&_}
 use mathlib.Core.Path.{_≡_, refl, ap, ap₂, _∙_}

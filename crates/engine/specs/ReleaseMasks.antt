@@ -1,4 +1,4 @@
--- The masks after a lane's bit went: its cabinet's lane mask loses it, and the cabinet mask loses the cabinet's bit where it was the last. Assumes nothing.
+-- The masks after a lane's bit went: its cabinet's lane mask loses it, and the cabinet mask loses the cabinet's bit where it was the last.
 use Prim.Native.Nat.{ℕ, _+_, _*_, _<_, _≤_}
 use mathlib.Core.Bool.{Bool, true, false, not, cond}
 use mathlib.Core.Path.{_≡_, refl, ap, sym, _∙_}

@@ -1,4 +1,4 @@
--- The stores of a release to the masks, as the change of the state in which the lane's bit goes. Assumes nothing.
+-- The stores of a release to the masks, as the change of the state in which the lane's bit goes.
 use Prim.Native.Nat.{ℕ, _+_, _*_, _<_, _≤_}
 use mathlib.Core.Bool.{Bool, true, false, not, cond, _&&_}
 use mathlib.Core.Path.{_≡_, refl, ap, sym, _∙_}

@@ -1,4 +1,4 @@
--- Laws of the words of Release: what the code's steps give. Assumes nothing.
+-- Laws of the words of Release: what the code's steps give.
 use Prim.Native.Nat.{ℕ, _+_, _<_}
 use mathlib.Core.Bool.{Bool, true, false, cond}
 use mathlib.Core.Path.{_≡_, ap, sym, _∙_}

@@ -1,4 +1,4 @@
--- Which change of the state copy is: `sampleWords` is the model's `sampled`. Assumes nothing.
+-- Which change of the state copy is: `sampleWords` is the model's `sampled`.
 use Prim.Native.Nat.{ℕ, _+_, _*_, _<_}
 use mathlib.Core.Bool.{Bool, true, false, not, cond, _&&_}
 use mathlib.Core.Path.{_≡_, refl, ap, ap₂, sym, _∙_}

@@ -1,4 +1,4 @@
--- Which change of the state `startedWords` is: a period begins, and each lane that is online is awaited. Assumes nothing.
+-- Which change of the state `startedWords` is: a period begins, and each lane that is online is awaited.
 use Prim.Native.Nat.{ℕ, zero, suc, _+_, _*_, _<_, _≤_}
 use mathlib.Core.Bool.{Bool, cond}
 use mathlib.Core.Path.{_≡_, refl, ap, sym, _∙_}

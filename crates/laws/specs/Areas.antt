@@ -1,5 +1,4 @@
--- Words laid out in areas, one after another, each a number of rows of one width: every word has one place, and a store at a place changes that
--- place alone. Assumes nothing.
+-- Words laid out in areas, one after another, each a number of rows of one width: every word has one place, and a store at a place changes that place alone.
 use Prim.Native.Nat.{ℕ, zero, suc, _+_, _*_, _-_, _/_, _%_, _≤_, _<_}
 use mathlib.Core.Path.{_≡_, refl, ap, sym, _∙_}
 use mathlib.Core.List.{List, [], _∷_, _++_, map, append-assoc}

@@ -1,4 +1,4 @@
--- How often a number stands in a list: "in" is a count above 0, "not in" a count of 0, so that omega combines them. Assumes nothing.
+-- How often a number stands in a list: "in" is a count above 0, "not in" a count of 0, so that omega combines them.
 use Prim.Native.Nat.{ℕ, zero, suc, _+_, _≤_, _<_}
 use mathlib.Core.Bool.{Bool, true, false, cond}
 use mathlib.Core.Path.{_≡_, refl, ap, _∙_}

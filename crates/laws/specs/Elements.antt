@@ -1,4 +1,4 @@
--- What holds of the elements of a list: `map`, `any`, each of them, and what `drops` leaves. Assumes nothing.
+-- What holds of the elements of a list: `map`, `any`, each of them, and what `drops` leaves.
 use Prim.Native.Nat.{ℕ, zero, suc, _+_, _≤_, _<_}
 use mathlib.Core.Bool.{Bool, true, false, _||_}
 use mathlib.Core.Path.{_≡_, refl, ap, sym, _∙_, subst}

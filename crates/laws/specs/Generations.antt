@@ -1,5 +1,5 @@
--- The order of generations (document 01, "Generations and passes", first lines): for words it is irreflexive and asymmetric, and tells a generation,
--- the one before and the one after apart, at the wrap too. Assumes nothing.
+-- The order of generations (document 01, "Generations and passes", first lines): for words it is irreflexive and asymmetric, and tells a generation, the one
+-- before and the one after apart, at the wrap too.
 use Prim.Native.Nat.{ℕ, _≤_, _<_}
 use mathlib.Core.Path.{_≡_, refl}
 use mathlib.Core.Bool.{true, false}

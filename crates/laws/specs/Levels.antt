@@ -1,5 +1,5 @@
--- Levels of masks: rows of flags, and above them a mask with a flag a row. Clearing a flag, counting flags and finding the first of them, by the masks
--- of both levels. The level above may itself be parted into rows, so that each law serves at every depth. Assumes nothing.
+-- Levels of masks: rows of flags, and above them a mask with a flag a row. Clearing a flag, counting flags and finding the first of them, by the masks of
+-- both levels. The level above may itself be parted into rows, so that each law serves at every depth.
 use Prim.Native.Nat.{ℕ, zero, suc, _+_, _*_, _<_}
 use mathlib.Core.Bool.{Bool, true, false, cond, _||_}
 use mathlib.Core.Path.{_≡_, refl, ap, sym, _∙_}

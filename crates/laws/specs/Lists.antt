@@ -1,4 +1,4 @@
--- Lists by their elements: `update`, `from`, and lists made of blocks. Assumes nothing.
+-- Lists by their elements: `update`, `from`, and lists made of blocks.
 use Prim.Native.Nat.{ℕ, zero, suc, _+_, _≤_, _<_}
 use mathlib.Core.Bool.{cond}
 use mathlib.Core.Path.{_≡_, refl, ap, sym, _∙_}

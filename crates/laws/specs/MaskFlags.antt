@@ -1,4 +1,4 @@
--- One flag of a mask set, tested and cleared, flags counted, and the first of them, as MIR's operations give them. Assumes nothing.
+-- One flag of a mask set, tested and cleared, flags counted, and the first of them, as MIR's operations give them.
 use Prim.Native.Nat.{ℕ, zero, suc, _+_, _*_, _-_, _/_, _%_, _^_, _≤_, _<_, min}
 use mathlib.Core.Bool.{Bool, true, false, cond, _||_}
 use mathlib.Core.Path.{_≡_, refl, ap, ap₂, sym, _∙_}

@@ -1,4 +1,4 @@
--- Masks of any width: bits, the mask built from a list of flags, a mask built flag by flag, and no flag. Assumes nothing.
+-- Masks of any width: bits, the mask built from a list of flags, a mask built flag by flag, and no flag.
 use Prim.Native.Nat.{ℕ, zero, suc, _+_, _*_, _-_, _/_, _%_, _^_, _<_}
 use mathlib.Core.Bool.{Bool, true, false, not, cond}
 use mathlib.Core.Path.{_≡_, refl, ap, ap₂, sym, _∙_}

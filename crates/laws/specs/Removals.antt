@@ -1,4 +1,4 @@
--- What links hold after an element is taken out of a list without repetition. Assumes nothing.
+-- What links hold after an element is taken out of a list without repetition.
 use Prim.Native.Nat.{ℕ, _+_, _≤_, _<_}
 use mathlib.Core.Bool.{true, cond}
 use mathlib.Core.Path.{_≡_, sym, _∙_}

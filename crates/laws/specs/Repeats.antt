@@ -1,4 +1,4 @@
--- No value twice, by counts; a list with each number below n once has n elements. Assumes nothing.
+-- No value twice, by counts; a list with each number below n once has n elements.
 use Prim.Native.Nat.{ℕ, zero, suc, _+_, _≤_, _<_}
 use mathlib.Core.Bool.{Bool, true, false}
 use mathlib.Core.Path.{_≡_, refl, ap, sym, _∙_}

@@ -1,5 +1,4 @@
--- First, last and successor of the elements of lists without repetition: what links hold, and what they hold
--- after lists are joined. Assumes nothing.
+-- First, last and successor of the elements of lists without repetition: what links hold, and what they hold after lists are joined.
 use Prim.Native.Nat.{ℕ, zero, suc, _+_, _≤_, _<_}
 use mathlib.Core.Bool.{cond}
 use mathlib.Core.Path.{_≡_, refl, ap, sym, _∙_}

@@ -1,4 +1,4 @@
--- Sums over a list: what a change of one element does to them. Assumes nothing.
+-- Sums over a list: what a change of one element does to them.
 use Prim.Native.Nat.{ℕ, zero, suc, _+_, _<_, _≤_}
 use mathlib.Core.Path.{_≡_, refl}
 use mathlib.Core.List.{List, [], _∷_, _++_, map}

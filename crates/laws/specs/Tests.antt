@@ -1,4 +1,4 @@
--- Tests: Booleans by cases, tests of numbers, and tests of all elements of a list. Assumes nothing.
+-- Tests: Booleans by cases, tests of numbers, and tests of all elements of a list.
 use Prim.Native.Nat.{ℕ, zero, suc, _+_, _<_}
 use mathlib.Core.Path.{_≡_, refl, sym, ap, ap₂, _∙_}
 use mathlib.Core.Logic.{_⊎_, inl, inr, _≢_}

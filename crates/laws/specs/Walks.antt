@@ -1,4 +1,4 @@
--- Walks along links: what a walk finds, and that a walk along the links of a list's elements gives the list back. Assumes nothing.
+-- Walks along links: what a walk finds, and that a walk along the links of a list's elements gives the list back.
 use Prim.Native.Nat.{ℕ, zero, suc, _+_, _≤_, _<_}
 use mathlib.Core.Bool.{Bool, true, false}
 use mathlib.Core.Path.{_≡_, refl, ap, sym, _∙_}

@@ -1,5 +1,4 @@
--- What the sentences about the slots say, by counts: how often slot i stands on the chains, in the free queue and in the other queues. Assumes
--- nothing.
+-- What the sentences about the slots say, by counts: how often slot i stands on the chains, in the free queue and in the other queues.
 use Prim.Native.Nat.{ℕ, zero, suc, _+_, _*_, _%_, _≤_, _<_}
 use mathlib.Core.Bool.{Bool, true, false, not, cond, _&&_, _||_}
 use mathlib.Core.Path.{_≡_, refl, ap, ap₂, sym, _∙_, subst}

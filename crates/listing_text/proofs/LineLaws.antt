@@ -1,5 +1,4 @@
--- The machine reads what `parsed` says: `parses`. Its bytes are taken word by word; the first names the command, the others are its arguments. Assumes
--- nothing.
+-- The machine reads what `parsed` says: `parses`. Its bytes are taken word by word; the first names the command, the others are its arguments.
 use Prim.Native.Nat.{ℕ}
 use mathlib.Core.Bool.{Bool, true, false, cond}
 use mathlib.Core.List.{List, [], _∷_, map}

@@ -1,5 +1,4 @@
--- `chains::chain_link` meets its contract: the word stands where the contract reads it.
--- Assumes nothing.
+-- `chains::chain_link`: the word stands where the contract reads it.
 use borrow.Author.Needs.{needs}
 use Rattle.chains.proofs.chain_link.Statement.{statement}
 use Rattle.chains.proofs.chain_link.Tie as tie

@@ -1,5 +1,4 @@
--- `chains::clear_slot` meets its contract: what `write_product` leaves, with the link stored.
--- Assumes nothing.
+-- `chains::clear_slot`: what `write_product` leaves, with the link stored.
 use borrow.Author.Needs.{needs}
 use Rattle.chains.proofs.clear_slot.Statement.{statement}
 use Rattle.chains.proofs.clear_slot.Tie as tie

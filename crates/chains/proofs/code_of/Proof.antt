@@ -1,5 +1,4 @@
--- `chains::code_of` meets its contract: the two words stand where `codeWords` reads them.
--- Assumes nothing.
+-- `chains::code_of`: the two words stand where `codeWords` reads them.
 use Prim.Native.Nat.{ℕ, _+_}
 use mathlib.Core.Path.{ap, _∙_}
 use denote.Ref.{now}

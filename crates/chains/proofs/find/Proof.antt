@@ -1,6 +1,5 @@
--- `chains::find` meets its contract. The loop's invariant: the steps that are left are slots + 1 at most, and the search from here finds what the
--- whole search finds. The measure is the steps that are left.
--- Assumes nothing.
+-- `chains::find`. The loop's invariant: the steps that are left are slots + 1 at most, and the search from here finds what the whole search finds. The
+-- measure is the steps that are left.
 use borrow.Author.Needs.{needs}
 use Prim.Native.Nat.{_≤_, _+_}
 use mathlib.Core.Path.{_≡_, refl, sym, _∙_}

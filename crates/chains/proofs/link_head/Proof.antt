@@ -1,5 +1,4 @@
--- `chains::link_head` meets its contract: the two stores are those of `linkedAtHead`.
--- Assumes nothing.
+-- `chains::link_head`: the two stores are those of `linkedAtHead`.
 use borrow.Author.Needs.{needs}
 use Rattle.chains.proofs.link_head.Statement.{statement}
 use Rattle.chains.proofs.link_head.Tie as tie

@@ -1,5 +1,4 @@
--- `chains::outcome_words` meets its contract: at each case of the enum `outcomeAnswer` computes to the words returned.
--- Assumes nothing.
+-- `chains::outcome_words`: at each case of the enum `outcomeAnswer` computes to the words returned.
 use mathlib.Core.Path.{sym, ap}
 use borrow.Author.Needs.{needs}
 use Rattle.model.specs.Rules.{outcomeAnswer}

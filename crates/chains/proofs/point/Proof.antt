@@ -1,5 +1,4 @@
--- `chains::point` meets its contract: its test is that of `pointed`, and each arm stores what that says.
--- Assumes nothing.
+-- `chains::point`: its test is that of `pointed`, and each arm stores what that says.
 use borrow.Author.Needs.{needs}
 use borrow.Author.Tests.{lt-ltb, le-ltb}
 use Rattle.chains.specs.Chain.{pointed}

@@ -1,5 +1,4 @@
--- `chains::put_in_place` meets its contract: the link is that of the old slot, and `point` leaves what `pointed` says.
--- Assumes nothing.
+-- `chains::put_in_place`: the link is that of the old slot, and `point` leaves what `pointed` says.
 use mathlib.Core.Path.{_∙_}
 use lib.ListN.{length-set}
 use borrow.Author.Needs.{needs}

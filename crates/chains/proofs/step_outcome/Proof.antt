@@ -1,5 +1,4 @@
--- `chains::step_outcome` meets its contract: its tests are those of `outcomeAt`, in its order.
--- Assumes nothing.
+-- `chains::step_outcome`: its tests are those of `outcomeAt`, in its order.
 use mathlib.Core.Path.{sym, _∙_}
 use borrow.Author.Needs.{needs}
 use borrow.Author.Tests.{le-leb, lt-leb, eq-eqb, ne-eqb}

@@ -1,5 +1,4 @@
--- `chains::unlink` meets its contract: what `point` leaves at the old slot's link.
--- Assumes nothing.
+-- `chains::unlink`: what `point` leaves at the old slot's link.
 use mathlib.Core.Path.{_∙_}
 use borrow.Author.Needs.{needs}
 use Rattle.chains.proofs.unlink.Statement.{statement}

@@ -1,5 +1,4 @@
--- `chains::write_product` meets its contract: the four stores are those of `productSet`, in its order.
--- Assumes nothing.
+-- `chains::write_product`: the four stores are those of `productSet`, in its order.
 use native.Mathlib.Omega.{arith}
 use lib.ListN.{length-set}
 use borrow.Author.Needs.{needs}

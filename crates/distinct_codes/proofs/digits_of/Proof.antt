@@ -1,4 +1,4 @@
--- `digits_of` meets its contract, a case for few slots and one for more. Assumes nothing.
+-- `digits_of`, a case for few slots and one for more.
 use Rattle.distinct_codes.proofs.digits_of.Statement.{statement}
 use Rattle.distinct_codes.proofs.digits_of.Tie as tie
 

@@ -1,5 +1,5 @@
--- `lanes::count_pass` meets its contract: a walk of its MIR, by hand. The borrow is opened, the record behind it is copied and passed to `counted`, of which the proof knows only that it meets its contract, and the record that came back is stored whole; the borrow is closed at that record.
--- Assumes nothing.
+-- `lanes::count_pass`: a walk of its MIR, by hand. The borrow is opened, the record behind it is copied and passed to `counted`, of which the proof knows
+-- only its contract, and the record that came back is stored whole; the borrow is closed at that record.
 use mathlib.Core.Path.{_≡_, refl}
 use Prim.Native.Nat.{ℕ, _<_, _^_}
 use mathlib.Core.List.{[], _∷_, List}

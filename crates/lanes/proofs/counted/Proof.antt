@@ -1,4 +1,4 @@
--- `lanes::counted` meets its contract: the record with the counts that `count` gives. Assumes nothing.
+-- `lanes::counted`: the record with the counts that `count` gives.
 use Prim.Native.Nat.{ℕ}
 use mathlib.Core.Path.{ap}
 use mathlib.Core.List.{List}

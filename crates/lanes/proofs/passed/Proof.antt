@@ -1,5 +1,5 @@
--- `lanes::passed` meets its contract: a walk of its MIR, by hand. The parameter is copied to a local, which is lent to `count_pass` for a lifetime that is made for the call; the lifetime is ended, and the local holds what `count_pass` left, of which the proof knows only that it meets its contract.
--- Assumes nothing.
+-- `lanes::passed`: a walk of its MIR, by hand. The parameter is copied to a local, which is lent to `count_pass` for a lifetime that is made for the call;
+-- the lifetime is ended, and the local holds what `count_pass` left, of which the proof knows only its contract.
 use mathlib.Core.Path.{_≡_, refl, sym, ap, subst}
 use Prim.Native.Nat.{ℕ, _<_, _^_}
 use mathlib.Core.List.{[], _∷_, List}

@@ -1,4 +1,4 @@
--- `lanes::write_counts` meets its contract: four stores, one after another. Assumes nothing.
+-- `lanes::write_counts`: four stores, one after another.
 use borrow.Author.Needs.{needs}
 use native.Mathlib.Omega.{arith}
 use lib.ListN.{length-set}

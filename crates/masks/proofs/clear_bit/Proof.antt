@@ -1,5 +1,4 @@
--- `masks::clear_bit` meets its contract: a word is the mask of its bits, and `&` with the complement of a bit clears that bit.
--- Assumes nothing.
+-- `masks::clear_bit`: a word is the mask of its bits, and `&` with the complement of a bit clears that bit.
 use borrow.Author.Needs.{needs}
 use Rattle.masks.proofs.BitLaws.{and-withoutBit}
 use Rattle.masks.proofs.clear_bit.Statement.{statement}

@@ -1,5 +1,4 @@
--- `masks::later` meets its contract: the difference that wraps is the model's `less`, and the two tests are those of its range.
--- Assumes nothing.
+-- `masks::later`: the difference that wraps is the model's `less`, and the two tests are those of its range.
 use mathlib.Core.Path.{_∙_}
 use native.Mathlib.Omega.{arith}
 use borrow.Author.Needs.{needs}

@@ -1,5 +1,4 @@
--- `masks::lowest` meets its contract: the zeros below the lowest digit are the clear flags before the first set one.
--- Assumes nothing.
+-- `masks::lowest`: the zeros below the lowest digit are the clear flags before the first set one.
 use Rattle.masks.proofs.BitLaws.{trailing-firstTrue}
 use Rattle.masks.proofs.lowest.Statement.{statement}
 use Rattle.masks.proofs.lowest.Tie as tie

@@ -1,5 +1,4 @@
--- `masks::ones` meets its contract: the machine counts the digits, which are the flags.
--- Assumes nothing.
+-- `masks::ones`: the machine counts the digits, which are the flags.
 use Rattle.masks.proofs.BitLaws.{ones-trues}
 use Rattle.masks.proofs.ones.Statement.{statement}
 use Rattle.masks.proofs.ones.Tie as tie

@@ -1,5 +1,4 @@
--- `masks::set_bit` meets its contract: a word is the mask of its bits, and `|` with a bit sets that bit.
--- Assumes nothing.
+-- `masks::set_bit`: a word is the mask of its bits, and `|` with a bit sets that bit.
 use borrow.Author.Needs.{needs}
 use Rattle.masks.proofs.BitLaws.{or-withBit}
 use Rattle.masks.proofs.set_bit.Statement.{statement}

@@ -1,5 +1,4 @@
--- `masks::test` meets its contract: the last digit of the shifted mask is the flag.
--- Assumes nothing.
+-- `masks::test`: the last digit of the shifted mask is the flag.
 use borrow.Author.Needs.{needs}
 use Rattle.masks.proofs.BitLaws.{shr-flag}
 use Rattle.masks.proofs.test.Statement.{statement}

@@ -1,5 +1,4 @@
--- `another_online` meets its contract. The loop's invariant: the lanes from i on decide. The measure is the lanes that are left.
--- Assumes nothing.
+-- `another_online`. The loop's invariant: the lanes from i on decide. The measure is the lanes that are left.
 use Prim.Native.Nat.{_-_, _≤_}
 use mathlib.Core.Path.{_≡_, refl, sym, _∙_}
 use native.Mathlib.Omega.{arith}

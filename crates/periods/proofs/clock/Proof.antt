@@ -1,4 +1,4 @@
--- `clock` meets its contract: a law for each way out. Assumes nothing.
+-- `clock`: a law for each way out.
 use native.Mathlib.Omega.{arith}
 use Rattle.access.specs.Ways.{refuses, long}
 use Rattle.access.specs.Lanes.{lane-in}

@@ -1,4 +1,4 @@
--- `is_other_online` meets its contract. Assumes nothing.
+-- `is_other_online`: the lane itself counts as off among the others; any other lane stands there as it is in the state.
 use borrow.Author.Needs.{needs}
 use mathlib.Core.Path.{_∙_}
 use Rattle.periods.specs.Others.{itself, another}

@@ -1,4 +1,4 @@
--- `is_period` meets its contract. Assumes nothing.
+-- `is_period`: its test is that of `periodWord`.
 use borrow.Author.Tests.{eq-eqb, ne-eqb}
 use borrow.Author.Needs.{needs}
 use Rattle.periods.proofs.is_period.Statement.{statement}

@@ -1,4 +1,4 @@
--- `off` meets its contract: a law for each way out. Assumes nothing.
+-- `off`: a law for each way out.
 use Rattle.access.specs.Ways.{refuses}
 use Rattle.periods.specs.Ticks.{off-lane, off-done}
 use borrow.Author.Needs.{needs}

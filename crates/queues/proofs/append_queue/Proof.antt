@@ -1,5 +1,4 @@
--- `queues::append_queue` meets its contract: its test is that of `joined`, and what its callees leave is what that says.
--- Assumes nothing.
+-- `queues::append_queue`: its test is that of `joined`, and what its callees leave is what that says.
 use mathlib.Core.Path.{sym, _∙_}
 use borrow.Author.Needs.{needs}
 use borrow.Author.Tests.{lt-ltb, le-ltb}

@@ -1,5 +1,4 @@
--- `queues::append_run` meets its contract: what `follow` leaves, with the last stored.
--- Assumes nothing.
+-- `queues::append_run`: what `follow` leaves, with the last stored.
 use borrow.Author.Needs.{needs}
 use Rattle.queues.specs.Queue.{appendedRun}
 use Rattle.queues.proofs.append_run.Statement.{statement}

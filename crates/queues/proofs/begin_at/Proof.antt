@@ -1,5 +1,4 @@
--- `queues::begin_at` meets its contract: its test is that of `begunAt`, and each arm stores what that says.
--- Assumes nothing.
+-- `queues::begin_at`: its test is that of `begunAt`, and each arm stores what that says.
 use borrow.Author.Needs.{needs}
 use borrow.Author.Tests.{lt-ltb, le-ltb}
 use Rattle.queues.specs.Queue.{begunAt}

@@ -1,5 +1,4 @@
--- `queues::follow` meets its contract: its test is that of `followed`, and each arm stores what that says.
--- Assumes nothing.
+-- `queues::follow`: its test is that of `followed`, and each arm stores what that says.
 use borrow.Author.Needs.{needs}
 use borrow.Author.Tests.{lt-ltb, le-ltb}
 use Rattle.queues.specs.Queue.{followed}

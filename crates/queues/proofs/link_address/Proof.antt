@@ -1,5 +1,4 @@
--- `queues::link_address` meets its contract: the sum is that of `linkAddress`, which fits.
--- Assumes nothing.
+-- `queues::link_address`: the sum is that of `linkAddress`, which fits.
 use borrow.Author.Needs.{needs}
 use Rattle.queues.proofs.link_address.Statement.{statement}
 use Rattle.queues.proofs.link_address.Tie as tie

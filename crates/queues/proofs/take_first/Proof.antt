@@ -1,5 +1,4 @@
--- `queues::take_first` meets its contract: its test is that of `lessFirst`, and the store and `begin_at` leave what that says.
--- Assumes nothing.
+-- `queues::take_first`: its test is that of `lessFirst`, and the store and `begin_at` leave what that says.
 use mathlib.Core.Path.{refl, sym, _∙_}
 use lib.ListN.{length-set}
 use borrow.Author.Needs.{needs}

@@ -1,4 +1,4 @@
--- `sizes_fit` meets its contract: its tests are those of `sizesFit`. Assumes nothing.
+-- `sizes_fit`: its tests are those of `sizesFit`.
 use mathlib.Core.Path.{refl}
 use Rattle.model.specs.Lists.{every}
 use Rattle.model.specs.Legal.{sizesFit}

@@ -1,4 +1,4 @@
--- `engine::advance::advance` meets its contract: the queue is settled, then a batch begins. Assumes nothing.
+-- `engine::advance::advance`: the queue is settled, then a batch begins.
 use borrow.Author.Needs.{needs}
 use Rattle.engine.specs.AdvanceWords.{advanced-by}
 use Rattle.engine.proofs.advance.advance.Statement.{statement}

@@ -1,4 +1,4 @@
--- `engine::advance::begin_batch` meets its contract: its tests are those of `begunWords`. Assumes nothing.
+-- `engine::advance::begin_batch`: its tests are those of `begunWords`.
 use borrow.Author.Needs.{needs}
 use Rattle.engine.specs.AdvanceWords.{begun-busy, begun-begins, begun-idle}
 use Rattle.engine.proofs.advance.begin_batch.Statement.{statement}

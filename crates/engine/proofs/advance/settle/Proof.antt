@@ -1,4 +1,4 @@
--- `engine::advance::settle` meets its contract: its tests are those of `settledWords`. Assumes nothing.
+-- `engine::advance::settle`: its tests are those of `settledWords`.
 use borrow.Author.Needs.{needs}
 use Rattle.engine.specs.AdvanceWords.{settled-finished, settled-waits, settled-empty}
 use Rattle.engine.proofs.advance.settle.Statement.{statement}

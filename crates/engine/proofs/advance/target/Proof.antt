@@ -1,4 +1,4 @@
--- `engine::advance::target` meets its contract: its test is that of `targetWord`. Assumes nothing.
+-- `engine::advance::target`: its test is that of `targetWord`.
 use borrow.Author.Needs.{needs}
 use Rattle.engine.specs.AdvanceWords.{target-rests, target-runs}
 use Rattle.engine.proofs.advance.target.Statement.{statement}

@@ -1,4 +1,4 @@
--- `engine::off::hand_over` meets its contract: the queues are joined, then the generation is stored. Assumes nothing.
+-- `engine::off::hand_over`: the queues are joined, then the generation is stored.
 use Prim.Native.Nat.{_+_}
 use mathlib.Core.Path.{_∙_}
 use lib.ListN.{length-set}

@@ -1,4 +1,4 @@
--- `engine::period::end_if_over` meets its contract: its test is that of `overWords`. Assumes nothing.
+-- `engine::period::end_if_over`: its test is that of `overWords`.
 use borrow.Author.Needs.{needs}
 use Rattle.engine.specs.ReleaseWords.{over-ends, over-goes}
 use Rattle.engine.proofs.period.end_if_over.Statement.{statement}

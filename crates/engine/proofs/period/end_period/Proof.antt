@@ -1,4 +1,4 @@
--- `engine::period::end_period` meets its contract: its test is that of `endedWords`, and each way out stores what that says. Assumes nothing.
+-- `engine::period::end_period`: its test is that of `endedWords`, and each way out stores what that says.
 use mathlib.Core.Path.{ap, _∙_}
 use lib.ListN.{length, set, length-set}
 use denote.Ref.{now}

@@ -1,5 +1,4 @@
--- `engine::period::raise_largest` meets its contract: its test is that of `raisedWords`, and each arm leaves what that says.
--- Assumes nothing.
+-- `engine::period::raise_largest`: its test is that of `raisedWords`, and each arm leaves what that says.
 use mathlib.Core.Bool.{Bool, cond}
 use mathlib.Core.Path.{ap, sym, _∙_}
 use lib.ListN.{set}

@@ -1,4 +1,4 @@
--- `engine::period::request` meets its contract: its test is that of `requestedWords`, and each way out leaves what that says. Assumes nothing.
+-- `engine::period::request`: its test is that of `requestedWords`, and each way out leaves what that says.
 use borrow.Author.Needs.{needs}
 use Rattle.engine.specs.PeriodWords.{requested-goes, requested-rests}
 use Rattle.engine.proofs.period.request.Statement.{statement}
