@@ -64,7 +64,7 @@ static void put_call(const struct call *call)
 	for (uint32_t n = 0; n < call_arguments(call->name); n++)
 		if (call_forms[call->name].kind[n] == KIND_CODE)
 			put_code(call->argument[n]);
-		else if (n == 0 && call->name != CALL_SETUP && call->argument[n] >= LANES)
+		else if (call_forms[call->name].kind[n] == KIND_LANE && call->argument[n] >= LANES)
 			put_raw((uint32_t)call->argument[n]);
 		else
 			put_number((uint32_t)call->argument[n]);

@@ -123,7 +123,7 @@ static inline struct call stream_call(struct stream *stream, enum call_name name
 	for (uint32_t n = 0; n < call_arguments(name); n++)
 		if (call_forms[name].kind[n] == KIND_CODE)
 			call.argument[n] = stream_code(stream);
-		else if (n == 0 && name != CALL_SETUP)
+		else if (call_forms[name].kind[n] == KIND_LANE)
 			call.argument[n] = stream_lane(stream, lanes);
 		else
 			call.argument[n] = stream_number(stream);

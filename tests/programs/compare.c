@@ -9,6 +9,7 @@
 #include <stdio.h>
 #include <stdlib.h>
 
+#include "causes.h"
 #include "draw.h"
 #include "lent.h"
 #include "record.h"
@@ -44,6 +45,17 @@ static void report(uint64_t seed)
 	exit(1);
 }
 
+/* The cause that is answered is the first in the call's order of those that apply, each by itself. */
+static void check_cause(void)
+{
+	const uint32_t *cause = call_forms[beside.call.name].cause;
+	uint32_t causes = causes_of(beside.before, beside.words, &beside.call);
+
+	while (*cause != PT_OK && !(causes >> *cause & 1u))
+		cause++;
+	CHECK(beside.expected.status == *cause);
+}
+
 /* One list; returns the calls that were made. */
 static uint32_t play(const struct list *list, uint64_t seed, uint32_t calls)
 {
@@ -64,6 +76,8 @@ static uint32_t play(const struct list *list, uint64_t seed, uint32_t calls)
 		tally_call(&tally, &beside);
 		if (record.difference != SAME)
 			report(seed);
+		if (beside.expected.status != PT_OK && beside.expected.status != PT_SHORT_ANSWER)
+			check_cause();
 	}
 	return made;
 }
