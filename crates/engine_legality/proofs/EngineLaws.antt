@@ -13,7 +13,7 @@ use Rattle.model.specs.Memory.{at, flag, sizes, maskWord, state, readLane, read
 use Rattle.model.specs.Legal.{flagsInRange, masksInRange, snapshotsAtRest, lookupsAtRest, generationAtRest, generationsAtRest, offLanes, lookupsInSections, snapshotsPending, cabinetBits, largestFits, globalGenerationFits, periodRuns, largestAgrees, laneGenerations, globalGeneration}
 use Rattle.laws.specs.Tests.{_&_, Every, every-true, every-intro, and-true, and-intro, all-below, all-below-intro}
 use Rattle.engine_legality.specs.Lanes.{emptyFirst, laneFits, cabinetLanes, allLanes, cabinetFits, allCabinets, globalFits, globalWordsFit}
-use Rattle.engine_legality.specs.Sentences.{headsInRange, globalEndsInRange, engineLegal}
+use Rattle.engine_legality.specs.Sentences.{engineLegal}
 use Rattle.engine_legality.proofs.LaneLaws.{laneSentences, empty-queue, laneTest, lane-said, said-lane}
 
 -- ---- tests of a mapped list
@@ -106,8 +106,6 @@ pub record EngineSaid (m : List ℕ) : Type 0 where
   pub lanes : (i : ℕ) → i < C m * P m → Every (laneSentences m i)
   pub mask : ltb (at m cabinetMaskAt) (2 ^ C m) ≡ true
   pub cabinets : (c : ℕ) → c < C m → cabinetFits (P m) (maskWord m c) (flag c (at m cabinetMaskAt)) ≡ true
-  pub heads : headsInRange m ≡ true
-  pub ends : globalEndsInRange m ≡ true
   pub rest : generationAtRest (readQueues m globalGenerationAt globalQueuesAt) ≡ true
   pub largest : largestFits (at m currentGenerationAt) (at m largestGenerationAt) (periodRuns m) ≡ true
   pub generation : globalGenerationFits (at m currentGenerationAt) (at m largestGenerationAt) (readQueues m globalGenerationAt globalQueuesAt) ≡ true
@@ -132,8 +130,8 @@ module _ (m : List ℕ) where
       state
       cabinetFits
   engine-said h =
-      let (flagged, (masked, (heads, (ends, (linked, (coded, (snapshots, (lookups, (rested, rest₉))))))))) = every-true _ h in
-      let (off, (sections, (held, (bits, (largest, (aged, (global, _))))))) = rest₉ in
+      let (flagged, (masked, (linked, (coded, (snapshots, (lookups, (rested, rest₇))))))) = every-true _ h in
+      let (off, (sections, (held, (bits, (largest, (aged, (global, _))))))) = rest₇ in
       let masks = and-true _ _ masked in
       let rests = and-true _ _ rested in
       record {
@@ -151,8 +149,6 @@ module _ (m : List ℕ) where
             & tt;
         mask = masks .0;
         cabinets = λ c b. and-intro _ _ (all-below _ _ c (masks .1) b) (all-below _ _ c bits b);
-        heads = heads;
-        ends = ends;
         rest = rests .0;
         largest = largest;
         generation = global;
@@ -180,8 +176,6 @@ module _ (m : List ℕ) where
       every-intro _ (
       all-below-intro _ _ (λ i b. l i b .0)
       & and-intro _ _ (s .mask) masked
-      & s .heads
-      & s .ends
       & all-below-intro _ _ (λ i b. l i b .1 .0)
       & all-below-intro _ _ (λ i b. l i b .1 .1 .0)
       & all-below-intro _ _ (λ i b. l i b .1 .1 .1 .0)
@@ -221,7 +215,7 @@ module _ (m : List ℕ) where
   said-tests s =
       let words = and-intro _ _ (and-intro _ _ (s .mask) (s .largest)) (global-eq ∙ and-intro _ _ (s .rest) (s .generation)) in
       and-intro _ _
-      (and-intro _ _ (and-intro _ _ words (s .heads)) (s .ends))
+      words
       (and-intro _ _ (all-below-intro _ _ (s .cabinets)) (each-lanes m (λ i b. said-lane m i (s .lanes i b))))
 
   tests-said : tests ≡ true → EngineSaid m
@@ -231,17 +225,13 @@ module _ (m : List ℕ) where
       let u = and-true _ _ (t .1) in
       let g = and-true _ _ (t .0) in
       let g₁ = and-true _ _ (g .0) in
-      let g₂ = and-true _ _ (g₁ .0) in
-      let g₃ = and-true _ _ (g₂ .0) in
-      let q = and-true _ _ (sym global-eq ∙ g₂ .1) in
+      let q = and-true _ _ (sym global-eq ∙ g .1) in
       record {
         lanes = λ i b. lane-said m i (lanes-each m (u .1) i b);
-        mask = g₃ .0;
+        mask = g₁ .0;
         cabinets = λ c b. cabinets-each m _ _ c (u .0) b;
-        heads = g₁ .1;
-        ends = g .1;
         rest = q .0;
-        largest = g₃ .1;
+        largest = g₁ .1;
         generation = q .1;
       }
 

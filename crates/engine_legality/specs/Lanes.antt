@@ -6,7 +6,7 @@ use mathlib.Core.List.{List}
 use lib.Dec.{leb, ltb, eqb}
 use Rattle.model.specs.Word.{none, up, down, later}
 use Rattle.model.specs.Lists.{all, from}
-use Rattle.model.specs.Layout.{chainCount, headsAt, freeAt, currentGenerationAt, largestGenerationAt, cabinetMaskAt, globalQueuesAt, globalGenerationAt, onlineBit, readingBit, lookupBit, snapshotBit, flagCount, snapshotAt, generationAt, queuesAt, currentOffset, doneOffset, lastOffset, lookupAt, positionAt, laneLength}
+use Rattle.model.specs.Layout.{currentGenerationAt, largestGenerationAt, cabinetMaskAt, globalQueuesAt, globalGenerationAt, onlineBit, readingBit, lookupBit, snapshotBit, flagCount, snapshotAt, generationAt, queuesAt, currentOffset, doneOffset, lastOffset, lookupAt, positionAt, laneLength}
 use Rattle.model.specs.Rules.{wrongCode}
 use Rattle.model.specs.Memory.{at, wide, maskWord, flag}
 use Rattle.model.specs.Legal.{implies, largestFits, periodRuns}
@@ -112,14 +112,6 @@ allCabinets m C P = all (λ (c : ℕ). cabinetFits P (maskWord m c) (flag c (at 
 
 -- ---- global words
 
--- chain heads are in range
-unfoldable pub headsFit : List ℕ → ℕ → Bool
-headsFit m S = all (λ (k : ℕ). slotOrNone S (at m (headsAt + k))) (from 0 chainCount)
-
--- the ends of the free and the global queues are in range
-abbrev pub globalEndsFit : List ℕ → ℕ → Bool
-globalEndsFit m S = endsFit m S freeAt && queuesFit m S globalQueuesAt
-
 -- the global words, for C cabinets
 unfoldable pub globalWordsFit : List ℕ → ℕ → ℕ → Bool
 globalWordsFit m C S =
@@ -130,5 +122,3 @@ globalWordsFit m C S =
     (emptyFirst S (at m (globalQueuesAt + currentOffset)))
     (at m currentGenerationAt)
     (at m largestGenerationAt)
-    && headsFit m S
-    && globalEndsFit m S

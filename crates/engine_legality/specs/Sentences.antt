@@ -1,4 +1,5 @@
--- Legality's sentences about the global words, the cabinets and the lanes: all that speak of no slot.
+-- Legality's sentences about the global words, the cabinets and the lanes. Those of the chains and of the queues that are no lane's, with their heads and
+-- ends, are decided by the walks (crate `legality`).
 use Prim.Native.Nat.{ℕ, _+_}
 use mathlib.Core.Bool.{Bool, not}
 use mathlib.Core.List.{List, [], _∷_}
@@ -6,17 +7,9 @@ use Rattle.model.specs.Lists.{all, every}
 use Rattle.model.specs.Layout.{lookupAt, laneAddress}
 use Rattle.model.specs.Rules.{wrongCode}
 use Rattle.model.specs.Memory.{wide, sizes, state}
-use Rattle.engine_legality.specs.Lanes.{headsFit, globalEndsFit}
 use Rattle.model.specs.Legal.{laneNumbers, laneLinksInRange, flagsInRange, masksInRange, snapshotsAtRest, lookupsAtRest, generationsAtRest, offLanes, lookupsInSections, snapshotsPending, cabinetBits, largestAgrees, laneGenerations, globalGeneration}
 
 module _ (m : List ℕ) where
-  -- chain heads, and the ends of the free and the global queues
-  abbrev pub headsInRange : Bool
-  headsInRange = headsFit m (sizes m .slots)
-
-  abbrev pub globalEndsInRange : Bool
-  globalEndsInRange = globalEndsFit m (sizes m .slots)
-
   abbrev pub lookupCodesInRange : Bool
   lookupCodesInRange = all (λ (i : ℕ). not (wrongCode (wide m (laneAddress (sizes m) i + lookupAt)))) (laneNumbers m)
 
@@ -24,7 +17,7 @@ module _ (m : List ℕ) where
   unfoldable pub engineLegal : Bool
   engineLegal =
       every
-      (flagsInRange m ∷ masksInRange m ∷ headsInRange ∷ globalEndsInRange ∷ all (laneLinksInRange m) (laneNumbers m) ∷ lookupCodesInRange
+      (flagsInRange m ∷ masksInRange m ∷ all (laneLinksInRange m) (laneNumbers m) ∷ lookupCodesInRange
       ∷ snapshotsAtRest m ∷ lookupsAtRest m ∷ generationsAtRest (state m)
       ∷ offLanes (state m) ∷ lookupsInSections (state m) ∷ snapshotsPending (state m) ∷ cabinetBits m
       ∷ largestAgrees m (state m) ∷ laneGenerations m (state m) ∷ globalGeneration (state m) ∷ [])

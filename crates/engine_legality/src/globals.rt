@@ -1,12 +1,11 @@
-// The global words and the cabinets: masks, the chain heads, and the ends and the generation of the
-// global queues.
+// The global words and the cabinets: masks, and the generation of the global queues.
 ghost use mathlib.Core.Path.{_≡_};
 ghost use Prim.Native.Nat.{_+_, _^_, _<_, _≤_};
 ghost use lib.ListN.{length};
 ghost use lib.Dec.{ltb};
 ghost use Rattle.model.specs.Layout.{maxCabinets, maxPlaces, masksAt};
 ghost use Rattle.masks.specs.Bits.{width};
-ghost use Rattle.engine_legality.specs.Lanes.{cabinetFits, allCabinets, headsFit, globalEndsFit, globalWordsFit};
+ghost use Rattle.engine_legality.specs.Lanes.{cabinetFits, allCabinets, globalWordsFit};
 
 // the first of the global current queue
 const GLOBAL_CURRENT_FIRST: usize = words::GLOBAL_QUEUES_AT + words::CURRENT_OFFSET;
@@ -52,34 +51,8 @@ pub fn cabinets_fit(m: &[u32], cabinets: u32, places: u32) -> bool
     true
 }
 
-// The chain heads: "links are in range".
-fn heads_fit(m: &[u32], slots: u32) -> bool
-    requires { ⌜ masksAt ≤ length (now m) ⌝ }
-    ensures { λ r. ⌜ r ≡ headsFit (now (m .entry)) slots ⌝ }
-{
-    let mut k: usize = 0;
-    let mut left = words::CHAIN_COUNT;
-    while left > 0 {
-        if !crate::links::link_fits(m[words::HEADS_AT + k], slots) {
-            return false;
-        }
-        k = k + 1;
-        left = left - 1;
-    }
-    true
-}
-
-// The ends of the free and the global queues: "links are in range".
-fn global_ends_fit(m: &[u32], slots: u32) -> bool
-    requires { ⌜ masksAt ≤ length (now m) ⌝ }
-    ensures { λ r. ⌜ r ≡ globalEndsFit (now (m .entry)) slots ⌝ }
-{
-    crate::links::ends_fit(m, words::FREE_AT, slots)
-        & crate::links::queues_fit(m, words::GLOBAL_QUEUES_AT, slots)
-}
-
-// The global words: "masks are in range" of the cabinet mask, the largest generation, the global
-// queues' generation, and heads and ends in range.
+// The global words: "masks are in range" of the cabinet mask, the largest generation and the global
+// queues' generation. Chain heads and the ends of the global queues are the walks' to test.
 pub fn global_words_fit(m: &[u32], cabinets: u32, slots: u32) -> bool
     requires { ⌜ (masksAt ≤ length (now m)) × (cabinets ≤ maxCabinets) ⌝ }
     ensures { λ r. ⌜ r ≡ globalWordsFit (now (m .entry)) cabinets slots ⌝ }
@@ -91,6 +64,4 @@ pub fn global_words_fit(m: &[u32], cabinets: u32, slots: u32) -> bool
     fits_in(m[words::CABINET_MASK_AT], cabinets)
         & crate::generations::largest_fits(current, largest, runs)
         & crate::generations::global_fits(m[words::GLOBAL_GENERATION_AT], empty, current, largest)
-        & heads_fit(m, slots)
-        & global_ends_fit(m, slots)
 }

@@ -4,11 +4,9 @@ use mathlib.Core.Bool.{Bool, true, false, cond, _&&_}
 use mathlib.Core.Path.{_≡_, ap, sym, _∙_}
 use mathlib.Core.List.{List}
 use Rattle.model.specs.Lists.{every}
-use Rattle.model.specs.Layout.{freeAt, globalQueuesAt}
-use Rattle.model.specs.Memory.{sizes, state}
+use Rattle.model.specs.Memory.{state}
 use Rattle.model.specs.Legal.{contentsAgree, linksInRange, fieldsInRange, sentences, legal}
 use Rattle.laws.specs.Tests.{_&_, every-true, every-intro, and-true, and-intro}
-use Rattle.engine_legality.specs.Lanes.{endsFit, queuesFit, headsFit}
 use Rattle.engine_legality.specs.Sentences.{engineLegal}
 use Rattle.legality.specs.Parts.{tableLegal}
 use Rattle.engine_legality.proofs.EngineLaws.{iff-eq}
@@ -16,7 +14,7 @@ use Rattle.engine_legality.proofs.EngineLaws.{iff-eq}
 module _ (m : List ℕ) where
   -- the sentences are those of the two parts
   split : every (sentences m (state m)) ≡ true → (engineLegal m && tableLegal m) ≡ true
-  unfolding engineLegal tableLegal linksInRange fieldsInRange headsFit
+  unfolding engineLegal tableLegal linksInRange fieldsInRange
   split h =
       let (flags, (masks, (linked, (fielded, (once, (lasts, (chained, (codes, (snapshots, (lookups, (generations, rest₁₁))))))))))) = every-true _ h in
       let (queueLinks, (off, (sections, (held, (bits, (blank, (largest, (lanes, (global, _))))))))) = rest₁₁ in
@@ -24,21 +22,20 @@ module _ (m : List ℕ) where
       let (products, lookupCodes) = and-true _ _ fielded in
       and-intro _ _
       (every-intro _ (
-      flags & masks & heads & and-intro _ _ free queues & laneLinks & lookupCodes
+      flags & masks & laneLinks & lookupCodes
       & snapshots & lookups & generations
       & off & sections & held & bits
       & largest & lanes & global & tt
       ))
-      (every-intro _ (chainLinks & slotLinks & products & once & lasts & chained & codes & queueLinks & blank & tt))
+      (every-intro _ (heads & free & queues & chainLinks & slotLinks & products & once & lasts & chained & codes & queueLinks & blank & tt))
 
   join : (engineLegal m && tableLegal m) ≡ true → every (sentences m (state m)) ≡ true
-  unfolding engineLegal tableLegal linksInRange fieldsInRange headsFit
+  unfolding engineLegal tableLegal linksInRange fieldsInRange
   join h =
       let (e, t) = and-true (engineLegal m) (tableLegal m) h in
-      let (flags, (masks, (heads, (ends, (laneLinks, (lookupCodes, (snapshots, (lookups, (generations, rest₉))))))))) = every-true _ e in
-      let (off, (sections, (held, (bits, (largest, (lanes, (global, _))))))) = rest₉ in
-      let (chainLinks, (slotLinks, (products, (once, (lasts, (chained, (codes, (queueLinks, (blank, _))))))))) = every-true _ t in
-      let (free, queues) = and-true (endsFit m (sizes m .slots) freeAt) (queuesFit m (sizes m .slots) globalQueuesAt) ends in
+      let (flags, (masks, (laneLinks, (lookupCodes, (snapshots, (lookups, (generations, rest₇))))))) = every-true _ e in
+      let (off, (sections, (held, (bits, (largest, (lanes, (global, _))))))) = rest₇ in
+      let (heads, (free, (queues, (chainLinks, (slotLinks, (products, (once, (lasts, (chained, (codes, (queueLinks, (blank, _)))))))))))) = every-true _ t in
       every-intro _ (
       flags & masks
       & every-intro _ (heads & free & queues & laneLinks & chainLinks & slotLinks & tt)

@@ -9,14 +9,14 @@ use native.Mathlib.Decide.{decLt}
 use native.Mathlib.Nat.{mod-lt}
 use lib.ListN.{getD, length, take, replicate, length-replicate}
 use lib.Dec.{leb, ltb, eqb}
-use borrow.Author.Tests.{eq-eqb, eqb-true}
+use borrow.Author.Tests.{eq-eqb, eqb-true, lt-ltb}
 use Rattle.model.specs.Word.{none}
-use Rattle.model.specs.Lists.{all, every, from, count, distinct, concat}
+use Rattle.model.specs.Lists.{all, every, from, count, last, distinct, concat}
 use Rattle.model.specs.Layout.{maxSlots, chainCount, queueWidth, currentOffset, doneOffset, lastOffset, headsAt, freeAt, globalQueuesAt, masksAt, queuesAt, positionAt, depositAt, materialAt, chainLinkAt, queueLinkAt, slotLength, laneLength, slotsBody, slotAddress, laneAddress, lanesBody}
 use Rattle.model.specs.Rules.{wrongProduct}
 use Rattle.model.specs.Memory.{at, wide, sizes, slotWord, laneWord, readChain, readChains, readQueue, state}
 use Rattle.model.specs.Legal.{lastsAgree, laneNumbers, endsInRange, queuesInRange, laneLinksInRange, slotOrNone as inRange}
-use Rattle.laws.specs.Tests.{every-true, and-true, and-intro, or-right, all-below, clash}
+use Rattle.laws.specs.Tests.{every-true, and-true, and-intro, or-left, or-right, all-below, clash}
 use Rattle.laws.specs.Lists.{getD-replicate-default}
 use Rattle.laws.specs.Counts.{count-append}
 use Rattle.distinct_codes.specs.Cells.{cellsOf, spread, codeAt, Held, held, Places, Room}
@@ -26,17 +26,23 @@ use Rattle.slot_places.specs.Slots.{slotOrNone, productInRange, chainedFits, qu
 use Rattle.slot_places.specs.Steps.{Step, Outcome, spoilt, painted, run, slotsOf, several, chainSteps, linkSteps, queueSteps, laneSteps, unmarked, Counted, Ready, entersAll, Enters, Runs}
 use Rattle.slot_places.proofs.StepLaws.{unlike, going, run-append, unmarked-all, unmarked-none, unmarked-some}
 use Rattle.slot_places.proofs.Marked.{checks, marks-are, marks-most, marks-checked, Spoilt, failed, doubled, spoilt-why}
-use Rattle.slot_places.proofs.Places.{Told, checks-both, both-check, told-append, told-several, several-check, check-several, walks-told, told-walks}
-use Rattle.engine_legality.specs.Lanes.{headsFit}
+use Rattle.slot_places.proofs.Places.{Told, checks-both, both-check, told-append, told-several, several-check, check-several, walks-begin, walks-told, told-walks}
 use Rattle.engine_legality.specs.Sentences.{engineLegal}
 use Rattle.legality.specs.Parts.{Table, tableLegal, queuedSteps, Lent}
-use Rattle.legality.proofs.StepsRead.{S, base, laneTotal, chainPart, freePart, threeSteps, lanePart, queuedPart, chain-slots, link-slots, chains-are, free-count, retired-count, all-count, steps-right, steps-lasts, lasts-steps}
+use Rattle.legality.proofs.StepsRead.{S, base, laneTotal, chainPart, freePart, threeSteps, lanePart, queuedPart, chain-slots, link-slots, chains-are, free-count, retired-count, all-count, steps-right, queue-last, steps-lasts, lasts-steps}
 use Rattle.legality.proofs.TableSaid.{chainedCount, freeCount, retiredCount, TableSaid, chain-below, queue-below-at, chain-chained, chained-below, table-said, said-table}
 
 -- a test that cannot hold fails
 refuted : (b : Bool) → (b ≡ true → ⊥) → false ≡ b
 refuted true h = absurd (h refl)
 refuted false h = refl
+
+-- the last of slots below n, or none
+last-fits : (n : ℕ) (xs : List ℕ) → ((x : ℕ) → 0 < count x xs → x < n) → slotOrNone n (last xs) ≡ true
+unfolding last count
+last-fits n [] h = or-right (ltb none n) (eqb none none) (eq-eqb none none refl)
+last-fits n (x ∷ []) h = or-left (ltb x n) (eqb x none) (lt-ltb x n (h x (rw (eq-eqb x x refl) (omega arith))))
+last-fits n (x ∷ (y ∷ xs)) h = last-fits n (y ∷ xs) (λ z p. h z (omega (arith, p)))
 
 abbrev Firsts : List ℕ → (ℕ → ℕ) → ℕ → Type 0
 Firsts m word k = (slotOrNone (S m) (word k) ≡ true) × (slotOrNone (S m) (word (k + currentOffset)) ≡ true) × (slotOrNone (S m) (word (k + doneOffset)) ≡ true)
@@ -65,26 +71,10 @@ module _ (m : List ℕ) where
       (first-fits word k (u .0), first-fits word (k + currentOffset) (u .1), first-fits word (k + doneOffset) (t .1))
 
   module _ (engine : engineLegal m ≡ true) (s : TableSaid m) where
-    -- a walk begins at a slot or at none
-    head-fits : (k : ℕ) → k < chainCount → slotOrNone (S m) (at m (headsAt + k)) ≡ true
-    unfolding engineLegal headsFit
-    head-fits k b = all-below (λ (k : ℕ). inRange m (at m (headsAt + k))) chainCount k (every-true _ engine .1 .1 .0) b
-
-    -- the ends of the free queue, and those of the global ones
-    ends-fit : (endsInRange m (at m) freeAt ≡ true) × (queuesInRange m (at m) globalQueuesAt ≡ true)
-    unfolding engineLegal
-    ends-fit = and-true (endsInRange m (at m) freeAt) (queuesInRange m (at m) globalQueuesAt) (every-true _ engine .1 .1 .1 .0)
-
-    free-fits : slotOrNone (S m) (at m freeAt) ≡ true
-    free-fits = first-fits (at m) freeAt (ends-fit .0)
-
-    global-fits : Firsts m (at m) globalQueuesAt
-    global-fits = firsts-fit (at m) globalQueuesAt (ends-fit .1)
-
     lane-fits : (i : ℕ) → i < laneTotal m → Firsts m (laneWord m i) queuesAt
     unfolding engineLegal
     lane-fits i b =
-        let t = all-below (laneLinksInRange m) (laneTotal m) i (every-true _ engine .1 .1 .1 .1 .0) b in
+        let t = all-below (laneLinksInRange m) (laneTotal m) i (every-true _ engine .1 .1 .0) b in
         firsts-fit (laneWord m i) queuesAt (and-true (queuesInRange m (laneWord m i) queuesAt) (inRange m (laneWord m i positionAt)) t .0)
 
     -- the same by addresses
@@ -106,16 +96,19 @@ module _ (m : List ℕ) where
         (and-intro (eqb (wide m (slotAt x) % chainCount) k) (productInRange m (slotAt x)) (eq-eqb _ _ (s .chained k x b p)) (s .products x l))
         (eq-eqb _ _ (s .rest x l (omega (arith, s .once x l, chain-chained m k x b, p))))
 
+    firsts : Firsts m (at m) globalQueuesAt
+    firsts = firsts-fit (at m) globalQueuesAt (s .globalEnds)
+
     said-checks : checks (chainPart m ++ queuedPart m) ≡ true
     said-checks =
         both-check (chainPart m) (queuedPart m)
         (check-several (chainSteps m (base m) (S m)) 1 0 chainCount (λ j b.
         let e : j ≡ 0 + 1 * j = omega arith in
         subst (λ (k : ℕ). checks (chainSteps m (base m) (S m) k) ≡ true) e
-        (told-walks m (base m + chainLinkAt) (S m) (chainedFits m (base m) j) (λ x l. link-said chainLinkAt x (s .chainLinks x l)) (at m (headsAt + j)) (S m + 1) (head-fits j b)
+        (told-walks m (base m + chainLinkAt) (S m) (chainedFits m (base m) j) (λ x l. link-said chainLinkAt x (s .chainLinks x l)) (at m (headsAt + j)) (S m + 1) (s .heads j b)
         (λ x p. chain-fits j b x (subst (λ (xs : List ℕ). 0 < count x xs) (chain-slots m j) p)))))
         (lasts-steps m (λ x l. link-said queueLinkAt x (s .queueLinks x l)) retired-fits (λ x p. s .blank x p)
-        free-fits (global-fits .0) (global-fits .1) (global-fits .2)
+        (first-fits (at m) freeAt (s .freeEnds)) (firsts .0) (firsts .1) (firsts .2)
         (λ i b. let f = lane-fits i b in (f .0, end-fits i (queuesAt + currentOffset) _ (omega arith) (f .1), end-fits i (queuesAt + doneOffset) _ (omega arith) (f .2))) (s .lasts))
 
   -- ---- tables that pass every check, and in which each slot is met once
@@ -225,8 +218,34 @@ module _ (m : List ℕ) where
       rest-said z (free p f) = absurd (omega arith)
       rest-said z (retired p f) = absurd (omega arith)
 
+    -- a queue's first is where its walk begins, and its last is its last slot or none
+    ends-said : (f : Bool) (a : ℕ) → checks (queueSteps m (base m) (S m) f a) ≡ true → endsInRange m (at m) a ≡ true
+    ends-said f a h =
+        and-intro (inRange m (at m a)) (inRange m (at m (a + lastOffset)))
+        (walks-begin m (base m + queueLinkAt) (S m) (queuedFits m (base m) (S m) f) (at m a) (S m + 1) (checks-both (linkSteps m (base m) (S m) f a) _ h .0))
+        (subst (λ (x : ℕ). slotOrNone (S m) x ≡ true) (eqb-true _ _ (queue-last m f a h)) (last-fits (S m) (readQueue m a) (queue-below-at m a)))
+
+    three-said : (a : ℕ) → checks (threeSteps m a) ≡ true → queuesInRange m (at m) a ≡ true
+    three-said a h =
+        and-intro (endsInRange m (at m) a && endsInRange m (at m) (a + currentOffset)) (endsInRange m (at m) (a + doneOffset))
+        (and-intro (endsInRange m (at m) a) (endsInRange m (at m) (a + currentOffset)) (given 0 a (omega arith) (omega arith)) (given 1 (a + currentOffset) (omega arith) (omega arith)))
+        (given 2 (a + doneOffset) (omega arith) (omega arith))
+      where
+        given : (j x : ℕ) → j < 3 → a + queueWidth * j ≡ x → endsInRange m (at m) x ≡ true
+        given j x b e =
+            subst (λ (y : ℕ). endsInRange m (at m) y ≡ true) e (ends-said false (a + queueWidth * j) (several-check (queueSteps m (base m) (S m) false) queueWidth a 3 h j b))
+
+    head-said : (k : ℕ) → k < chainCount → slotOrNone (S m) (at m (headsAt + k)) ≡ true
+    head-said k b =
+        let e : 0 + 1 * k ≡ k = omega arith in
+        walks-begin m (base m + chainLinkAt) (S m) (chainedFits m (base m) k) (at m (headsAt + k)) (S m + 1)
+        (subst (λ (j : ℕ). checks (chainSteps m (base m) (S m) j) ≡ true) e (several-check (chainSteps m (base m) (S m)) 1 0 chainCount (parts .0) k b))
+
     checks-said : distinct (map (codeAt m (base m)) (concat (readChains m))) ≡ true → TableSaid m
     checks-said d = record {
+      heads = head-said;
+      freeEnds = ends-said true freeAt (several-check (queueSteps m (base m) (S m) true) queueWidth freeAt 1 (queued .0) 0 (omega arith));
+      globalEnds = three-said globalQueuesAt (checks-both (threeSteps m globalQueuesAt) (lanePart m) (queued .1) .0);
       chainLinks = λ i b. chain-link i (place i b);
       queueLinks = λ i b. queue-link i (place i b);
       products = λ i b. product-said i (place i b);

@@ -11,11 +11,11 @@ use borrow.Author.Tests.{eq-eqb, eqb-true}
 use Rattle.model.specs.Word.{none}
 use Rattle.model.specs.Lists.{all, every, from, count, member, distinct, concat}
 use Rattle.model.specs.State.{State, Product}
-use Rattle.model.specs.Layout.{slotAddress}
+use Rattle.model.specs.Layout.{chainCount, headsAt, freeAt, globalQueuesAt, slotAddress}
 use Rattle.model.specs.Table.{productAt, blank}
 use Rattle.model.specs.Rules.{wrongProduct}
 use Rattle.model.specs.Memory.{at, wide, sizes, slotWord, slotField, walk, readChain, readChains, readQueue, readProduct, allQueues, state}
-use Rattle.model.specs.Legal.{codeOf, standsOnce, lastsAgree, onTheirChains, noCodeTwice, queueLinksAtRest, freeBlank}
+use Rattle.model.specs.Legal.{endsInRange, queuesInRange, codeOf, standsOnce, lastsAgree, onTheirChains, noCodeTwice, queueLinksAtRest, freeBlank}
 use Rattle.laws.specs.Tests.{Every, every-true, every-intro, and-true, and-intro, or-cases, or-left, or-right, all-below, all-below-intro, clash}
 use Rattle.laws.specs.Lists.{length-map-from, getD-map-below}
 use Rattle.laws.specs.Counts.{count-append, count-concat-getD, member-true, member-false, all-count, all-count-intro}
@@ -52,6 +52,9 @@ module _ (m : List ℕ) where
   productSaid i = let b = slotAddress (sizes m) i in not (wrongProduct (wide m b) (at m (b + 2)) (at m (b + 3)))
 
 pub record TableSaid (m : List ℕ) : Type 0 where
+  pub heads : (k : ℕ) → k < chainCount → (ltb (at m (headsAt + k)) (at m 3) || eqb (at m (headsAt + k)) none) ≡ true
+  pub freeEnds : endsInRange m (at m) freeAt ≡ true
+  pub globalEnds : queuesInRange m (at m) globalQueuesAt ≡ true
   pub chainLinks : (i : ℕ) → i < at m 3 → (ltb (slotWord m 4 i) (at m 3) || eqb (slotWord m 4 i) none) ≡ true
   pub queueLinks : (i : ℕ) → i < at m 3 → (ltb (slotWord m 5 i) (at m 3) || eqb (slotWord m 5 i) none) ≡ true
   pub products : (i : ℕ) → i < at m 3 → productSaid m i ≡ true
@@ -173,11 +176,15 @@ module _ (m : List ℕ) where
   pub table-said : tableLegal m ≡ true → TableSaid m
   unfolding tableLegal
   table-said h =
-      let e = every-true _ h in
+      let front = every-true _ h in
+      let e = front .1 .1 .1 in
       let e₃ = e .1 .1 .1 in
       let e₅ = e₃ .1 .1 in
       let e₇ = e₅ .1 .1 in
       record {
+        heads = λ k b. all-below _ _ k (front .0) b;
+        freeEnds = front .1 .0;
+        globalEnds = front .1 .1 .0;
         chainLinks = λ i b. all-below _ _ i (e .0) b;
         queueLinks = λ i b. all-below _ _ i (e .1 .0) b;
         products = λ i b. all-below _ _ i (e .1 .1 .0) b;
@@ -193,12 +200,21 @@ module _ (m : List ℕ) where
   unfolding tableLegal
   said-table s =
       every-intro _ (
-        all-below-intro _ S (s .chainLinks),
+        all-below-intro _ chainCount (s .heads),
         (
-          all-below-intro _ S (s .queueLinks),
+          s .freeEnds,
           (
-            all-below-intro _ S (s .products),
-            (said-once (s .once), (s .lasts, (said-chains (s .chained), (codes-said ∙ s .codes, (said-rest (s .rest), (said-free (s .blank), tt)))))),
+            s .globalEnds,
+            (
+              all-below-intro _ S (s .chainLinks),
+              (
+                all-below-intro _ S (s .queueLinks),
+                (
+                  all-below-intro _ S (s .products),
+                  (said-once (s .once), (s .lasts, (said-chains (s .chained), (codes-said ∙ s .codes, (said-rest (s .rest), (said-free (s .blank), tt)))))),
+                ),
+              ),
+            ),
           ),
         ),
       )

@@ -4,11 +4,11 @@ use mathlib.Core.Path.{_≡_}
 use mathlib.Core.Bool.{Bool, true, false, not}
 use mathlib.Core.List.{List, [], _∷_, _++_}
 use lib.ListN.{length, getD}
-use Rattle.model.specs.Lists.{all, every}
-use Rattle.model.specs.Layout.{maxSlots, laneLength, slotLength, queueWidth, freeAt, globalQueuesAt, depositAt, materialAt, chainLinkAt, queueLinkAt, lanesBody, slotsBody, slotAddress}
+use Rattle.model.specs.Lists.{all, every, from}
+use Rattle.model.specs.Layout.{maxSlots, chainCount, headsAt, laneLength, slotLength, queueWidth, freeAt, globalQueuesAt, depositAt, materialAt, chainLinkAt, queueLinkAt, lanesBody, slotsBody, slotAddress}
 use Rattle.model.specs.Rules.{wrongProduct}
 use Rattle.model.specs.Memory.{at, wide, sizes, slotWord, state}
-use Rattle.model.specs.Legal.{slotNumbers, slotOrNone, standsOnce, lastsAgree, onTheirChains, noCodeTwice, queueLinksAtRest, freeBlank}
+use Rattle.model.specs.Legal.{slotNumbers, slotOrNone, endsInRange, queuesInRange, standsOnce, lastsAgree, onTheirChains, noCodeTwice, queueLinksAtRest, freeBlank}
 use Rattle.slot_places.specs.Steps.{Step, several, queueSteps, laneSteps}
 use Rattle.distinct_codes.specs.Cells.{cellsOf}
 use Rattle.engine_legality.specs.Sentences.{engineLegal}
@@ -24,6 +24,10 @@ pub record Table (m : List ℕ) (base lane n : ℕ) : Type 0 where
   pub engine : engineLegal m ≡ true
 
 module _ (m : List ℕ) where
+  -- the heads of the chains, where their walks begin
+  abbrev pub chainHeadsInRange : Bool
+  chainHeadsInRange = all (λ (k : ℕ). slotOrNone m (at m (headsAt + k))) (from 0 chainCount)
+
   abbrev pub chainLinksInRange : Bool
   chainLinksInRange = all (λ (i : ℕ). slotOrNone m (slotWord m chainLinkAt i)) (slotNumbers m)
 
@@ -36,11 +40,12 @@ module _ (m : List ℕ) where
       (λ (i : ℕ). let b = slotAddress (sizes m) i in not (wrongProduct (wide m b) (at m (b + depositAt)) (at m (b + materialAt))))
       (slotNumbers m)
 
-  -- the sentences about the slots
+  -- the sentences about the slots, the chains and the queues that are no lane's
   unfoldable pub tableLegal : Bool
   tableLegal =
       every
-      (chainLinksInRange ∷ queueLinksInRange ∷ productsInRange
+      (chainHeadsInRange ∷ endsInRange m (at m) freeAt ∷ queuesInRange m (at m) globalQueuesAt
+      ∷ chainLinksInRange ∷ queueLinksInRange ∷ productsInRange
       ∷ standsOnce (state m) ∷ lastsAgree m (state m) ∷ onTheirChains (state m) ∷ noCodeTwice (state m)
       ∷ queueLinksAtRest m (state m) ∷ freeBlank m (state m) ∷ [])
 

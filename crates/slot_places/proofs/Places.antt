@@ -105,10 +105,10 @@ module _ (m : List ℕ) (field slots : ℕ) (fits : ℕ → Bool) where
   linkFits i = slotOrNone slots (at m (field + slotLength * i))
 
   -- the steps from i on hold, so i is a slot's number or none
-  begins : (i n : ℕ) → checks (walks m field slots fits i n) ≡ true → slotOrNone slots i ≡ true
+  pub walks-begin : (i n : ℕ) → checks (walks m field slots fits i n) ≡ true → slotOrNone slots i ≡ true
   unfolding walks checks
-  begins i zero h = and-true (slotOrNone slots i) true h .0
-  begins i (suc n) h =
+  walks-begin i zero h = and-true (slotOrNone slots i) true h .0
+  walks-begin i (suc n) h =
       elim (decLt i slots) [
         | yes b ↦ or-left (ltb i slots) (eqb i none) (lt-ltb i slots b)
         | no b ↦ or-right (ltb i slots) (eqb i none) (and-true (eqb i none) true (rw (le-leb slots i (omega arith), walks) at h) .0)
@@ -124,7 +124,7 @@ module _ (m : List ℕ) (field slots : ℕ) (fits : ℕ → Bool) where
             let q : 0 < count x (i ∷ slotsOf (walks m field slots fits (at m (field + slotLength * i)) n)) = rw (lt-leb slots i b, walks) at p in
             let t = and-true (fits i) (checks (walks m field slots fits (at m (field + slotLength * i)) n)) k in
             elim (decide x i) [
-              | same e u v ↦ subst (λ (y : ℕ). (fits y ≡ true) × (linkFits y ≡ true)) (sym e) (t .0, begins _ n (t .1))
+              | same e u v ↦ subst (λ (y : ℕ). (fits y ≡ true) × (linkFits y ≡ true)) (sym e) (t .0, walks-begin _ n (t .1))
               | other e u v ↦ walks-told (at m (field + slotLength * i)) n (t .1) x (omega (arith, q, ap {B = ℕ} (λ (c : Bool). cond c 1 0) u))
             ]
         | no b ↦ absurd (let q : 0 < 0 = rw (le-leb slots i (omega arith), walks) at p in omega arith)

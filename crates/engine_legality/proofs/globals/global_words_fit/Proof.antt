@@ -31,22 +31,12 @@ shared-slice-read-global-fits c = search needs
 global-fits-requires : tie.Need-global-fits-requires
 global-fits-requires c κs = search needs
 
-heads-fit-requires : tie.Need-heads-fit-requires
-heads-fit-requires c κs = search needs
-
-global-ends-fit-requires : tie.Need-global-ends-fit-requires
-global-ends-fit-requires c κs = search needs
-
 returns : tie.Need-returns
 unfolding globalWordsFit
 returns c =
-    let at-heads-fit : tie.After-heads-fit = search in
-    let at-global-fits : tie.After-global-fits = search in
     let at-largest-fits : tie.After-largest-fits = search in
     let at-fits-in : tie.After-fits-in = search in
-    let global = at-global-fits .global-fits .ensures in
-    let heads = at-heads-fit .heads-fit .ensures in
-    rw (at-fits-in .fits-in .ensures, at-largest-fits .largest-fits .ensures, global, heads, c .global-ends-fit .ensures)
+    rw (at-fits-in .fits-in .ensures, at-largest-fits .largest-fits .ensures, c .global-fits .ensures)
 
 pub global-words-fit-spec : {M : Type 1} → statement M
 global-words-fit-spec =
@@ -61,6 +51,4 @@ global-words-fit-spec =
     largest-fits-requires
     shared-slice-read-global-fits
     global-fits-requires
-    heads-fit-requires
-    global-ends-fit-requires
     returns)
