@@ -4,7 +4,7 @@ ghost use mathlib.Core.Path.{_≡_};
 ghost use Prim.Native.Nat.{_+_, _*_, _<_};
 ghost use lib.ListN.{length};
 ghost use Rattle.model.specs.Word.{wordLimit};
-ghost use Rattle.model.specs.Lists.{first as firstOf};
+ghost use Rattle.model.specs.Lists.{first as Lists·first};
 ghost use Rattle.model.specs.Rules.{pendingFrom, queuedIn, awaited as awaiting};
 ghost use Rattle.model.specs.Memory.{state};
 ghost use Rattle.model.specs.Calls.{on-state};
@@ -41,7 +41,7 @@ fn lane_number(cabinet: u32, places: u32, place: u32) -> u32
 // lowest one of its lane mask.
 fn lowest_pending(m: &[u32]) -> u32
     requires { ⌜ Sound (now m) ⌝ }
-    ensures { λ r. ⌜ r ≡ firstOf (pendingFrom 0 (state (now (m .entry)) .engine .lanes)) ⌝ }
+    ensures { λ r. ⌜ r ≡ Lists·first (pendingFrom 0 (state (now (m .entry)) .engine .lanes)) ⌝ }
 {
     let cabinets = m[words::CABINET_MASK_AT];
     if cabinets == 0 {
