@@ -1,18 +1,18 @@
 -- Codes stand twice among the slots met exactly where they do among those put aside: each code met is its cell's holder's or was put aside, and
 -- one put aside is not the holder's. It holds for any codes f and any spreading function g, as equal codes share a cell and a cell has one holder.
-use Prim.Native.Nat.{ℕ, zero, suc, _+_, _*_, _≤_, _<_}
+use Prim.Native.Nat.{ℕ, zero, suc, _+_, _≤_, _<_}
 use mathlib.Core.Bool.{Bool, true, false, cond}
 use mathlib.Core.Path.{_≡_, refl, ap, sym, _∙_, subst}
 use mathlib.Core.List.{List, [], _∷_, _++_, map}
 use native.Mathlib.Omega.{arith}
 use native.Mathlib.Decide.{decLt}
-use lib.ListN.{getD, set, length, take, length-set}
+use lib.ListN.{getD, set, length, length-set}
 use lib.Dec.{eqb}
 use lib.Seq.{getD-set-same, getD-set-other}
 use borrow.Author.Tests.{eq-eqb, ne-eqb}
 use Rattle.model.specs.Lists.{count, member, distinct}
-use Rattle.laws.specs.Tests.{Same, same, other, decide, clash as contradiction}
-use Rattle.laws.specs.Counts.{count-append, count-self, count-cons, member-true, member-false}
+use Rattle.laws.specs.Tests.{same, other, decide, clash as contradiction}
+use Rattle.laws.specs.Counts.{count-self, member-true, member-false}
 use Rattle.distinct_codes.specs.Cells.{Held, clash, held, meetCell, meet, meets}
 
 unlike : false ≡ true → ⊥

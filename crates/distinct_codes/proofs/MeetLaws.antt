@@ -1,15 +1,15 @@
 -- A slot that is met, by what the code finds in its cell.
 use Prim.Native.Nat.{ℕ, zero, suc, _+_, _*_, _-_, _≤_, _<_}
 use mathlib.Core.Bool.{Bool, true, false, cond}
-use mathlib.Core.Path.{_≡_, refl, ap, sym, _∙_, subst}
+use mathlib.Core.Path.{_≡_, refl, ap, sym, _∙_}
 use mathlib.Core.List.{List, [], _∷_, _++_}
 use native.Mathlib.Omega.{arith}
 use lib.ListN.{getD, set, length, take, length-set}
-use lib.Dec.{eqb}
 use lib.Seq.{getD-set-same, getD-set-other}
 use borrow.Author.Tests.{eq-eqb, ne-eqb}
-use Rattle.laws.specs.Tests.{Same, same, other, decide}
-use Rattle.distinct_codes.specs.Cells.{cellsOf, spread, codeAt, Held, clash, held, meetCell, meet, Places, Room, Meets}
+use Rattle.model.specs.Layout.{slotLength}
+use Rattle.laws.specs.Tests.{same, other, decide}
+use Rattle.distinct_codes.specs.Cells.{cellsOf, spread, codeAt, clash, held, meetCell, meet, Room, Meets}
 
 unlike : false ≡ true → ⊥
 unlike e = let z : _≡_ {A = ℕ} 0 1 = cc in omega arith
@@ -28,7 +28,7 @@ module _ (m : List ℕ) (base : ℕ) (few : Bool) (i : ℕ) (k a : List ℕ) (n 
   unfolding meet
   at-cell x q = ap (λ (y : ℕ). meetCell f (spread (cellsOf few)) y i k (take n a)) (ap (λ (c : ℕ). getD k c 0) (sym e) ∙ sym h ∙ q)
 
-  pub meet-free : v ≡ 0 → p < length k → base + 6 * i + 6 ≤ length m → Meets m base few i k a n true n (set k p (i + 1)) a
+  pub meet-free : v ≡ 0 → p < length k → base + slotLength * i + slotLength ≤ length m → Meets m base few i k a n true n (set k p (i + 1)) a
   unfolding meetCell
   meet-free z b s = record {
     good = λ y. at-cell 0 z ∙ ap (λ (c : ℕ). held (set k c (i + 1)) (take n a)) (sym e);
@@ -37,7 +37,7 @@ module _ (m : List ℕ) (base : ℕ) (few : Bool) (i : ℕ) (k a : List ℕ) (n 
     most = omega arith;
   }
     where
-      holders : (q : ℕ) → base + 6 * getD (set k p (i + 1)) q 0 ≤ length m
+      holders : (q : ℕ) → base + slotLength * getD (set k p (i + 1)) q 0 ≤ length m
       holders q =
           elim (decide q p) [
             | same z t u ↦ omega (arith, ap (λ (x : ℕ). getD (set k p (i + 1)) x 0) z, getD-set-same k p (i + 1) 0 b)
@@ -61,7 +61,7 @@ module _ (m : List ℕ) (base : ℕ) (few : Bool) (i : ℕ) (k a : List ℕ) (n 
       most = omega arith;
     }
 
-    pub meet-aside : (f (v - 1) ≡ f i → ⊥) → n < length a → base + 6 * i + 6 ≤ length m → Meets m base few i k a n true (n + 1) k (set a n i)
+    pub meet-aside : (f (v - 1) ≡ f i → ⊥) → n < length a → base + slotLength * i + slotLength ≤ length m → Meets m base few i k a n true (n + 1) k (set a n i)
     unfolding meetCell
     meet-aside q b s = record {
       good = λ y.
@@ -72,7 +72,7 @@ module _ (m : List ℕ) (base : ℕ) (few : Bool) (i : ℕ) (k a : List ℕ) (n 
       most = omega arith;
     }
       where
-        members : (j : ℕ) → j < n + 1 → base + 6 * getD (set a n i) j 0 + 6 ≤ length m
+        members : (j : ℕ) → j < n + 1 → base + slotLength * getD (set a n i) j 0 + slotLength ≤ length m
         members j c =
             elim (decide j n) [
               | same z t u ↦ omega (arith, ap (λ (x : ℕ). getD (set a n i) x 0) z, getD-set-same a n i 0 b)

@@ -8,12 +8,12 @@ use native.Mathlib.Decide.{decLt}
 use lib.ListN.{getD, set, length, take, length-set, replicate, getD-replicate, length-replicate, List·getD-eq-default}
 use lib.Seq.{getD-set-same, getD-set-other}
 use Rattle.model.specs.Lists.{count, from, member, distinct}
-use Rattle.laws.specs.Tests.{Same, same, other, decide}
+use Rattle.laws.specs.Tests.{same, other, decide}
 use Rattle.laws.specs.Lists.{map-map-from, take-map-from}
 use Rattle.laws.specs.Counts.{count-from, count-from-below}
 use Rattle.laws.specs.Repeats.{distinct-map, distinct-map-intro}
 use Rattle.distinct_codes.specs.Cells.{codeAt}
-use Rattle.distinct_codes.specs.Tree.{root, Empty, Path, here, down, Keeps, Shape, In, New, Old, Entered}
+use Rattle.distinct_codes.specs.Tree.{branches, root, Empty, Path, here, down, Keeps, Shape, In, New, Old, Entered}
 
 unlike : false ≡ true → ⊥
 unlike e = let z : _≡_ {A = ℕ} 0 1 = cc in omega arith
@@ -49,11 +49,11 @@ module _ (R : ℕ) (f : ℕ → ℕ) (n : ℕ) (k : List ℕ) where
   way-begin p c d e g h =
       subst (λ (y : ℕ). Way p y) (sym (h ∙ ap (λ (x : ℕ). x / R) e)) (subst (λ (x : ℕ). Way x (f n / R)) (sym (g ∙ ap (root R) e)) way-start)
 
-  past : {p d t v : ℕ} → getD k p 0 ≡ suc v → (t ≡ v → ⊥) → Path R k p d t → Path R k (R + 8 * v + d % 8) (d / 8) t
+  past : {p d t v : ℕ} → getD k p 0 ≡ suc v → (t ≡ v → ⊥) → Path R k p d t → Path R k (R + branches * v + d % branches) (d / branches) t
   past e h (here g) = absurd (h (omega arith))
-  past {d = d} {t = t} {v = v} e h (down {v = w} g r) = let q : w ≡ v = omega arith in subst (λ (u : ℕ). Path R k (R + 8 * u + d % 8) (d / 8) t) q r
+  past {d = d} {t = t} {v = v} e h (down {v = w} g r) = let q : w ≡ v = omega arith in subst (λ (u : ℕ). Path R k (R + branches * u + d % branches) (d / branches) t) q r
 
-  pub way-on : {p d v : ℕ} → Way p d → getD k p 0 ≡ suc v → (f v ≡ f n → ⊥) → Way (R + 8 * v + d % 8) (d / 8)
+  pub way-on : {p d v : ℕ} → Way p d → getD k p 0 ≡ suc v → (f v ≡ f n → ⊥) → Way (R + branches * v + d % branches) (d / branches)
   way-on {v = v} w e h = record {
     behind = λ l g r. w .behind l g (down (g _ _ e) r);
     ahead = λ t r q. past e (λ z. h (ap f (sym z) ∙ q)) (w .ahead t r q);
@@ -64,10 +64,10 @@ module _ (R : ℕ) (f : ℕ → ℕ) (n : ℕ) (k : List ℕ) where
     holds : getD k p 0 ≡ suc (v - 1)
     holds = omega arith
 
-    pub step-on : (F : ℕ) → F ≡ R → {d : ℕ} → Way p d → (f (v - 1) ≡ f n → ⊥) → Way (F + 8 * (v - 1) + d % 8) (d / 8)
-    step-on F q {d} w h = subst (λ (x : ℕ). Way (x + 8 * (v - 1) + d % 8) (d / 8)) (sym q) (way-on w holds h)
+    pub step-on : (F : ℕ) → F ≡ R → {d : ℕ} → Way p d → (f (v - 1) ≡ f n → ⊥) → Way (F + branches * (v - 1) + d % branches) (d / branches)
+    step-on F q {d} w h = subst (λ (x : ℕ). Way (x + branches * (v - 1) + d % branches) (d / branches)) (sym q) (way-on w holds h)
 
-    pub step-below : Shape R n k → p < R + 8 * (v - 1)
+    pub step-below : Shape R n k → p < R + branches * (v - 1)
     step-below s = s .order p (v - 1) holds
 
     pub step-old : (l : List ℕ) → f (v - 1) ≡ f n → Entered R f n k false l
@@ -77,7 +77,7 @@ module _ (R : ℕ) (f : ℕ → ℕ) (n : ℕ) (k : List ℕ) where
   ended e (here g) = omega arith
   ended e (down g r) = omega arith
 
-  module _ (p : ℕ) (e : getD k p 0 ≡ 0) (i : p < length k) (s : Shape R n k) (b : p < R + 8 * n) where
+  module _ (p : ℕ) (e : getD k p 0 ≡ 0) (i : p < length k) (s : Shape R n k) (b : p < R + branches * n) where
     abbrev l : List ℕ
     l = set k p (n + 1)
 
@@ -97,7 +97,7 @@ module _ (R : ℕ) (f : ℕ → ℕ) (n : ℕ) (k : List ℕ) where
           | other z t u ↦ omega (arith, others q z, s .within q)
         ]
 
-    order : (q v : ℕ) → getD l q 0 ≡ suc v → q < R + 8 * v
+    order : (q v : ℕ) → getD l q 0 ≡ suc v → q < R + branches * v
     order q v g =
         elim (decide q p) [
           | same z t u ↦ omega (arith, ap (λ (x : ℕ). getD l x 0) z, stored)

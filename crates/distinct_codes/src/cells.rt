@@ -37,9 +37,9 @@ fn spread(code: u64, few: bool) -> usize
 {
     let h = (code % WORD_LIMIT * LOW_FACTOR + code / WORD_LIMIT * HIGH_FACTOR) / DROPPED;
     if few {
-        (h % 64) as usize
+        (h % FEW) as usize
     } else {
-        (h % 4096) as usize
+        (h % MANY) as usize
     }
 }
 

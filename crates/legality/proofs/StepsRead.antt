@@ -1,27 +1,26 @@
 -- The steps of the walks, in the chains and queues that a memory reads: their slots are those of all chains and queues, and the checks of the queues
 -- have "lines agree with first and last" among them.
-use Prim.Native.Nat.{ℕ, zero, suc, _+_, _*_, _≤_, _<_}
-use mathlib.Core.Bool.{Bool, true, false, _&&_, _||_}
+use Prim.Native.Nat.{ℕ, zero, suc, _+_, _*_, _<_}
+use mathlib.Core.Bool.{Bool, true, false}
 use mathlib.Core.Path.{_≡_, refl, ap, ap₂, sym, _∙_, subst}
 use mathlib.Core.List.{List, [], _∷_, _++_, map}
 use native.Mathlib.Omega.{arith}
 use native.Mathlib.Numerals.{add-one}
-use lib.ListN.{getD, length}
 use lib.Dec.{eqb}
 use borrow.Author.Tests.{le-leb, lt-leb}
 use Rattle.model.specs.Word.{none}
-use Rattle.model.specs.Lists.{all, every, from, count, last, concat, concatMap}
-use Rattle.model.specs.State.{Lane, Queues}
-use Rattle.model.specs.Layout.{chainCount, headsAt, freeAt, globalQueuesAt, globalGenerationAt, generationAt, queuesAt, queueWidth, currentOffset, doneOffset, lastOffset, chainLinkAt, queueLinkAt, slotLength, laneLength, slotsBody, slotAddress, laneAddress, lanesBody}
+use Rattle.model.specs.Lists.{all, from, count, last, concat, concatMap}
+use Rattle.model.specs.State.{Lane}
+use Rattle.model.specs.Layout.{cabinetsAt, placesAt, slotsAt, chainCount, headsAt, freeAt, globalQueuesAt, globalGenerationAt, generationAt, queuesAt, queueWidth, currentOffset, doneOffset, lastOffset, chainLinkAt, queueLinkAt, slotLength, laneLength, slotsBody, slotAddress, laneAddress, lanesBody}
 use Rattle.model.specs.Engine.{laneAt, freshLane}
-use Rattle.model.specs.Memory.{at, sizes, walk, slotField, slotWord, readChain, readChains, readQueue, readQueues, readLane, queuesOf, laneQueues, allQueues, state}
-use Rattle.model.specs.Legal.{laneNumbers, lastsAt, lastsAgree}
-use Rattle.laws.specs.Tests.{Every, every-true, every-intro, and-true, and-intro, all-below, all-below-intro}
+use Rattle.model.specs.Memory.{at, sizes, walk, slotField, readChain, readChains, readQueue, readQueues, readLane, queuesOf, laneQueues, state}
+use Rattle.model.specs.Legal.{lastsAt, lastsAgree}
+use Rattle.laws.specs.Tests.{every-true, every-intro, and-true, and-intro, all-below, all-below-intro}
 use Rattle.laws.specs.Lists.{length-map-from, getD-map-below}
-use Rattle.laws.specs.Walks.{walk-stop, walk-on, Step as Onward, stop, on, step}
+use Rattle.laws.specs.Walks.{walk-stop, walk-on, stop, on, step}
 use Rattle.laws.specs.Counts.{count-append}
 use Rattle.slot_places.specs.Slots.{slotOrNone, queuedFits}
-use Rattle.slot_places.specs.Steps.{Step, check, slotsOf, several, walks, chainSteps, linkSteps, queueSteps, retiredSteps, laneSteps}
+use Rattle.slot_places.specs.Steps.{Step, check, slotsOf, several, queueCount, walks, chainSteps, linkSteps, queueSteps, laneSteps}
 use Rattle.slot_places.proofs.StepLaws.{slotsOf-append}
 use Rattle.slot_places.proofs.Marked.{checks, Right, look, stop as ended}
 use Rattle.slot_places.proofs.Places.{slots-append, checks-both, both-check, right-walks, right-append, right-several, several-check, check-several, told-walks}
@@ -29,13 +28,13 @@ use Rattle.legality.specs.Parts.{queuedSteps}
 
 module _ (m : List ℕ) where
   abbrev pub S : ℕ
-  S = at m 3
+  S = at m slotsAt
 
   abbrev pub base : ℕ
   base = slotsBody (sizes m)
 
   abbrev pub laneTotal : ℕ
-  laneTotal = at m 1 * at m 2
+  laneTotal = at m cabinetsAt * at m placesAt
 
   -- ---- a walk of the check is the model's
 
@@ -70,7 +69,7 @@ module _ (m : List ℕ) where
   freePart = several (queueSteps m base S true) queueWidth freeAt 1
 
   abbrev pub threeSteps : ℕ → List Step
-  threeSteps a = several (queueSteps m base S false) queueWidth a 3
+  threeSteps a = several (queueSteps m base S false) queueWidth a queueCount
 
   abbrev pub lanePart : List Step
   lanePart = several (laneSteps m base S) laneLength (lanesBody (sizes m)) laneTotal
@@ -119,18 +118,18 @@ module _ (m : List ℕ) where
   free-count i = omega (arith, slots-append i (queueSteps m base S true freeAt) [], slots-queue i true freeAt)
 
   -- three queues, the first of them at a
-  three-count : (i a c : ℕ) → c ≡ a + 4 → count i (slotsOf (threeSteps a)) ≡ count i (readQueue m a) + (count i (readQueue m (a + 2)) + count i (readQueue m c))
+  three-count : (i a c : ℕ) → c ≡ a + doneOffset → count i (slotsOf (threeSteps a)) ≡ count i (readQueue m a) + (count i (readQueue m (a + currentOffset)) + count i (readQueue m c))
   unfolding several slotsOf count
   three-count i a c e =
-      let q : a + 2 + 2 ≡ c = omega arith in
+      let q : a + queueWidth + queueWidth ≡ c = omega arith in
       omega (
         arith,
-        slots-append i (queueSteps m base S false a) (several (queueSteps m base S false) 2 (a + 2) 2),
-        slots-append i (queueSteps m base S false (a + 2)) (several (queueSteps m base S false) 2 (a + 2 + 2) 1),
-        slots-append i (queueSteps m base S false (a + 2 + 2)) [],
+        slots-append i (queueSteps m base S false a) (several (queueSteps m base S false) queueWidth (a + queueWidth) 2),
+        slots-append i (queueSteps m base S false (a + queueWidth)) (several (queueSteps m base S false) queueWidth (a + queueWidth + queueWidth) 1),
+        slots-append i (queueSteps m base S false (a + queueWidth + queueWidth)) [],
         slots-queue i false a,
-        slots-queue i false (a + 2),
-        slots-queue i false (a + 2 + 2),
+        slots-queue i false (a + queueWidth),
+        slots-queue i false (a + queueWidth + queueWidth),
         ap (λ (x : ℕ). count i (readQueue m x)) q,
       )
 
@@ -145,11 +144,11 @@ module _ (m : List ℕ) where
   slots-lanes i j a (suc n) e =
       let rest = concatMap laneQueues (map (readLane m) (from (suc j) n)) in
       let b = laneAddress (sizes m) j in
-      slots-append i (laneSteps m base S a) (several (laneSteps m base S) 19 (a + 19) n)
-      ∙ ap₂ _+_ (ap (λ (x : ℕ). count i (slotsOf (laneSteps m base S x))) e ∙ three-count i (b + 10) (b + 10 + 4) refl) (slots-lanes i (suc j) (a + 19) n (omega arith))
-      ∙ sym (three-concat i (readQueue m (b + 10)) (readQueue m (b + 10 + 2)) (readQueue m (b + 10 + 4)) rest
-      ∙ let z : count i (readQueue m (b + 10)) + (count i (readQueue m (b + 10 + 2)) + (count i (readQueue m (b + 10 + 4)) + count i (concat rest)))
-      ≡ count i (readQueue m (b + 10)) + (count i (readQueue m (b + 10 + 2)) + count i (readQueue m (b + 10 + 4))) + count i (concat rest) = omega arith in z)
+      slots-append i (laneSteps m base S a) (several (laneSteps m base S) laneLength (a + laneLength) n)
+      ∙ ap₂ _+_ (ap (λ (x : ℕ). count i (slotsOf (laneSteps m base S x))) e ∙ three-count i (b + queuesAt) (b + queuesAt + doneOffset) refl) (slots-lanes i (suc j) (a + laneLength) n (omega arith))
+      ∙ sym (three-concat i (readQueue m (b + queuesAt)) (readQueue m (b + queuesAt + currentOffset)) (readQueue m (b + queuesAt + doneOffset)) rest
+      ∙ let z : count i (readQueue m (b + queuesAt)) + (count i (readQueue m (b + queuesAt + currentOffset)) + (count i (readQueue m (b + queuesAt + doneOffset)) + count i (concat rest)))
+      ≡ count i (readQueue m (b + queuesAt)) + (count i (readQueue m (b + queuesAt + currentOffset)) + count i (readQueue m (b + queuesAt + doneOffset))) + count i (concat rest) = omega arith in z)
 
   -- the queues other than the free one
   abbrev pub retiredQueues : List (List ℕ)
@@ -157,11 +156,11 @@ module _ (m : List ℕ) where
 
   pub retired-count : (i : ℕ) → count i (slotsOf (threeSteps globalQueuesAt ++ lanePart)) ≡ count i (concat retiredQueues)
   retired-count i =
-      slots-append i (threeSteps 81) lanePart
-      ∙ ap₂ _+_ (three-count i 81 85 refl) (slots-lanes i 0 (lanesBody (sizes m)) laneTotal (omega arith))
-      ∙ sym (three-concat i (readQueue m 81) (readQueue m 83) (readQueue m 85) rest
-      ∙ let z : count i (readQueue m 81) + (count i (readQueue m 83) + (count i (readQueue m 85) + count i (concat rest)))
-      ≡ count i (readQueue m 81) + (count i (readQueue m 83) + count i (readQueue m 85)) + count i (concat rest) = omega arith in z)
+      slots-append i (threeSteps globalQueuesAt) lanePart
+      ∙ ap₂ _+_ (three-count i globalQueuesAt (globalQueuesAt + doneOffset) refl) (slots-lanes i 0 (lanesBody (sizes m)) laneTotal (omega arith))
+      ∙ sym (three-concat i (readQueue m globalQueuesAt) (readQueue m (globalQueuesAt + currentOffset)) (readQueue m (globalQueuesAt + doneOffset)) rest
+      ∙ let z : count i (readQueue m globalQueuesAt) + (count i (readQueue m (globalQueuesAt + currentOffset)) + (count i (readQueue m (globalQueuesAt + doneOffset)) + count i (concat rest)))
+      ≡ count i (readQueue m globalQueuesAt) + (count i (readQueue m (globalQueuesAt + currentOffset)) + count i (readQueue m (globalQueuesAt + doneOffset))) + count i (concat rest) = omega arith in z)
     where
       rest : List (List ℕ)
       rest = concatMap laneQueues (map (readLane m) (from 0 laneTotal))
@@ -202,10 +201,10 @@ module _ (m : List ℕ) where
 
   three-lasts : (a g : ℕ) → checks (threeSteps a) ≡ true → lastsAt m a (readQueues m g a) ≡ true
   three-lasts a g h =
-      every-intro _ (given 0 a (omega arith) (omega arith), (given 1 (a + 2) (omega arith) (omega arith), (given 2 (a + 4) (omega arith) (omega arith), tt)))
+      every-intro _ (given 0 a (omega arith) (omega arith), (given 1 (a + currentOffset) (omega arith) (omega arith), (given 2 (a + doneOffset) (omega arith) (omega arith), tt)))
     where
-      given : (j x : ℕ) → j < 3 → a + queueWidth * j ≡ x → lastGiven x ≡ true
-      given j x b e = subst (λ (y : ℕ). lastGiven y ≡ true) e (queue-last false (a + queueWidth * j) (several-check (queueSteps m base S false) queueWidth a 3 h j b))
+      given : (j x : ℕ) → j < queueCount → a + queueWidth * j ≡ x → lastGiven x ≡ true
+      given j x b e = subst (λ (y : ℕ). lastGiven y ≡ true) e (queue-last false (a + queueWidth * j) (several-check (queueSteps m base S false) queueWidth a queueCount h j b))
 
   lane-of : (i : ℕ) → i < laneTotal → laneAt (state m .engine) i ≡ readLane m i
   unfolding state
@@ -233,24 +232,24 @@ module _ (m : List ℕ) where
 
   module _ (links : (x : ℕ) → x < S → slotOrNone S (at m (base + queueLinkAt + slotLength * x)) ≡ true)
       (retired : (a x : ℕ) → 0 < count x (readQueue m a) → queuedFits m base S false x ≡ true) where
-    lasts-three : (a g : ℕ) → slotOrNone S (at m a) ≡ true → slotOrNone S (at m (a + 2)) ≡ true → slotOrNone S (at m (a + 4)) ≡ true → lastsAt m a (readQueues m g a) ≡ true
+    lasts-three : (a g : ℕ) → slotOrNone S (at m a) ≡ true → slotOrNone S (at m (a + currentOffset)) ≡ true → slotOrNone S (at m (a + doneOffset)) ≡ true → lastsAt m a (readQueues m g a) ≡ true
         → checks (threeSteps a) ≡ true
     lasts-three a g h₀ h₁ h₂ l =
         let e = every-true _ l in
-        check-several (queueSteps m base S false) queueWidth a 3 (given (e .0) (e .1 .0) (e .1 .1 .0))
+        check-several (queueSteps m base S false) queueWidth a queueCount (given (e .0) (e .1 .0) (e .1 .1 .0))
       where
         here : (x y : ℕ) → x ≡ y → slotOrNone S (at m x) ≡ true → lastGiven x ≡ true → checks (queueSteps m base S false y) ≡ true
         here x y q h t = subst (λ (z : ℕ). checks (queueSteps m base S false z) ≡ true) q (last-queue links false x h (retired x) t)
 
-        given : lastGiven a ≡ true → lastGiven (a + 2) ≡ true → lastGiven (a + 4) ≡ true → (j : ℕ) → j < 3 → checks (queueSteps m base S false (a + queueWidth * j)) ≡ true
+        given : lastGiven a ≡ true → lastGiven (a + currentOffset) ≡ true → lastGiven (a + doneOffset) ≡ true → (j : ℕ) → j < queueCount → checks (queueSteps m base S false (a + queueWidth * j)) ≡ true
         given t₀ t₁ t₂ zero b = here a (a + queueWidth * 0) (omega arith) h₀ t₀
-        given t₀ t₁ t₂ (suc zero) b = here (a + 2) (a + queueWidth * 1) (omega arith) h₁ t₁
-        given t₀ t₁ t₂ (suc (suc zero)) b = here (a + 4) (a + queueWidth * 2) (omega arith) h₂ t₂
+        given t₀ t₁ t₂ (suc zero) b = here (a + currentOffset) (a + queueWidth * 1) (omega arith) h₁ t₁
+        given t₀ t₁ t₂ (suc (suc zero)) b = here (a + doneOffset) (a + queueWidth * 2) (omega arith) h₂ t₂
         given t₀ t₁ t₂ (suc (suc (suc j))) b = absurd (omega arith)
 
     pub lasts-steps : ((x : ℕ) → 0 < count x (readQueue m freeAt) → queuedFits m base S true x ≡ true)
         → slotOrNone S (at m freeAt) ≡ true
-        → slotOrNone S (at m globalQueuesAt) ≡ true → slotOrNone S (at m (globalQueuesAt + 2)) ≡ true → slotOrNone S (at m (globalQueuesAt + 4)) ≡ true
+        → slotOrNone S (at m globalQueuesAt) ≡ true → slotOrNone S (at m (globalQueuesAt + currentOffset)) ≡ true → slotOrNone S (at m (globalQueuesAt + doneOffset)) ≡ true
         → ((i : ℕ) → i < laneTotal
         → (slotOrNone S (at m (laneAddress (sizes m) i + queuesAt)) ≡ true) × (slotOrNone S (at m (laneAddress (sizes m) i + queuesAt + currentOffset)) ≡ true)
         × (slotOrNone S (at m (laneAddress (sizes m) i + queuesAt + doneOffset)) ≡ true))

@@ -1,36 +1,33 @@
 -- The walks and the codes put aside decide the sentences about the slots: each slot is right for the place where it is met, each is met once, and
 -- two codes are equal only where two put aside are.
 use Prim.Native.Nat.{ℕ, zero, suc, _+_, _*_, _%_, _≤_, _<_}
-use mathlib.Core.Bool.{Bool, true, false, not, cond, _&&_, _||_}
+use mathlib.Core.Bool.{Bool, true, false, _&&_}
 use mathlib.Core.Path.{_≡_, refl, ap, ap₂, sym, _∙_, subst}
 use mathlib.Core.List.{List, [], _∷_, _++_, map}
 use native.Mathlib.Omega.{arith}
 use native.Mathlib.Decide.{decLt}
-use native.Mathlib.Nat.{mod-lt}
 use lib.ListN.{getD, length, take, replicate, length-replicate}
-use lib.Dec.{leb, ltb, eqb}
+use lib.Dec.{ltb, eqb}
 use borrow.Author.Tests.{eq-eqb, eqb-true, lt-ltb}
 use Rattle.model.specs.Word.{none}
-use Rattle.model.specs.Lists.{all, every, from, count, last, distinct, concat}
-use Rattle.model.specs.Layout.{maxSlots, chainCount, queueWidth, currentOffset, doneOffset, lastOffset, headsAt, freeAt, globalQueuesAt, masksAt, queuesAt, positionAt, depositAt, materialAt, chainLinkAt, queueLinkAt, slotLength, laneLength, slotsBody, slotAddress, laneAddress, lanesBody}
-use Rattle.model.specs.Rules.{wrongProduct}
-use Rattle.model.specs.Memory.{at, wide, sizes, slotWord, laneWord, readChain, readChains, readQueue, state}
-use Rattle.model.specs.Legal.{lastsAgree, laneNumbers, endsInRange, queuesInRange, laneLinksInRange, slotOrNone as inRange}
+use Rattle.model.specs.Lists.{every, from, count, last, distinct, concat}
+use Rattle.model.specs.Layout.{slotsAt, maxSlots, chainCount, queueWidth, currentOffset, doneOffset, lastOffset, headsAt, freeAt, globalQueuesAt, masksAt, queuesAt, positionAt, depositAt, materialAt, chainLinkAt, queueLinkAt, slotLength, laneLength, slotsBody, laneAddress, lanesBody}
+use Rattle.model.specs.Memory.{at, wide, sizes, slotWord, laneWord, readChain, readChains, readQueue}
+use Rattle.model.specs.Legal.{endsInRange, queuesInRange, laneLinksInRange, slotOrNone as inRange}
 use Rattle.laws.specs.Tests.{every-true, and-true, and-intro, or-left, or-right, all-below, clash}
 use Rattle.laws.specs.Lists.{getD-replicate-default}
 use Rattle.laws.specs.Counts.{count-append}
-use Rattle.distinct_codes.specs.Cells.{cellsOf, spread, codeAt, Held, held, Places, Room}
-use Rattle.distinct_codes.specs.Cells.{clash as repeated}
+use Rattle.distinct_codes.specs.Cells.{cellsOf, spread, codeAt, held, Places}
 use Rattle.distinct_codes.proofs.CellLaws.{meets-told, meets-twice}
-use Rattle.slot_places.specs.Slots.{slotOrNone, productInRange, chainedFits, queuedFits, freeAt as blankAt, retiredAt}
-use Rattle.slot_places.specs.Steps.{Step, Outcome, spoilt, painted, run, slotsOf, several, chainSteps, linkSteps, queueSteps, laneSteps, unmarked, Counted, Ready, entersAll, Enters, Runs}
+use Rattle.slot_places.specs.Slots.{slotOrNone, productInRange, chainedFits, queuedFits}
+use Rattle.slot_places.specs.Steps.{Step, Outcome, spoilt, painted, run, slotsOf, several, queueCount, chainSteps, linkSteps, queueSteps, laneSteps, unmarked, Counted, Ready, entersAll, Enters, Runs}
 use Rattle.slot_places.proofs.StepLaws.{unlike, going, run-append, unmarked-all, unmarked-none, unmarked-some}
 use Rattle.slot_places.proofs.Marked.{checks, marks-are, marks-most, marks-checked, Spoilt, failed, doubled, spoilt-why}
 use Rattle.slot_places.proofs.Places.{Told, checks-both, both-check, told-append, told-several, several-check, check-several, walks-begin, walks-told, told-walks}
 use Rattle.engine_legality.specs.Sentences.{engineLegal}
 use Rattle.legality.specs.Parts.{Table, tableLegal, queuedSteps, Lent}
-use Rattle.legality.proofs.StepsRead.{S, base, laneTotal, chainPart, freePart, threeSteps, lanePart, queuedPart, chain-slots, link-slots, chains-are, free-count, retired-count, all-count, steps-right, queue-last, steps-lasts, lasts-steps}
-use Rattle.legality.proofs.TableSaid.{chainedCount, freeCount, retiredCount, TableSaid, chain-below, queue-below-at, chain-chained, chained-below, table-said, said-table}
+use Rattle.legality.proofs.StepsRead.{S, base, laneTotal, chainPart, freePart, threeSteps, lanePart, queuedPart, chain-slots, chains-are, free-count, retired-count, all-count, steps-right, queue-last, steps-lasts, lasts-steps}
+use Rattle.legality.proofs.TableSaid.{chainedCount, freeCount, retiredCount, TableSaid, chain-below, queue-below-at, chain-chained, table-said, said-table}
 
 -- a test that cannot hold fails
 refuted : (b : Bool) → (b ≡ true → ⊥) → false ≡ b
@@ -231,9 +228,9 @@ module _ (m : List ℕ) where
         (and-intro (endsInRange m (at m) a) (endsInRange m (at m) (a + currentOffset)) (given 0 a (omega arith) (omega arith)) (given 1 (a + currentOffset) (omega arith) (omega arith)))
         (given 2 (a + doneOffset) (omega arith) (omega arith))
       where
-        given : (j x : ℕ) → j < 3 → a + queueWidth * j ≡ x → endsInRange m (at m) x ≡ true
+        given : (j x : ℕ) → j < queueCount → a + queueWidth * j ≡ x → endsInRange m (at m) x ≡ true
         given j x b e =
-            subst (λ (y : ℕ). endsInRange m (at m) y ≡ true) e (ends-said false (a + queueWidth * j) (several-check (queueSteps m (base m) (S m) false) queueWidth a 3 h j b))
+            subst (λ (y : ℕ). endsInRange m (at m) y ≡ true) e (ends-said false (a + queueWidth * j) (several-check (queueSteps m (base m) (S m) false) queueWidth a queueCount h j b))
 
     head-said : (k : ℕ) → k < chainCount → slotOrNone (S m) (at m (headsAt + k)) ≡ true
     head-said k b =
@@ -289,26 +286,26 @@ module _ (m : List ℕ) where
 
 -- ---- the same for the addresses that the code has
 
-module _ (m : List ℕ) (base lane n : ℕ) (t : Table m base lane n) (few : Bool) (s k a : List ℕ) (l : Lent few (at m 3) s k a) where
+module _ (m : List ℕ) (base lane n : ℕ) (t : Table m base lane n) (few : Bool) (s k a : List ℕ) (l : Lent few (at m slotsAt) s k a) where
   abbrev chainSide : List Step
-  chainSide = several (chainSteps m base (at m 3)) 1 0 chainCount
+  chainSide = several (chainSteps m base (at m slotsAt)) 1 0 chainCount
 
   abbrev queueSide : List Step
-  queueSide = queuedSteps m base lane n (at m 3)
+  queueSide = queuedSteps m base lane n (at m slotsAt)
 
   same-chains : chainSide ≡ chainPart m
-  same-chains = ap (λ (x : ℕ). several (chainSteps m x (at m 3)) 1 0 chainCount) (t .slots)
+  same-chains = ap (λ (x : ℕ). several (chainSteps m x (at m slotsAt)) 1 0 chainCount) (t .slots)
 
   same-queues : queueSide ≡ queuedPart m
-  same-queues = ap₂ (λ (x y : ℕ). queuedSteps m x y n (at m 3)) (t .slots) (t .lanes) ∙ ap (λ (y : ℕ). queuedSteps m (slotsBody (sizes m)) (lanesBody (sizes m)) y (at m 3)) (t .count)
+  same-queues = ap₂ (λ (x y : ℕ). queuedSteps m x y n (at m slotsAt)) (t .slots) (t .lanes) ∙ ap (λ (y : ℕ). queuedSteps m (slotsBody (sizes m)) (lanesBody (sizes m)) y (at m slotsAt)) (t .count)
 
   same-steps : chainSide ++ queueSide ≡ chainPart m ++ queuedPart m
   same-steps = ap₂ _++_ same-chains same-queues
 
   -- what the chains ask for
-  pub chains-asks : Counted m base (at m 3) s (at m 3) × Ready m base (at m 3) few k a 0 (at m 3) × (masksAt ≤ length m)
+  pub chains-asks : Counted m base (at m slotsAt) s (at m slotsAt) × Ready m base (at m slotsAt) few k a 0 (at m slotsAt) × (masksAt ≤ length m)
   chains-asks = (
-    record { within = t .total; few = t .few; marks = l .markRoom; left = unmarked-all (at m 3) s (l .marks) },
+    record { within = t .total; few = t .few; marks = l .markRoom; left = unmarked-all (at m slotsAt) s (l .marks) },
     record {
       room = record {
         cells = l .cellRoom;
@@ -332,12 +329,12 @@ module _ (m : List ℕ) (base lane n : ℕ) (t : Table m base lane n) (few : Boo
   codes-same =
       ap₂ (λ (x : ℕ) (xs : List ℕ). distinct (map (codeAt m x) xs)) (t .slots) (ap slotsOf same-chains ∙ chains-are m)
 
-  module _ (r : Bool) (x y : ℕ) (u j b : List ℕ) (w : Enters m base (at m 3) few chainSide s k a 0 r x y u j b) where
+  module _ (r : Bool) (x y : ℕ) (u j b : List ℕ) (w : Enters m base (at m slotsAt) few chainSide s k a 0 r x y u j b) where
     pub table-chains : r ≡ false → false ≡ tableLegal m
     unfolding going
     table-chains e = go r w e
       where
-        go : (r : Bool) → Enters m base (at m 3) few chainSide s k a 0 r x y u j b → r ≡ false → false ≡ tableLegal m
+        go : (r : Bool) → Enters m base (at m slotsAt) few chainSide s k a 0 r x y u j b → r ≡ false → false ≡ tableLegal m
         go false (Enters.spoils q) e =
             spoilt-table m s (l .marks) (l .markRoom) (t .engine)
             (ap (λ (ps : List Step). run ps s) (sym same-steps) ∙ run-append chainSide queueSide s ∙ ap (λ (o : Outcome). going o queueSide) q)
@@ -346,23 +343,23 @@ module _ (m : List ℕ) (base lane n : ℕ) (t : Table m base lane n) (few : Boo
         go true (Enters.passes q f c g) e = absurd (unlike (sym e))
 
     module _ (e : r ≡ true) where
-      passed : (run chainSide s ≡ painted u) × (entersAll m base (at m 3) few chainSide k a 0 ≡ held j (take y b)) × Counted m base (at m 3) u x × Ready m base (at m 3) few j b y x
+      passed : (run chainSide s ≡ painted u) × (entersAll m base (at m slotsAt) few chainSide k a 0 ≡ held j (take y b)) × Counted m base (at m slotsAt) u x × Ready m base (at m slotsAt) few j b y x
       passed = go r w e
         where
-          go : (r : Bool) → Enters m base (at m 3) few chainSide s k a 0 r x y u j b → r ≡ true
-              → (run chainSide s ≡ painted u) × (entersAll m base (at m 3) few chainSide k a 0 ≡ held j (take y b)) × Counted m base (at m 3) u x × Ready m base (at m 3) few j b y x
+          go : (r : Bool) → Enters m base (at m slotsAt) few chainSide s k a 0 r x y u j b → r ≡ true
+              → (run chainSide s ≡ painted u) × (entersAll m base (at m slotsAt) few chainSide k a 0 ≡ held j (take y b)) × Counted m base (at m slotsAt) u x × Ready m base (at m slotsAt) few j b y x
           go false (Enters.spoils q) e = absurd (unlike e)
           go false (Enters.repeats q) e = absurd (unlike e)
           go true (Enters.passes q f c g) e = (q, f, c, g)
 
       -- what the queues ask for, and the codes put aside
-      pub queues-asks : Counted m base (at m 3) u x × (masksAt ≤ length m) × (lane + laneLength * n ≤ length m)
+      pub queues-asks : Counted m base (at m slotsAt) u x × (masksAt ≤ length m) × (lane + laneLength * n ≤ length m)
       queues-asks = (passed .2, omega (arith, t .total, t .slots), omega (arith, t .total, t .slots, t .lanes, t .count))
 
       pub apart-asks : Places m base b y × (y ≤ maxSlots)
       apart-asks = (passed .3 .room .aside, omega (arith, passed .3 .most, t .few))
 
-      module _ (v : Bool) (z : ℕ) (o : List ℕ) (q : Runs m base (at m 3) queueSide u v z o) where
+      module _ (v : Bool) (z : ℕ) (o : List ℕ) (q : Runs m base (at m slotsAt) queueSide u v z o) where
         both : run (chainPart m ++ queuedPart m) s ≡ run queueSide u
         unfolding going
         both = ap (λ (ps : List Step). run ps s) (sym same-steps) ∙ run-append chainSide queueSide s ∙ ap (λ (o : Outcome). going o queueSide) (passed .0)
@@ -370,15 +367,15 @@ module _ (m : List ℕ) (base lane n : ℕ) (t : Table m base lane n) (few : Boo
         pub table-queues : v ≡ false → false ≡ tableLegal m
         table-queues h = go v q h
           where
-            go : (v : Bool) → Runs m base (at m 3) queueSide u v z o → v ≡ false → false ≡ tableLegal m
+            go : (v : Bool) → Runs m base (at m slotsAt) queueSide u v z o → v ≡ false → false ≡ tableLegal m
             go false (Runs.spoils f) h = spoilt-table m s (l .marks) (l .markRoom) (t .engine) (both ∙ f)
             go true (Runs.passes f c) h = absurd (unlike (sym h))
 
         module _ (h : v ≡ true) where
-          ended : (run queueSide u ≡ painted o) × Counted m base (at m 3) o z
+          ended : (run queueSide u ≡ painted o) × Counted m base (at m slotsAt) o z
           ended = go v q h
             where
-              go : (v : Bool) → Runs m base (at m 3) queueSide u v z o → v ≡ true → (run queueSide u ≡ painted o) × Counted m base (at m 3) o z
+              go : (v : Bool) → Runs m base (at m slotsAt) queueSide u v z o → v ≡ true → (run queueSide u ≡ painted o) × Counted m base (at m slotsAt) o z
               go false (Runs.spoils f) h = absurd (unlike h)
               go true (Runs.passes f c) h = (f, c)
 

@@ -9,7 +9,7 @@ use Rattle.model.specs.Layout.{maxSlots, chainCount, headsAt, laneLength, slotL
 use Rattle.model.specs.Rules.{wrongProduct}
 use Rattle.model.specs.Memory.{at, wide, sizes, slotWord, state}
 use Rattle.model.specs.Legal.{slotNumbers, slotOrNone, endsInRange, queuesInRange, standsOnce, lastsAgree, onTheirChains, noCodeTwice, queueLinksAtRest, freeBlank}
-use Rattle.slot_places.specs.Steps.{Step, several, queueSteps, laneSteps}
+use Rattle.slot_places.specs.Steps.{Step, several, queueCount, queueSteps, laneSteps}
 use Rattle.distinct_codes.specs.Cells.{cellsOf}
 use Rattle.engine_legality.specs.Sentences.{engineLegal}
 
@@ -53,7 +53,7 @@ module _ (m : List ℕ) where
 unfoldable pub queuedSteps : List ℕ → ℕ → ℕ → ℕ → ℕ → List Step
 queuedSteps m base lane n S =
     several (queueSteps m base S true) queueWidth freeAt 1
-    ++ (several (queueSteps m base S false) queueWidth globalQueuesAt 3 ++ several (laneSteps m base S) laneLength lane n)
+    ++ (several (queueSteps m base S false) queueWidth globalQueuesAt queueCount ++ several (laneSteps m base S) laneLength lane n)
 
 -- the marks, the cells and the slots put aside as they are lent: all 0
 pub record Lent (few : Bool) (S : ℕ) (s k a : List ℕ) : Type 0 where

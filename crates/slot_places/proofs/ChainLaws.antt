@@ -1,17 +1,17 @@
 -- A chain on its way: a law for each way out of the loop that walks it, and lists of steps one after the other.
-use Prim.Native.Nat.{ℕ, zero, suc, _+_, _*_, _-_, _≤_, _<_}
+use Prim.Native.Nat.{ℕ, _+_, _*_, _-_, _≤_, _<_}
 use mathlib.Core.Bool.{Bool, true, false}
 use mathlib.Core.Path.{_≡_, refl, ap, sym, _∙_, subst}
-use mathlib.Core.List.{List, [], _∷_, _++_}
+use mathlib.Core.List.{List, [], _++_}
 use native.Mathlib.Omega.{arith}
 use lib.ListN.{getD, set, length, take}
 use Rattle.model.specs.Word.{none}
 use Rattle.model.specs.Layout.{maxSlots, headsAt, slotLength, chainLinkAt}
 use Rattle.model.specs.Memory.{at}
-use Rattle.distinct_codes.specs.Cells.{cellsOf, spread, codeAt, Held, clash, held, meet, meets, Room, Meets}
+use Rattle.distinct_codes.specs.Cells.{cellsOf, spread, codeAt, Held, held, meets, Room, Meets}
 use Rattle.distinct_codes.proofs.CellLaws.{meets-clash, meets-append}
 use Rattle.slot_places.specs.Slots.{chainedFits}
-use Rattle.slot_places.specs.Steps.{Step, Outcome, spoilt, painted, met, run, slotsOf, several, chainSteps, Counted, Ready, entersAll, Enters, spoils, repeats, passes}
+use Rattle.slot_places.specs.Steps.{Step, Outcome, met, run, slotsOf, several, chainSteps, Counted, Ready, entersAll, Enters, spoils, repeats, passes}
 use Rattle.slot_places.proofs.StepLaws.{unlike, going, run-append, slotsOf-append, several-on, several-done, Going, going-start, going-ends, going-astray, going-twice, going-next, going-unfit, going-left, going-on}
 
 module _ (m : List ℕ) (base slots : ℕ) (few : Bool) where

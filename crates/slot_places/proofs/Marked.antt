@@ -1,16 +1,16 @@
 -- What the marks say after the steps: how often each slot was marked, and that each check held; or why the steps are spoilt.
-use Prim.Native.Nat.{ℕ, zero, suc, _+_, _*_, _-_, _≤_, _<_}
+use Prim.Native.Nat.{ℕ, zero, suc, _+_, _-_, _≤_, _<_}
 use mathlib.Core.Bool.{Bool, true, false, cond, _&&_}
 use mathlib.Core.Path.{_≡_, refl, ap, sym, _∙_}
-use mathlib.Core.List.{List, [], _∷_, _++_}
+use mathlib.Core.List.{List, [], _∷_}
 use native.Mathlib.Omega.{arith}
 use lib.ListN.{getD, set, length, length-set}
 use lib.Dec.{eqb}
-use borrow.Author.Tests.{eq-eqb, ne-eqb}
+use borrow.Author.Tests.{eq-eqb}
 use Rattle.model.specs.Lists.{count}
-use Rattle.laws.specs.Tests.{Same, same, other, decide}
+use Rattle.laws.specs.Tests.{same, other, decide}
 use Rattle.laws.specs.Lists.{getD-set}
-use Rattle.slot_places.specs.Steps.{Step, put, check, Outcome, spoilt, painted, met, run, slotsOf}
+use Rattle.slot_places.specs.Steps.{Step, put, check, spoilt, painted, met, run, slotsOf}
 
 unfoldable pub checks : List Step → Bool
 checks [] = true

@@ -1,19 +1,19 @@
 -- What steps mark and check, joined from parts: lists one after the other, several, and a walk, whose links are in range exactly where its last is
 -- none.
-use Prim.Native.Nat.{ℕ, zero, suc, _+_, _*_, _-_, _≤_, _<_}
-use mathlib.Core.Bool.{Bool, true, false, cond, _&&_, _||_}
-use mathlib.Core.Path.{_≡_, refl, ap, ap₂, sym, _∙_, subst}
+use Prim.Native.Nat.{ℕ, zero, suc, _+_, _*_, _-_, _<_}
+use mathlib.Core.Bool.{Bool, true, false, cond, _&&_}
+use mathlib.Core.Path.{_≡_, refl, ap, sym, _∙_, subst}
 use mathlib.Core.List.{List, [], _∷_, _++_}
 use native.Mathlib.Omega.{arith}
 use native.Mathlib.Decide.{decLt}
 use native.Mathlib.Nat.{mul-suc}
-use lib.Dec.{leb, ltb, eqb}
-use borrow.Author.Tests.{eq-eqb, eqb-true, le-leb, lt-leb, lt-ltb, le-ltb}
+use lib.Dec.{ltb, eqb}
+use borrow.Author.Tests.{eq-eqb, le-leb, lt-leb, lt-ltb, le-ltb}
 use Rattle.model.specs.Word.{none}
 use Rattle.model.specs.Lists.{count}
 use Rattle.model.specs.Layout.{slotLength}
 use Rattle.model.specs.Memory.{at}
-use Rattle.laws.specs.Tests.{Same, same, other, decide, and-true, and-intro, or-cases, or-left, or-right, clash}
+use Rattle.laws.specs.Tests.{same, other, decide, and-true, and-intro, or-cases, or-left, or-right, clash}
 use Rattle.laws.specs.Counts.{count-append}
 use Rattle.slot_places.specs.Slots.{slotOrNone}
 use Rattle.slot_places.specs.Steps.{Step, put, check, slotsOf, several, walks}

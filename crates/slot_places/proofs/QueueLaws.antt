@@ -1,18 +1,18 @@
 -- A queue on its way: a law for each way out of the loop that walks it, and lists of steps one after the other.
-use Prim.Native.Nat.{ℕ, zero, suc, _+_, _*_, _-_, _≤_, _<_}
+use Prim.Native.Nat.{ℕ, _+_, _*_, _-_, _≤_, _<_}
 use mathlib.Core.Bool.{Bool, true, false}
 use mathlib.Core.Path.{_≡_, refl, ap, sym, _∙_, subst}
 use mathlib.Core.List.{List, [], _∷_, _++_}
 use native.Mathlib.Omega.{arith}
-use lib.ListN.{getD, set, length}
+use lib.ListN.{getD, set}
 use lib.Dec.{eqb}
 use borrow.Author.Tests.{eq-eqb, ne-eqb}
 use Rattle.model.specs.Word.{none}
 use Rattle.model.specs.Lists.{last}
-use Rattle.model.specs.Layout.{maxSlots, lastOffset, slotLength, queueLinkAt}
+use Rattle.model.specs.Layout.{lastOffset, slotLength, queueLinkAt}
 use Rattle.model.specs.Memory.{at}
 use Rattle.slot_places.specs.Slots.{queuedFits}
-use Rattle.slot_places.specs.Steps.{Step, check, Outcome, spoilt, painted, met, run, slotsOf, several, linkSteps, queueSteps, Counted, Runs, Walks, spoils, passes}
+use Rattle.slot_places.specs.Steps.{Step, check, Outcome, met, run, slotsOf, several, linkSteps, queueSteps, Counted, Runs, Walks, spoils, passes}
 use Rattle.slot_places.proofs.StepLaws.{unlike, going, run-append, several-on, several-done, Going, going-start, going-ends, going-astray, going-twice, going-unfit, going-left, going-on}
 
 -- the last of a list, d where it has none

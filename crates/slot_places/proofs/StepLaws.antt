@@ -1,18 +1,17 @@
 -- The steps of the walks, for the loops that make them: the marks, a walk on its way, and steps one after the other.
 use Prim.Native.Nat.{ℕ, zero, suc, _+_, _*_, _-_, _≤_, _<_}
-use mathlib.Core.Bool.{Bool, true, false, cond}
+use mathlib.Core.Bool.{Bool, true, false}
 use mathlib.Core.Path.{_≡_, refl, ap, sym, _∙_, subst}
 use mathlib.Core.List.{List, [], _∷_, _++_}
 use native.Mathlib.Omega.{arith}
 use lib.ListN.{getD, set, length, length-set}
-use lib.Dec.{leb, eqb}
+use lib.Dec.{eqb}
 use lib.Seq.{getD-set-same, getD-set-other}
 use borrow.Author.Tests.{eq-eqb, ne-eqb, le-leb, lt-leb}
 use Rattle.model.specs.Word.{none}
-use Rattle.model.specs.Lists.{last}
 use Rattle.model.specs.Layout.{slotLength}
 use Rattle.model.specs.Memory.{at}
-use Rattle.laws.specs.Tests.{Same, same, other, decide}
+use Rattle.laws.specs.Tests.{same, other, decide}
 use Rattle.slot_places.specs.Steps.{Step, put, check, Outcome, spoilt, painted, met, run, slotsOf, several, walks, unmarked, Counted}
 
 pub unlike : false ≡ true → ⊥

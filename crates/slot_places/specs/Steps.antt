@@ -1,11 +1,11 @@
 -- The walks along the links as lists of steps, each of which marks a slot that has no mark, or checks something. Clients cite `walks` and what is
 -- made of it, `Counted` and `Passes`.
 use Prim.Native.Nat.{ℕ, zero, suc, _+_, _*_, _≤_}
-use mathlib.Core.Bool.{Bool, true, false, cond, _||_}
+use mathlib.Core.Bool.{Bool, true, false, cond}
 use mathlib.Core.Path.{_≡_}
 use mathlib.Core.List.{List, [], _∷_, _++_}
 use lib.ListN.{getD, set, length, take}
-use lib.Dec.{leb, ltb, eqb}
+use lib.Dec.{leb, eqb}
 use Rattle.model.specs.Word.{none}
 use Rattle.model.specs.Lists.{last}
 use Rattle.model.specs.Layout.{maxSlots, headsAt, lastOffset, queueWidth, queuesAt, slotLength, chainLinkAt, queueLinkAt}
@@ -56,6 +56,10 @@ module _ (m : List ℕ) (field slots : ℕ) (fits : ℕ → Bool) where
 
 -- ---- the places of a memory, slot 0's words beginning at base
 
+-- the queues of a lane, and the global ones
+abbrev pub queueCount : ℕ
+queueCount = 3
+
 module _ (m : List ℕ) (base slots : ℕ) where
   -- chain k
   abbrev pub chainSteps : ℕ → List Step
@@ -71,7 +75,7 @@ module _ (m : List ℕ) (base slots : ℕ) where
 
   -- next, current and done
   abbrev pub retiredSteps : ℕ → List Step
-  retiredSteps a = several (queueSteps false) queueWidth a 3
+  retiredSteps a = several (queueSteps false) queueWidth a queueCount
 
   -- those of the lane whose words begin at a
   abbrev pub laneSteps : ℕ → List Step

@@ -178,7 +178,7 @@ loop-again c =
       i .2,
       c .node4 .ensures,
       omega arith,
-      omega (arith, c .node4 .ensures, entry .pre .3 .within (at-roots .roots .result + 8 * (at-loop .loop .v - 1) + at-loop .loop .digits % 8)),
+      omega (arith, c .node4 .ensures, entry .pre .3 .within (at-roots .roots .result + branches * (at-loop .loop .v - 1) + at-loop .loop .digits % branches)),
       step-on _ _ _ _ _ _ (i .3) (at-loop-test .loop-test .taken) _ (i .1) (i .6) (λ q. at-if1 .if1 .left (e ∙ q ∙ sym (i .0))),
     )
 

@@ -1,10 +1,10 @@
 -- A law for each way out: the cell is free, its holder has the code, or it has another.
-use mathlib.Core.Path.{_≡_, ap, sym, _∙_}
+use mathlib.Core.Path.{ap, sym, _∙_}
 use native.Mathlib.Omega.{arith}
 use Rattle.distinct_codes.specs.Cells.{cellsOf, spread}
 use Rattle.distinct_codes.proofs.MeetLaws.{meet-free, meet-clash, meet-aside}
 -- A law for each way out: the cell is free, its holder has the code, or it has another.
-use mathlib.Core.Path.{_≡_, ap, sym, _∙_}
+use mathlib.Core.Path.{ap, sym, _∙_}
 use native.Mathlib.Omega.{arith}
 use Rattle.distinct_codes.specs.Cells.{cellsOf, spread}
 use Rattle.distinct_codes.proofs.MeetLaws.{meet-free, meet-clash, meet-aside}

@@ -1,5 +1,5 @@
 -- The loop's invariant: the slots from cur on lead where all lead, and their last is that of all (`Queueing`). The measure: the slots that have no mark.
-use Prim.Native.Nat.{_+_, _*_, _-_, _<_, _≤_}
+use Prim.Native.Nat.{_-_}
 use mathlib.Core.Path.{_≡_, refl}
 use native.Mathlib.Omega.{arith}
 use lib.ListN.{length}

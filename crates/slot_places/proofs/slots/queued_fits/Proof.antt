@@ -1,5 +1,4 @@
 -- A case for the free queue and one for the others.
-use mathlib.Core.Path.{_∙_, sym}
 use borrow.Author.Needs.{needs}
 use Rattle.slot_places.proofs.slots.queued_fits.Statement.{statement}
 use Rattle.slot_places.proofs.slots.queued_fits.Tie as tie
