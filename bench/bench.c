@@ -17,6 +17,7 @@
 
 #include "calls.h"
 #include "codes.h"
+#include "layout.h"
 #include "reference.h"
 
 enum { WORDS = 7456, ANSWER = 5, ROUNDS = 200, ROUND_NANOSECONDS = 200000, CHANGES = 64, CODES = 1025 };
@@ -112,7 +113,7 @@ static uint64_t code_of(enum use use, uint32_t n)
 		*code = code_of_cell(codes[use], n, n % use_chains[use]);
 		break;
 	default:
-		*code = CODE_OF_ALL(n);
+		*code = CODE_OF_CHAIN(n % CHAINS, n / CHAINS);
 	}
 	return *code;
 }
