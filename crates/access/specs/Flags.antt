@@ -15,8 +15,8 @@ use Rattle.model.specs.Memory.{at, flag, flags, laneWords, sizes, state}
 use Rattle.laws.specs.Masks.{flag-mask}
 use Rattle.masks.specs.Bits.{width, withBit, withoutBit}
 use Rattle.masks.proofs.BitLaws.{withBit-mask, withoutBit-mask}
-use Rattle.representation.specs.Fields.{lane}
-use Rattle.representation.specs.Memories.{Sound}
+use Rattle.representation.proofs.Addresses.Fields.{lane}
+use Rattle.representation.specs.Sound.{Sound}
 use Rattle.access.specs.Ways.{shown}
 
 -- ---- a bit put into a word

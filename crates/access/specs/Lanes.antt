@@ -13,9 +13,9 @@ use Rattle.model.specs.Memory.{at, sizes, state}
 use Rattle.model.specs.Layout.{headsAt}
 use Rattle.model.specs.Lists.{first}
 use Rattle.model.specs.Table.{chainNumber, chainOf}
-use Rattle.representation.specs.Accepted.{lane-accepted}
-use Rattle.representation.specs.Memories.{Sound}
-use Rattle.changes.specs.ChainChanges.{head-shown}
+use Rattle.representation.proofs.Causes.Accepted.{lane-accepted}
+use Rattle.representation.specs.Sound.{Sound}
+use Rattle.changes.proofs.OfChains.ChainChanges.{head-shown}
 use Rattle.access.specs.Ways.{shown, inRange}
 
 -- a lane of a legal memory

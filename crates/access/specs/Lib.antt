@@ -1,6 +1,5 @@
 -- The calls: what each promises, and what the tests that every call makes say.
 pub mod Contract
 pub mod Ways
-pub mod Refusals
 pub mod Flags
 pub mod Lanes

@@ -11,13 +11,13 @@ use Rattle.model.specs.Rules.{Op, refused, refusal, answer, answerOf, next, nex
 use Rattle.model.specs.Memory.{Words, sizes, state}
 use Rattle.model.specs.Legal.{legal}
 use Rattle.model.specs.Calls.{on-state, stored}
-use Rattle.representation.specs.Facts.{SizesFit}
-use Rattle.representation.specs.WellFormed.{WellFormed}
-use Rattle.representation.specs.Standing.{fit}
-use Rattle.representation.specs.Round.{ready, stored-state}
-use Rattle.representation.specs.MemoryCalls.{reply-illegal, left-illegal, reply-legal, left-legal}
-use Rattle.representation.specs.Memories.{Sound}
-use Rattle.representation.specs.Accepted.{Accepted, accepts}
+use Rattle.representation.proofs.Sentences.Facts.{SizesFit}
+use Rattle.representation.proofs.WellFormed.{WellFormed}
+use Rattle.representation.proofs.FromState.Standing.{fit}
+use Rattle.representation.proofs.Round.{ready, stored-state}
+use Rattle.representation.proofs.MemoryCalls.{reply-illegal, left-illegal, reply-legal, left-legal}
+use Rattle.representation.specs.Sound.{Sound}
+use Rattle.representation.proofs.Causes.Accepted.{Accepted, accepts}
 use Rattle.changes.specs.Shows.{Shows, shows-state}
 use Rattle.access.specs.declared.Answer.{Answer}
 use Rattle.access.specs.Contract.{five, Does}

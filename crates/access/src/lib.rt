@@ -11,7 +11,7 @@ ghost use Rattle.model.specs.Lists.{first};
 ghost use Rattle.model.specs.Table.{chainNumber, chainOf};
 ghost use Rattle.model.specs.Rules.{refused as refusedWords, accepted as acceptedWords, firstOf, noSuchLane, ofLane, laneOf, wrongCode};
 ghost use Rattle.model.specs.Memory.{at, flag, sizes, state};
-ghost use Rattle.representation.specs.Memories.{Sound};
+ghost use Rattle.representation.specs.Sound.{Sound};
 ghost use Rattle.masks.specs.Bits.{width};
 ghost use Rattle.access.specs.Contract.{five};
 ghost use Rattle.access.specs.Flags.{withFlag, flagPut};

@@ -10,8 +10,8 @@ use Rattle.model.specs.Layout.{currentOffset, doneOffset, queuesWidth, queuesAt
 use Rattle.model.specs.Rules.{queued, queuedIn}
 use Rattle.model.specs.Memory.{at, walk, slotField, readQueue, sizes}
 use Rattle.laws.specs.Walks.{walk-stop, walk-on}
-use Rattle.representation.specs.Reading.{length-slotField, getD-slotField}
-use Rattle.representation.specs.Memories.{Sound}
+use Rattle.representation.proofs.FromMemory.Reading.{length-slotField, getD-slotField}
+use Rattle.representation.specs.Sound.{Sound}
 use Rattle.changes.specs.Queues.{Part, partAt}
 use Rattle.access.specs.Ways.{long}
 

@@ -8,7 +8,7 @@ ghost use Rattle.model.specs.Lists.{first as Lists·first};
 ghost use Rattle.model.specs.Rules.{pendingFrom, queuedIn, awaited as awaiting};
 ghost use Rattle.model.specs.Memory.{state};
 ghost use Rattle.model.specs.Calls.{on-state};
-ghost use Rattle.representation.specs.Memories.{Sound};
+ghost use Rattle.representation.specs.Sound.{Sound};
 ghost use Rattle.access.specs.Contract.{Does};
 ghost use Rattle.awaited.specs.Lengths.{queueFrom, ownerLength, retiredLength, LinksAt, QueueAt, OwnerAt};
 

@@ -12,9 +12,9 @@ use Rattle.model.specs.Layout.{total}
 use Rattle.model.specs.Memory.{Words, words, state}
 use Rattle.model.specs.Legal.{legal}
 use Rattle.model.specs.Calls.{stored}
-use Rattle.representation.specs.Fields.{value}
-use Rattle.representation.specs.Writes.{Image, length-words, length-stored, stored-image, writes-none, writes-done}
-use Rattle.representation.specs.Round.{ready}
+use Rattle.representation.proofs.Addresses.Fields.{value}
+use Rattle.representation.proofs.Addresses.Writes.{Image, length-words, length-stored, stored-image, writes-none, writes-done}
+use Rattle.representation.proofs.Round.{ready}
 
 -- the first words of m are those of s
 pub record Shows (m : List ℕ) (s : State) : Type 0 where

@@ -14,8 +14,8 @@ use Rattle.model.specs.Rules.{Answer, Op, accepted, refused, result, performed,
 use Rattle.model.specs.Memory.{Words, state}
 use Rattle.model.specs.Calls.{Call, set-up, on-state, sized, stored, refusalOf}
 use Rattle.model.specs.Ledger.{Event, Demand}
-use Rattle.representation.specs.Memories.{Sound}
-use Rattle.representation.specs.Round.{OneToOne}
+use Rattle.representation.specs.Sound.{Sound}
+use Rattle.representation.proofs.Round.{OneToOne}
 use Rattle.product_table.specs.Called.{answerLength, shortAnswer, answerWords, Called}
 
 -- ---- what a call returned and left

@@ -13,10 +13,11 @@ use Rattle.model.specs.Layout.{total}
 use Rattle.model.specs.Memory.{Words, state}
 use Rattle.model.specs.Calls.{Call, set-up, on-state, sized, stored, refusalOf, replyOf, leftOf, reply, left, leftAll}
 use Rattle.model.specs.Ledger.{Event, events, Demand, RefusesSetUps}
-use Rattle.representation.specs.MemoryCalls.{reply-legal, left-legal, left-state, setUp-legal, setUp-state, setUp-words, left-setUp}
-use Rattle.representation.specs.Memories.{Sound, left-sound}
-use Rattle.representation.specs.Round.{one-to-one}
-use Rattle.history.specs.Demand3.{demand3 as listed}
+use Rattle.representation.proofs.MemoryCalls.{reply-legal, left-legal, left-state, setUp-legal, setUp-state, setUp-words, left-setUp}
+use Rattle.representation.specs.Sound.{Sound}
+use Rattle.representation.proofs.Memories.{left-sound}
+use Rattle.representation.proofs.Round.{one-to-one}
+use Rattle.history.proofs.Demand3.{demand3 as listed}
 use Rattle.product_table.specs.Called.{answerLength, shortAnswer, Called}
 use Rattle.demands.specs.Demands.{Answered, workAnswer, workState, Demand1, Run, Ran, lastMemory, NoSetUps, callsOf}
 use Rattle.demands.specs.Demands.{FollowsRules, SetsUp, stateAfter, Demand2, eventsOf, Demand3}

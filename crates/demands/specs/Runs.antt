@@ -13,8 +13,9 @@ use Rattle.model.specs.Rules.{Answer, next}
 use Rattle.model.specs.Memory.{state}
 use Rattle.model.specs.Calls.{Call, set-up, on-state, reply, left, leftAll}
 use Rattle.model.specs.Ledger.{Event, events, RefusesSetUps}
-use Rattle.representation.specs.MemoryCalls.{refused-keeps, left-state}
-use Rattle.representation.specs.Memories.{Sound, left-sound}
+use Rattle.representation.proofs.MemoryCalls.{refused-keeps, left-state}
+use Rattle.representation.specs.Sound.{Sound}
+use Rattle.representation.proofs.Memories.{left-sound}
 use Rattle.product_table.specs.Called.{answerLength, shortAnswer, answerWords, Outcome, outcomeOf, Called}
 use Rattle.demands.specs.Demands.{NotMade, Answered, Run, Ran, lastMemory, NoSetUp, NoSetUps, isShort, callOf, callsOf, stateAfter}
 use Rattle.demands.specs.Demands.{answerIn, eventOf, eventsOf}

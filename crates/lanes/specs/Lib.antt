@@ -1,7 +1,4 @@
 -- The lane record, how it stands in the words of a memory, what the rules do to it, and a cabinet's part.
-pub mod Offsets
 pub mod Record
-pub mod RecordLaws
 pub mod Changes
 pub mod Cabinet
-pub mod CabinetLaws

@@ -9,13 +9,13 @@ use Rattle.model.specs.State.{Sizes, State}
 use Rattle.model.specs.Rules.{off, clock, zeros, accepted, firstOf, ofLane, causes, refusal, result, performed}
 use Rattle.model.specs.Memory.{at, sizes, state}
 use Rattle.model.specs.Calls.{on-state, stored}
-use Rattle.representation.specs.Memories.{Sound}
+use Rattle.representation.specs.Sound.{Sound}
 use Rattle.engine.specs.Release.{TableLent}
 use Rattle.engine.specs.Off.{offWords}
-use Rattle.engine.specs.OffLaws.{off-stored}
-use Rattle.engine.specs.Lends.{table-lent-shown}
+use Rattle.engine.proofs.OffLaws.{off-stored}
+use Rattle.engine.proofs.Lends.{table-lent-shown}
 use Rattle.engine.specs.Clock.{clockWords}
-use Rattle.engine.specs.ClockLaws.{clock-stored, clock-answer}
+use Rattle.engine.proofs.ClockLaws.{clock-stored, clock-answer}
 use Rattle.periods.specs.declared.Standing.{Standing}
 use Rattle.access.specs.declared.Answer.{Answer}
 use Rattle.access.specs.Contract.{five, Does}

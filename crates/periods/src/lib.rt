@@ -9,7 +9,7 @@ ghost use Rattle.model.specs.Rules.{isOnline, refusal, off as goingOff, clock a
 ghost use Rattle.model.specs.Layout.{cabinetMaskAt};
 ghost use Rattle.model.specs.Memory.{sizes, state};
 ghost use Rattle.model.specs.Calls.{on-state};
-ghost use Rattle.representation.specs.Memories.{Sound};
+ghost use Rattle.representation.specs.Sound.{Sound};
 ghost use Rattle.access.specs.Contract.{Does};
 ghost use Rattle.access.specs.Lanes.{LaneIn};
 ghost use Rattle.periods.specs.Others.{others};

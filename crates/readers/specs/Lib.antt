@@ -1,5 +1,3 @@
--- The ways out of the calls of a reader.
-pub mod Lanes
+-- What the contracts of the readers cite: a lookup in its words, and its steps; with their laws.
 pub mod Lookups
 pub mod Steps
-pub mod Passes

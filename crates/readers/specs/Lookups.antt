@@ -13,14 +13,14 @@ use Rattle.model.specs.Engine.{setLookup}
 use Rattle.model.specs.Rules.{start, zeros, refusal, laneOf, outcome, result}
 use Rattle.model.specs.Memory.{at, wide, wholeOf, low, high, flags, lookupCode, lookupPosition, laneWords, sizes, state}
 use Rattle.model.specs.Calls.{on-state}
-use Rattle.representation.specs.WellFormed.{LookupFits}
-use Rattle.representation.specs.Memories.{Sound}
+use Rattle.representation.proofs.WellFormed.{LookupFits}
+use Rattle.representation.specs.Sound.{Sound}
 use Rattle.chains.specs.Outcome.{outcomeAt}
-use Rattle.changes.specs.Shape.{wellFormed-shape}
-use Rattle.changes.specs.Find.{outcome-shown}
-use Rattle.changes.specs.Lanes.{storedFrom}
-use Rattle.changes.specs.LaneWords.{lookupWords}
-use Rattle.changes.specs.LaneCalls.{start-stored}
+use Rattle.changes.proofs.Shape.{wellFormed-shape}
+use Rattle.changes.proofs.OfChains.Find.{outcome-shown}
+use Rattle.changes.proofs.OfLanes.Lanes.{storedFrom}
+use Rattle.changes.proofs.OfLanes.LaneWords.{lookupWords}
+use Rattle.changes.proofs.OfLanes.LaneCalls.{start-stored}
 use Rattle.access.specs.declared.Answer.{Answer}
 use Rattle.access.specs.Contract.{five, Does}
 use Rattle.access.specs.Ways.{performs, passed, shown, wellFormed}

@@ -15,13 +15,13 @@ use Rattle.model.specs.Engine.{setLookup}
 use Rattle.model.specs.Rules.{Answer as Reply, step, refusal, laneOf, Outcome, going, found, absent, outcome, continued, outcomeAnswer, result}
 use Rattle.model.specs.Memory.{at, flags, lookupCode, lookupPosition, sizes, state}
 use Rattle.model.specs.Calls.{on-state}
-use Rattle.representation.specs.WellFormed.{SlotOrNone, LookupFits}
-use Rattle.representation.specs.Memories.{Sound}
+use Rattle.representation.proofs.WellFormed.{SlotOrNone, LookupFits}
+use Rattle.representation.specs.Sound.{Sound}
 use Rattle.chains.specs.Chain.{linkAddress}
-use Rattle.changes.specs.ChainChanges.{link-shown}
-use Rattle.changes.specs.Lanes.{storedFrom}
-use Rattle.changes.specs.LaneWords.{lookupWords}
-use Rattle.changes.specs.LaneCalls.{step-stored, step-going-stored}
+use Rattle.changes.proofs.OfChains.ChainChanges.{link-shown}
+use Rattle.changes.proofs.OfLanes.Lanes.{storedFrom}
+use Rattle.changes.proofs.OfLanes.LaneWords.{lookupWords}
+use Rattle.changes.proofs.OfLanes.LaneCalls.{step-stored, step-going-stored}
 use Rattle.access.specs.declared.Answer.{Answer}
 use Rattle.access.specs.Contract.{five, Does}
 use Rattle.access.specs.Ways.{performs, passed, shown, wellFormed}

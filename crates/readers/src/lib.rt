@@ -7,7 +7,7 @@ ghost use Rattle.model.specs.Layout.{laneLength};
 ghost use Rattle.model.specs.Rules.{laneOf, wrongKind, refusal, begin as beginning, end as ending, on as goingOn, start as starting, step as stepping, pass as passing, outcome, outcomeAnswer};
 ghost use Rattle.model.specs.Memory.{state};
 ghost use Rattle.model.specs.Calls.{on-state};
-ghost use Rattle.representation.specs.Memories.{Sound};
+ghost use Rattle.representation.specs.Sound.{Sound};
 ghost use Rattle.chains.specs.Outcome.{outcomeOf};
 ghost use Rattle.access.specs.Contract.{five, Does};
 ghost use Rattle.access.specs.Lanes.{LaneIn};

@@ -19,7 +19,7 @@ use Rattle.model.specs.Calls.{stored}
 use Rattle.laws.specs.Tests.{same, other, decide}
 use Rattle.laws.specs.Lists.{getD-replicate-default}
 use Rattle.laws.specs.Masks.{mask-from-none}
-use Rattle.representation.specs.Writes.{length-words}
+use Rattle.representation.proofs.Addresses.Writes.{length-words}
 use Rattle.set_up.specs.Written.{Written, after, renamed, written-front, rows, rows-alike, length-rows}
 
 -- ---- the words

@@ -1,7 +1,7 @@
 // The common way in: one function from a call to its answer, for any memory and any numbers. A call other than
 // set-up on a memory that is not legal is refused here, once for all calls.
 ghost use Rattle.model.specs.Calls.{on-state};
-ghost use Rattle.representation.specs.Memories.{Sound};
+ghost use Rattle.representation.specs.Sound.{Sound};
 ghost use Rattle.calls.specs.Calls.{opOf, callOf};
 ghost use Rattle.access.specs.Contract.{Does};
 use access::causes;

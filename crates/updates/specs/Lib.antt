@@ -1,6 +1,2 @@
--- What the contracts of `updates` cite, and the ways out of its calls.
+-- What the contracts of `updates` cite: the stores that its calls share.
 pub mod Stores
-pub mod Shown
-pub mod Deletes
-pub mod Adds
-pub mod HandBacks

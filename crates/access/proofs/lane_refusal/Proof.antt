@@ -1,5 +1,5 @@
 -- `lane_refusal` tests the causes of `ofLane` one after another.
-use Rattle.access.specs.Refusals.{refusals}
+use Rattle.access.proofs.Refusals.{refusals}
 use Rattle.access.specs.Lanes.{lane-tested}
 use borrow.Author.Needs.{needs}
 use Rattle.access.proofs.lane_refusal.Statement.{statement}

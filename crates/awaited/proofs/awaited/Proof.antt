@@ -1,8 +1,8 @@
 -- Each of the four words is counted by one function, and no word of the memory is written.
 use native.Mathlib.Omega.{arith}
 use Rattle.access.specs.Ways.{inRange, long}
-use Rattle.awaited.specs.Owners.{free-at}
-use Rattle.awaited.specs.Answers.{answered}
+use Rattle.awaited.proofs.OwnerLengths.{free-at}
+use Rattle.awaited.proofs.Answers.{answered}
 use borrow.Author.Needs.{needs}
 use Rattle.awaited.proofs.awaited.Statement.{statement}
 use Rattle.awaited.proofs.awaited.Tie as tie

@@ -10,7 +10,7 @@ use Rattle.model.specs.Memory.{sizes}
 use Rattle.access.specs.Ways.{inRange}
 use Rattle.laws.specs.Loops.{Summed, summed-start, summed-on, summed-done}
 use Rattle.awaited.specs.Lengths.{ownerLength, laneLengths}
-use Rattle.awaited.specs.Owners.{ownerQueues, lane-at, owner-few, lanes-shown}
+use Rattle.awaited.proofs.OwnerLengths.{ownerQueues, lane-at, owner-few, lanes-shown}
 use borrow.Author.Needs.{needs}
 use Rattle.awaited.proofs.lanes_length.Statement.{statement}
 use Rattle.awaited.proofs.lanes_length.Tie as tie

@@ -2,7 +2,7 @@
 use mathlib.Core.Path.{_∙_}
 use native.Mathlib.Omega.{arith}
 use Rattle.access.specs.Ways.{long}
-use Rattle.awaited.specs.Pending.{none-shown, cabinet-below, lowest-few, lowest-shown}
+use Rattle.awaited.proofs.Pending.{none-shown, cabinet-below, lowest-few, lowest-shown}
 use borrow.Author.Needs.{needs}
 use Rattle.awaited.proofs.lowest_pending.Statement.{statement}
 use Rattle.awaited.proofs.lowest_pending.Tie as tie

@@ -1,7 +1,7 @@
 -- It adds up the lengths of next, current and done.
 use native.Mathlib.Omega.{arith}
 use Rattle.changes.specs.Queues.{next, current, done}
-use Rattle.awaited.specs.Owners.{part-at, owner-few}
+use Rattle.awaited.proofs.OwnerLengths.{part-at, owner-few}
 use borrow.Author.Needs.{needs}
 use Rattle.awaited.proofs.owner_length.Statement.{statement}
 use Rattle.awaited.proofs.owner_length.Tie as tie

@@ -8,7 +8,7 @@ use denote.Ref.{now}
 use Rattle.masks.specs.Bits.{width}
 use Rattle.access.specs.Ways.{inRange, long}
 use Rattle.laws.specs.Loops.{Summed, summed-start, summed-on, summed-done}
-use Rattle.awaited.specs.Pending.{pendingOf, pending-few, count-shown}
+use Rattle.awaited.proofs.Pending.{pendingOf, pending-few, count-shown}
 use borrow.Author.Needs.{needs}
 use Rattle.awaited.proofs.pending_count.Statement.{statement}
 use Rattle.awaited.proofs.pending_count.Tie as tie

@@ -1,5 +1,5 @@
 -- Each part is read where `recordAt` has it.
-use Rattle.lanes.specs.RecordLaws.{recordAt-parts}
+use Rattle.lanes.proofs.RecordLaws.{recordAt-parts}
 use borrow.Author.Needs.{needs}
 use Rattle.lanes.proofs.read_lane.Statement.{statement}
 use Rattle.lanes.proofs.read_lane.Tie as tie

@@ -2,7 +2,7 @@
 use borrow.Author.Needs.{needs}
 use native.Mathlib.Omega.{arith}
 use lib.ListN.{length-set}
-use Rattle.lanes.specs.Offsets.{plus-1, plus-2, plus-3}
+use Rattle.lanes.proofs.Offsets.{plus-1, plus-2, plus-3}
 use Rattle.lanes.proofs.write_counts.Statement.{statement}
 use Rattle.lanes.proofs.write_counts.Tie as tie
 

@@ -1,7 +1,7 @@
 -- Two stores, one after the other.
 use native.Mathlib.Omega.{arith}
 use lib.ListN.{length-set}
-use Rattle.lanes.specs.Offsets.{plus-1}
+use Rattle.lanes.proofs.Offsets.{plus-1}
 use borrow.Author.Needs.{needs}
 use Rattle.lanes.proofs.write_ends.Statement.{statement}
 use Rattle.lanes.proofs.write_ends.Tie as tie

@@ -5,7 +5,7 @@ use native.Mathlib.Omega.{arith}
 use lib.ListN.{length, length-set}
 use denote.Ref.{now}
 use Rattle.model.specs.Layout.{laneLength}
-use Rattle.lanes.specs.RecordLaws.{recordStored-parts}
+use Rattle.lanes.proofs.RecordLaws.{recordStored-parts}
 use borrow.Author.Needs.{needs}
 use Rattle.lanes.proofs.write_lane.Statement.{statement}
 use Rattle.lanes.proofs.write_lane.Tie as tie

@@ -1,7 +1,7 @@
 -- Three stores, one after another.
 use native.Mathlib.Omega.{arith}
 use lib.ListN.{length-set}
-use Rattle.lanes.specs.Offsets.{plus-1, plus-2}
+use Rattle.lanes.proofs.Offsets.{plus-1, plus-2}
 use borrow.Author.Needs.{needs}
 use Rattle.lanes.proofs.write_lookup.Statement.{statement}
 use Rattle.lanes.proofs.write_lookup.Tie as tie

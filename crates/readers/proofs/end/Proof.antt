@@ -1,6 +1,6 @@
 -- A refused `end` changes no word, and else it puts one flag of its lane.
 use Rattle.access.specs.Ways.{refuses}
-use Rattle.readers.specs.Lanes.{end-lane, end-done}
+use Rattle.readers.proofs.FlagCalls.{end-lane, end-done}
 use borrow.Author.Needs.{needs}
 use Rattle.readers.proofs.end.Statement.{statement}
 use Rattle.readers.proofs.end.Tie as tie

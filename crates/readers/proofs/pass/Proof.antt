@@ -3,7 +3,7 @@ use mathlib.Core.Path.{_∙_}
 use native.Mathlib.Omega.{arith}
 use Rattle.access.specs.Ways.{refuses, long}
 use Rattle.access.specs.Lanes.{stands-at}
-use Rattle.readers.specs.Passes.{pass-lane, cabinet-known, change-lent, pass-done}
+use Rattle.readers.proofs.Passes.{pass-lane, cabinet-known, change-lent, pass-done}
 use borrow.Author.Needs.{needs}
 use Rattle.readers.proofs.pass.Statement.{statement}
 use Rattle.readers.proofs.pass.Tie as tie

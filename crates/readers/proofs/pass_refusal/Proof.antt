@@ -1,6 +1,6 @@
 -- The tests of `pass_refusal` are the causes of its call, in their order.
 use Rattle.model.specs.Rules.{causes}
-use Rattle.access.specs.Refusals.{refusals}
+use Rattle.access.proofs.Refusals.{refusals}
 use Rattle.access.specs.Lanes.{lane-in}
 use borrow.Author.Needs.{needs}
 use Rattle.readers.proofs.pass_refusal.Statement.{statement}

@@ -3,7 +3,7 @@ use mathlib.Core.Path.{sym, _∙_}
 use native.Mathlib.Omega.{arith}
 use denote.Ref.{now}
 use borrow.Author.Tests.{not-true, not-false}
-use Rattle.set_up.specs.Ways.{out-of-range, too-short, written}
+use Rattle.set_up.proofs.SetUpLaws.{out-of-range, too-short, written}
 use borrow.Author.Needs.{needs}
 use Rattle.set_up.proofs.set_up.Statement.{statement}
 use Rattle.set_up.proofs.set_up.Tie as tie

@@ -1,7 +1,7 @@
 -- The sizes are small, so that nothing wraps.
 use native.Mathlib.Omega.{arith}
 use Rattle.model.specs.Calls.{sized}
-use Rattle.representation.specs.Sentences.{sizes-fit}
+use Rattle.representation.proofs.Sentences.Split.{sizes-fit}
 use Rattle.set_up.proofs.total_words.Statement.{statement}
 use Rattle.set_up.proofs.total_words.Tie as tie
 

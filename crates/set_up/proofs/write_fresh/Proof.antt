@@ -3,7 +3,7 @@ use mathlib.Core.Path.{refl}
 use native.Mathlib.Omega.{arith}
 use borrow.Author.Needs.{needs}
 use Rattle.model.specs.Calls.{sized}
-use Rattle.representation.specs.Sentences.{sizes-fit}
+use Rattle.representation.proofs.Sentences.Split.{sizes-fit}
 use Rattle.set_up.specs.FreshWords.{all-written}
 use Rattle.set_up.proofs.write_fresh.Statement.{statement}
 use Rattle.set_up.proofs.write_fresh.Tie as tie

@@ -1,5 +1,5 @@
 -- Each arm makes the call of its name.
-use Rattle.table.specs.Ways.{same-call}
+use Rattle.table.proofs.CallLaws.{same-call}
 use borrow.Author.Needs.{needs}
 use Rattle.table.proofs.make_call.Statement.{statement}
 use Rattle.table.proofs.make_call.Tie as tie

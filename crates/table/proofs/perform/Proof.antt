@@ -1,5 +1,5 @@
 -- Each arm makes the call that the model's rules name, on the memory that is legal for every one of them.
-use Rattle.table.specs.Ways.{same-op}
+use Rattle.table.proofs.CallLaws.{same-op}
 use borrow.Author.Needs.{needs}
 use Rattle.table.proofs.perform.Statement.{statement}
 use Rattle.table.proofs.perform.Tie as tie

@@ -1,7 +1,7 @@
 -- A refused add changes no word; else a free slot is filled and linked at the head (`add-done`).
 use native.Mathlib.Omega.{arith}
 use Rattle.access.specs.Ways.{refuses, long}
-use Rattle.updates.specs.Adds.{add-first, add-reach, add-done}
+use Rattle.updates.proofs.Adds.{add-first, add-reach, add-done}
 use borrow.Author.Needs.{needs}
 use Rattle.updates.proofs.add.Statement.{statement}
 use Rattle.updates.proofs.add.Tie as tie

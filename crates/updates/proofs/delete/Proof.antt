@@ -1,7 +1,7 @@
 -- A refused delete changes no word; else the slot is unlinked and waits (`delete-done`).
 use native.Mathlib.Omega.{arith}
 use Rattle.access.specs.Ways.{refuses, long}
-use Rattle.updates.specs.Deletes.{delete-reach, delete-done}
+use Rattle.updates.proofs.Deletes.{delete-reach, delete-done}
 use borrow.Author.Needs.{needs}
 use Rattle.updates.proofs.delete.Statement.{statement}
 use Rattle.updates.proofs.delete.Tie as tie

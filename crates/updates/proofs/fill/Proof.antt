@@ -1,5 +1,5 @@
 -- What `write_product` leaves of what `take_first` leaves.
-use Rattle.updates.specs.Adds.{filled-by}
+use Rattle.updates.proofs.Adds.{filled-by}
 use borrow.Author.Needs.{needs}
 use Rattle.updates.proofs.fill.Statement.{statement}
 use Rattle.updates.proofs.fill.Tie as tie

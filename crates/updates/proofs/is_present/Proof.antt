@@ -4,7 +4,7 @@ use mathlib.Core.Path.{ap}
 use mathlib.Core.Bool.{not}
 use lib.Dec.{eqb}
 use Rattle.model.specs.Word.{none}
-use Rattle.updates.specs.Shown.{found-slot}
+use Rattle.updates.proofs.Shown.{found-slot}
 use borrow.Author.Needs.{needs}
 use Rattle.updates.proofs.is_present.Statement.{statement}
 use Rattle.updates.proofs.is_present.Tie as tie

@@ -1,5 +1,5 @@
 -- What `append` leaves of what `clear_slot` and `take_first` leave.
-use Rattle.updates.specs.HandBacks.{reclaimed-by}
+use Rattle.updates.proofs.HandBacks.{reclaimed-by}
 use borrow.Author.Needs.{needs}
 use Rattle.updates.proofs.reclaim.Statement.{statement}
 use Rattle.updates.proofs.reclaim.Tie as tie

@@ -1,6 +1,6 @@
 -- The tests of `replace_refusal` are the causes of its call, in their order.
 use Rattle.model.specs.Rules.{causes}
-use Rattle.access.specs.Refusals.{refusals}
+use Rattle.access.proofs.Refusals.{refusals}
 use borrow.Author.Needs.{needs}
 use Rattle.updates.proofs.replace_refusal.Statement.{statement}
 use Rattle.updates.proofs.replace_refusal.Tie as tie

@@ -2,7 +2,7 @@
 use mathlib.Core.Path.{_∙_}
 use native.Mathlib.Omega.{arith}
 use Rattle.access.specs.Ways.{inRange, long}
-use Rattle.updates.specs.Shown.{search-by}
+use Rattle.updates.proofs.Shown.{search-by}
 use borrow.Author.Needs.{needs}
 use Rattle.updates.proofs.search.Statement.{statement}
 use Rattle.updates.proofs.search.Tie as tie

@@ -1,6 +1,6 @@
 -- `engine::advance::advance`: the queue is settled, then a batch begins.
 use borrow.Author.Needs.{needs}
-use Rattle.engine.specs.AdvanceWords.{advanced-by}
+use Rattle.engine.proofs.AdvanceWords.{advanced-by}
 use Rattle.engine.proofs.advance.advance.Statement.{statement}
 use Rattle.engine.proofs.advance.advance.Tie as tie
 

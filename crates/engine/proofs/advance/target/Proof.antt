@@ -1,6 +1,6 @@
 -- `engine::advance::target`: its test is that of `targetWord`.
 use borrow.Author.Needs.{needs}
-use Rattle.engine.specs.AdvanceWords.{target-rests, target-runs}
+use Rattle.engine.proofs.AdvanceWords.{target-rests, target-runs}
 use Rattle.engine.proofs.advance.target.Statement.{statement}
 use Rattle.engine.proofs.advance.target.Tie as tie
 

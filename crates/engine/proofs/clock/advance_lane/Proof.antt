@@ -1,7 +1,7 @@
 -- The advance is at the lane's addresses.
 use denote.Ref.{now}
-use Rattle.engine.specs.PeriodWords.{cabinet-part}
-use Rattle.engine.specs.ClockWords.{lane-owner, lane-advanced}
+use Rattle.engine.proofs.PeriodWords.{cabinet-part}
+use Rattle.engine.proofs.ClockWords.{lane-owner, lane-advanced}
 use borrow.Author.Needs.{needs}
 use Rattle.engine.proofs.clock.advance_lane.Statement.{statement}
 use Rattle.engine.proofs.clock.advance_lane.Tie as tie

@@ -1,6 +1,6 @@
 -- The four steps in order.
 use borrow.Author.Needs.{needs}
-use Rattle.engine.specs.ClockWords.{clock-by}
+use Rattle.engine.proofs.ClockWords.{clock-by}
 use Rattle.engine.proofs.clock.clock.Statement.{statement}
 use Rattle.engine.proofs.clock.clock.Tie as tie
 

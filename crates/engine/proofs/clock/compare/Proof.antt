@@ -1,6 +1,6 @@
 -- The test is that of `comparedWords`.
-use Rattle.engine.specs.PeriodWords.{cabinet-part}
-use Rattle.engine.specs.ClockWords.{compared-moved, compared-rests}
+use Rattle.engine.proofs.PeriodWords.{cabinet-part}
+use Rattle.engine.proofs.ClockWords.{compared-moved, compared-rests}
 use borrow.Author.Needs.{needs}
 use Rattle.engine.proofs.clock.compare.Statement.{statement}
 use Rattle.engine.proofs.clock.compare.Tie as tie

@@ -1,6 +1,6 @@
 -- The two tests are those of `unsampledIn`.
-use Rattle.engine.specs.PeriodWords.{cabinet-part}
-use Rattle.engine.specs.ClockWords.{unsampled-by}
+use Rattle.engine.proofs.PeriodWords.{cabinet-part}
+use Rattle.engine.proofs.ClockWords.{unsampled-by}
 use borrow.Author.Needs.{needs}
 use Rattle.engine.proofs.clock.is_unsampled.Statement.{statement}
 use Rattle.engine.proofs.clock.is_unsampled.Tie as tie

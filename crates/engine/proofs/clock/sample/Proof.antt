@@ -1,7 +1,7 @@
 -- The test is that of `sampleWords`.
-use Rattle.lanes.specs.CabinetLaws.{fits-sample}
-use Rattle.engine.specs.ReleaseWords.{change-lent}
-use Rattle.engine.specs.ClockWords.{sample-copies, sample-rests}
+use Rattle.lanes.proofs.CabinetLaws.{fits-sample}
+use Rattle.engine.proofs.ReleaseWords.{change-lent}
+use Rattle.engine.proofs.ClockWords.{sample-copies, sample-rests}
 use borrow.Author.Needs.{needs}
 use Rattle.engine.proofs.clock.sample.Statement.{statement}
 use Rattle.engine.proofs.clock.sample.Tie as tie

@@ -3,7 +3,7 @@ use Prim.Native.Nat.{_+_}
 use mathlib.Core.Path.{_∙_}
 use lib.ListN.{length-set}
 use Rattle.model.specs.Layout.{generationAt}
-use Rattle.engine.specs.OffWords.{handed-by}
+use Rattle.engine.proofs.OffWords.{handed-by}
 use borrow.Author.Needs.{needs}
 use Rattle.engine.proofs.off.hand_over.Statement.{statement}
 use Rattle.engine.proofs.off.hand_over.Tie as tie

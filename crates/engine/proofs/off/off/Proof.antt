@@ -1,9 +1,9 @@
 -- The lane is marked off through the cabinet's part, its queues are handed over, then it is released and the global queues advance.
 use denote.Ref.{now}
-use Rattle.lanes.specs.CabinetLaws.{fits-leave}
-use Rattle.engine.specs.PeriodWords.{cabinet-part}
-use Rattle.engine.specs.ReleaseWords.{change-lent}
-use Rattle.engine.specs.OffWords.{off-by}
+use Rattle.lanes.proofs.CabinetLaws.{fits-leave}
+use Rattle.engine.proofs.PeriodWords.{cabinet-part}
+use Rattle.engine.proofs.ReleaseWords.{change-lent}
+use Rattle.engine.proofs.OffWords.{off-by}
 use borrow.Author.Needs.{needs}
 use Rattle.engine.proofs.off.off.Statement.{statement}
 use Rattle.engine.proofs.off.off.Tie as tie

@@ -6,7 +6,7 @@ use denote.Ref.{now}
 use borrow.Author.Tests.{ne-eqb}
 use Rattle.model.specs.Memory.{isNotZero}
 use Rattle.masks.specs.Bits.{withBit}
-use Rattle.engine.specs.PeriodWords.{cabinet-part, awaited}
+use Rattle.engine.proofs.PeriodWords.{cabinet-part, awaited}
 use borrow.Author.Needs.{needs}
 use Rattle.engine.proofs.period.await_cabinet.Statement.{statement}
 use Rattle.engine.proofs.period.await_cabinet.Tie as tie

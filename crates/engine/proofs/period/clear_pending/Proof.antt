@@ -1,5 +1,5 @@
 -- The test is that of `clearedWords`, and each arm stores what that says.
-use Rattle.engine.specs.ReleaseWords.{cleared-last, cleared-more}
+use Rattle.engine.proofs.ReleaseWords.{cleared-last, cleared-more}
 use native.Mathlib.Omega.{arith}
 use lib.ListN.{length-set}
 use borrow.Author.Needs.{needs}

@@ -4,7 +4,7 @@ use lib.ListN.{length, set, length-set}
 use denote.Ref.{now}
 use borrow.Author.Needs.{needs}
 use Rattle.model.specs.Layout.{currentGenerationAt}
-use Rattle.engine.specs.PeriodWords.{length-startedWords, ended-rests, ended-goes}
+use Rattle.engine.proofs.PeriodWords.{length-startedWords, ended-rests, ended-goes}
 use Rattle.engine.proofs.period.end_period.Statement.{statement}
 use Rattle.engine.proofs.period.end_period.Tie as tie
 

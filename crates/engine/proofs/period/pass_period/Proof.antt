@@ -1,5 +1,5 @@
 -- The test is that of `passedWords`.
-use Rattle.engine.specs.ReleaseWords.{passed-set, passed-clear}
+use Rattle.engine.proofs.ReleaseWords.{passed-set, passed-clear}
 use borrow.Author.Needs.{needs}
 use Rattle.engine.proofs.period.pass_period.Statement.{statement}
 use Rattle.engine.proofs.period.pass_period.Tie as tie

@@ -1,6 +1,6 @@
 -- The snapshot is dropped through the cabinet's part, then the bit goes.
-use Rattle.lanes.specs.CabinetLaws.{fits-drop}
-use Rattle.engine.specs.ReleaseWords.{change-lent, released-by}
+use Rattle.lanes.proofs.CabinetLaws.{fits-drop}
+use Rattle.engine.proofs.ReleaseWords.{change-lent, released-by}
 use borrow.Author.Needs.{needs}
 use Rattle.engine.proofs.period.release.Statement.{statement}
 use Rattle.engine.proofs.period.release.Tie as tie

@@ -9,7 +9,7 @@ use denote.Ref.{now}
 use borrow.Author.Needs.{needs}
 use Rattle.model.specs.Layout.{cabinetMaskAt}
 use Rattle.model.specs.Lists.{from, mask}
-use Rattle.engine.specs.PeriodWords.{lent-alike, one-more}
+use Rattle.engine.proofs.PeriodWords.{lent-alike, one-more}
 use Rattle.engine.specs.Period.{masksSet, waitingFor, startedWords}
 use Rattle.engine.proofs.period.start_period.Statement.{statement}
 use Rattle.engine.proofs.period.start_period.Tie as tie

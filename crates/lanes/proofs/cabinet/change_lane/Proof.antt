@@ -3,7 +3,7 @@ use Prim.Native.Nat.{_+_, _*_, _-_}
 use native.Mathlib.Omega.{arith}
 use denote.Ref.{now}
 use Rattle.model.specs.Layout.{laneLength}
-use Rattle.lanes.specs.CabinetLaws.{part-changed}
+use Rattle.lanes.proofs.CabinetLaws.{part-changed}
 use borrow.Author.Needs.{needs}
 use Rattle.lanes.proofs.cabinet.change_lane.Statement.{statement}
 use Rattle.lanes.proofs.cabinet.change_lane.Tie as tie

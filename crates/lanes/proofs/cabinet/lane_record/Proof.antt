@@ -4,7 +4,7 @@ use mathlib.Core.Path.{_∙_}
 use native.Mathlib.Omega.{arith}
 use denote.Ref.{now}
 use Rattle.model.specs.Layout.{laneLength}
-use Rattle.lanes.specs.CabinetLaws.{part-record}
+use Rattle.lanes.proofs.CabinetLaws.{part-record}
 use borrow.Author.Needs.{needs}
 use Rattle.lanes.proofs.cabinet.lane_record.Statement.{statement}
 use Rattle.lanes.proofs.cabinet.lane_record.Tie as tie

@@ -1,0 +1,66 @@
+-- The clock of a lane that no cause refuses: the words after it are those of the state after the call, and its answer is read from them.
+use Prim.Native.Nat.{ℕ, _+_, _*_, _/_, _%_, _<_}
+use mathlib.Core.Bool.{Bool, true, false, not, cond}
+use mathlib.Core.Path.{_≡_, refl, ap, ap₂, sym, _∙_}
+use mathlib.Core.List.{List}
+use native.Mathlib.Omega.{arith}
+use native.Mathlib.Nat.{mod-lt, div-add-mod'}
+use lib.Dec.{eqb}
+use Rattle.model.specs.State.{Sizes, State}
+use Rattle.model.specs.Layout.{currentGenerationAt, largestGenerationAt, cabinetMaskAt, slotsBody}
+use Rattle.model.specs.Engine.{runs}
+use Rattle.model.specs.Rules.{clock, accepted, clockAnswer, causes, refusal, performed, result}
+use Rattle.model.specs.Memory.{at}
+use Rattle.model.specs.Calls.{stored}
+use Rattle.representation.proofs.Causes.Passed.{clear, within}
+use Rattle.representation.proofs.FromState.Periods.{cabinet-below}
+use Rattle.representation.proofs.FromState.Standing.{fit}
+use Rattle.representation.proofs.WellFormed.{WellFormed}
+use Rattle.changes.specs.Shows.{Shows, shows-then}
+use Rattle.changes.proofs.Shape.{LaneAtEach}
+use Rattle.engine.specs.Release.{TableLent}
+use Rattle.engine.proofs.PeriodLaws.{current-shown, largest-shown, mask-shown, mask-runs}
+use Rattle.engine.proofs.Lends.{table-lent-shown}
+use Rattle.engine.specs.Clock.{clockWords}
+use Rattle.engine.proofs.ClockSteps.{clock-steps, shape-clock}
+
+-- what the clock answers of a state, read from the words that show it
+answer-shown : (s : State) (m : List ℕ) → Shows m s → LaneAtEach s
+    → accepted (at m currentGenerationAt) (at m largestGenerationAt) (cond (eqb (at m cabinetMaskAt) 0) 0 1) 0 ≡ clockAnswer (s .engine)
+answer-shown s m shows each =
+    ap₂ (λ (x y : ℕ). accepted x y (cond (eqb (at m cabinetMaskAt) 0) 0 1) 0) (current-shown s m shows) (largest-shown s m shows)
+    ∙ ap (λ (b : Bool). accepted (s .engine .current) (s .engine .largest) (cond b 0 1) 0) (ap (λ (x : ℕ). eqb x 0) (mask-shown s m shows) ∙ mask-runs s each)
+    ∙ ap (λ (x : ℕ). accepted (s .engine .current) (s .engine .largest) x 0) (turned (runs (s .engine)))
+  where
+    turned : (b : Bool) → _≡_ {A = ℕ} (cond (not b) 0 1) (cond b 1 0)
+    turned true = refl
+    turned false = refl
+
+-- lane i stands in cabinet i / places at place i % places
+pub clock-lane : (s : State) → WellFormed s → (i : ℕ) → refusal s (clock i) ≡ 0
+    → (i / s .sizes .places < s .sizes .cabinets) × (i % s .sizes .places < s .sizes .places) × (i ≡ i / s .sizes .places * s .sizes .places + i % s .sizes .places)
+unfolding causes
+clock-lane s w i h =
+    let (known, rest) = clear (causes s (clock i)) (omega arith) h in
+    let some = fit s w .somePlaces in
+    (cabinet-below s some i (within s i known), mod-lt i some, sym (div-add-mod' i (s .sizes .places)))
+
+module _ (s : State) (m : List ℕ) (shows : Shows m s) (w : WellFormed s) (c p : ℕ) (inCabinets : c < s .sizes .cabinets) (inPlaces : p < s .sizes .places) where
+  abbrev z : Sizes
+  z = s .sizes
+
+  -- the memory holds what the code asks for
+  pub clock-lent : TableLent m (z .cabinets) (z .places) (slotsBody z) (z .slots) c p
+  clock-lent = table-lent-shown s m shows (fit s w) c p inCabinets inPlaces
+
+  module _ (i : ℕ) (e : i ≡ c * z .places + p) where
+    pub clock-stored : clockWords m (z .cabinets) (z .places) (slotsBody z) (z .slots) c p ≡ stored (performed s (clock i)) m
+    clock-stored = clock-steps s m shows w c p inCabinets inPlaces ∙ ap (λ (j : ℕ). stored (performed s (clock j)) m) (sym e)
+
+    -- the answer, from the words n after the call
+    pub clock-answer : (n : List ℕ) → n ≡ stored (performed s (clock i)) m
+        → accepted (at n currentGenerationAt) (at n largestGenerationAt) (cond (eqb (at n cabinetMaskAt) 0) 0 1) 0 ≡ result s (clock i)
+    unfolding performed result
+    clock-answer n q =
+        answer-shown (performed s (clock i)) n (shows-then (performed s (clock i)) m n (shows .long) q)
+        (rw e (shape-clock s m shows w c p inCabinets inPlaces .lanes))

@@ -1,0 +1,85 @@
+-- Which change of the state the words of Off are: lane c × places + p goes off, as the model's rules say.
+use Prim.Native.Nat.{ℕ, _+_, _*_, _<_, _≤_}
+use mathlib.Core.Path.{_≡_, refl, ap, sym, _∙_}
+use mathlib.Core.List.{List}
+use native.Mathlib.Omega.{arith}
+use native.Mathlib.Nat.{mul-le-mul-right}
+use native.Mathlib.Decide.{decLt}
+use Rattle.model.specs.State.{laneCount, State}
+use Rattle.model.specs.Layout.{globalQueuesAt, globalGenerationAt, slotsBody}
+use Rattle.model.specs.Engine.{released, advancedGlobal, wentOff}
+use Rattle.model.specs.Rules.{off, causes, refusal, withEngine, performed}
+use Rattle.model.specs.Calls.{stored}
+use Rattle.representation.proofs.Causes.Passed.{clear, within}
+use Rattle.representation.proofs.WellFormed.{WellFormed}
+use Rattle.representation.proofs.FromState.Standing.{fit}
+use Rattle.lanes.specs.declared.Change.the-variants.{Leave}
+use Rattle.lanes.specs.Changes.{changedAt}
+use Rattle.lanes.proofs.CabinetLaws.{cabinetAt-lane}
+use Rattle.changes.specs.Shows.{Shows, shows-then, stored-then}
+use Rattle.changes.proofs.Shape.{wellFormed-shape}
+use Rattle.changes.proofs.OfOwners.Owners.{allLanes}
+use Rattle.engine.proofs.PeriodWords.{row-within}
+use Rattle.engine.specs.Release.{releasedWords}
+use Rattle.engine.proofs.ReleaseLaws.{released-stored, shape-released}
+use Rattle.engine.specs.Advance.{advancedWords}
+use Rattle.engine.proofs.AdvanceLaws.{advanced-stored}
+use Rattle.engine.specs.Off.{handedWords, offWords}
+use Rattle.engine.proofs.OffSteps.{gone, leftWords, left-stored, shape-left}
+
+module _ (s : State) (m : List ℕ) (shows : Shows m s) (w : WellFormed s) (c p : ℕ) (inCabinets : c < s .sizes .cabinets) (inPlaces : p < s .sizes .places) where
+  abbrev C : ℕ
+  C = s .sizes .cabinets
+
+  abbrev P : ℕ
+  P = s .sizes .places
+
+  abbrev lane-number : ℕ
+  lane-number = c * P + p
+
+  lane-within : lane-number < laneCount (s .sizes)
+  lane-within = omega (arith, row-within c C P inCabinets)
+
+  -- the global queues advance
+  abbrev advancedAll : List ℕ → List ℕ
+  advancedAll n = advancedWords n C P (slotsBody (s .sizes)) (s .sizes .slots) globalQueuesAt globalGenerationAt
+
+  -- the steps, for the lane whose record begins at a
+  abbrev stepsAt : ℕ → List ℕ
+  stepsAt a = advancedAll (releasedWords (handedWords (changedAt m a Leave) (slotsBody (s .sizes)) (s .sizes .slots) a) C P c p)
+
+  pub off-stored : offWords m C P (slotsBody (s .sizes)) (s .sizes .slots) c p ≡ stored (performed s (off lane-number)) m
+  unfolding offWords performed wentOff
+  off-stored =
+      let x = wellFormed-shape s w in
+      let f = fit s w in
+      -- left
+      let t = gone s x lane-number lane-within in
+      let n = leftWords s x lane-number lane-within m shows in
+      let q = left-stored s x lane-number lane-within m shows in
+      let y = shape-left s x lane-number lane-within m shows in
+      -- released
+      let u = withEngine t (released lane-number (t .engine)) in
+      let k = releasedWords n C P c p in
+      let r =
+      released-stored t n (shows-then t m n (shows .long) q) (y .lanes) c p inCabinets inPlaces (omega (arith, f .fewCabinets)) (omega (arith, f .fewPlaces)) in
+      let v = stored-then t u m n k refl q r in
+      ap stepsAt (cabinetAt-lane (s .sizes) c p)
+      ∙ stored-then u (withEngine u (advancedGlobal (u .engine))) m k (advancedAll k) refl v
+      (advanced-stored u k (shows-then u m k (shows .long) v) (shape-released t lane-number y) allLanes tt)
+
+-- the lane by its number i, where no cause refuses the call
+module _ (s : State) (m : List ℕ) (shows : Shows m s) (w : WellFormed s) (i c p : ℕ) (is : i ≡ c * s .sizes .places + p) (inPlaces : p < s .sizes .places) where
+  in-cabinets : i < laneCount (s .sizes) → c < s .sizes .cabinets
+  in-cabinets h =
+      elim (decLt c (s .sizes .cabinets)) [
+        | yes b ↦ b
+        | no b ↦ absurd (let n : s .sizes .cabinets ≤ c = omega arith in omega (arith, mul-le-mul-right {m = s .sizes .cabinets} {n = c} (s .sizes .places) n))
+      ]
+
+  pub off-call-stored : refusal s (off i) ≡ 0
+      → offWords m (s .sizes .cabinets) (s .sizes .places) (slotsBody (s .sizes)) (s .sizes .slots) c p ≡ stored (performed s (off i)) m
+  unfolding causes
+  off-call-stored h =
+      let (known, rest) = clear (causes s (off i)) (omega arith) h in
+      off-stored s m shows w c p (in-cabinets (within s i known)) inPlaces ∙ ap (λ (j : ℕ). stored (performed s (off j)) m) (sym is)

@@ -1,0 +1,141 @@
+-- Which change of the state the words of Period are: end and request; StartLaws has begin. Each law takes a memory that shows a state s, and says that the
+-- memory afterwards is that of the changed state.
+use Prim.Native.Nat.{ℕ}
+use mathlib.Core.Bool.{Bool, true, false, not, cond}
+use mathlib.Core.Path.{_≡_, refl, ap, ap₂, sym, _∙_}
+use mathlib.Core.List.{List, map}
+use native.Mathlib.Omega.{arith}
+use lib.ListN.{set, length-map, List·getD-map}
+use lib.Dec.{eqb}
+use Rattle.model.specs.Word.{up, later}
+use Rattle.model.specs.Lists.{concat, from}
+use Rattle.model.specs.Lists.{mask as maskOf}
+use Rattle.model.specs.State.{laneCount, Engine, State}
+use Rattle.model.specs.Layout.{currentGenerationAt, largestGenerationAt, cabinetMaskAt}
+use Rattle.model.specs.Engine.{freshLane, laneAt, withCurrent, withLargest, isPending, runs, started, ended, requested}
+use Rattle.model.specs.Rules.{withEngine}
+use Rattle.model.specs.Memory.{at, contents, flags, pendingAt, laneMask, cabinetMask, isNotZero}
+use Rattle.model.specs.Calls.{stored}
+use Rattle.laws.specs.Tests.{not-not}
+use Rattle.laws.specs.Lists.{map-from-alike, map-map-from, map-from-getD}
+use Rattle.laws.specs.Elements.{any-map}
+use Rattle.laws.specs.Masks.{isTrue, some, mask-zero}
+use Rattle.laws.specs.Levels.{concat-rows, upper, some-concat}
+use Rattle.representation.proofs.Addresses.Fields.{top, end, mask}
+use Rattle.changes.specs.Shows.{Shows, stored-shown, shows-then, stored-then}
+use Rattle.changes.proofs.Shape.{LaneAtEach, Shape}
+use Rattle.changes.proofs.OfLanes.Engines.{write-current, write-largest, shape-engine}
+use Rattle.engine.specs.Period.{startedWords, endedWords, raisedWords, requestedWords}
+use Rattle.engine.proofs.StartLaws.{shape-started, started-stored}
+
+-- ---- a period runs while the cabinet mask is not 0
+
+module _ (s : State) (each : LaneAtEach s) where
+  -- a cabinet's flags
+  abbrev row : ℕ → List Bool
+  row c = map (pendingAt s c) (from 0 (s .sizes .places))
+
+  abbrev rows : List (List Bool)
+  rows = map row (from 0 (s .sizes .cabinets))
+
+  concat-flags : concat rows ≡ map isPending (s .engine .lanes)
+  concat-flags =
+      concat-rows (λ (i : ℕ). laneAt (s .engine) i .pending) (s .sizes .places) (s .sizes .cabinets)
+      ∙ map-from-getD (λ (i : ℕ). laneAt (s .engine) i .pending) false (map isPending (s .engine .lanes)) (laneCount (s .sizes)) (length-map (s .engine .lanes) isPending ∙ each) (λ i b. sym (List·getD-map isPending (s .engine .lanes) i freshLane))
+
+  cabinetMask-upper : cabinetMask s ≡ maskOf (upper rows)
+  cabinetMask-upper =
+      ap maskOf
+      (map-map-from isNotZero (laneMask s) 0 (s .sizes .cabinets)
+      ∙ map-from-alike _ (λ (c : ℕ). some (row c)) 0 (s .sizes .cabinets) (λ c a b. ap not (mask-zero (row c)) ∙ not-not (some (row c)))
+      ∙ sym (map-map-from some row 0 (s .sizes .cabinets)))
+
+  pub mask-runs : eqb (cabinetMask s) 0 ≡ not (runs (s .engine))
+  mask-runs =
+      ap (λ (w : ℕ). eqb w 0) cabinetMask-upper
+      ∙ mask-zero (upper rows)
+      ∙ ap not (sym (some-concat rows) ∙ ap some concat-flags ∙ any-map isTrue isPending (s .engine .lanes))
+
+-- ---- end period, and request
+
+module _ (s : State) (m : List ℕ) (shows : Shows m s) where
+  pub current-shown : at m currentGenerationAt ≡ s .engine .current
+  unfolding contents
+  current-shown = shows .image (top currentGenerationAt) (omega arith)
+
+  pub largest-shown : at m largestGenerationAt ≡ s .engine .largest
+  unfolding contents
+  largest-shown = shows .image (top largestGenerationAt) (omega arith)
+
+  pub mask-shown : at m cabinetMaskAt ≡ cabinetMask s
+  unfolding contents
+  mask-shown = shows .image (top cabinetMaskAt) (omega arith)
+
+module _ (s : State) (m : List ℕ) (shows : Shows m s) (each : LaneAtEach s) where
+  abbrev C : ℕ
+  C = s .sizes .cabinets
+
+  abbrev P : ℕ
+  P = s .sizes .places
+
+  ended-by : (b : Bool) (g : ℕ) → cond b (set m currentGenerationAt g) (startedWords (set m currentGenerationAt g) C P)
+      ≡ stored (withEngine s (cond b (withCurrent g (s .engine)) (started (withCurrent g (s .engine))))) m
+  ended-by true g = write-current s m shows g
+  ended-by false g =
+      stored-then u (withEngine u (started (u .engine))) m (set m currentGenerationAt g) (startedWords (set m currentGenerationAt g) C P) refl (write-current s m shows g)
+      (started-stored u (set m currentGenerationAt g) (shows-then u m (set m currentGenerationAt g) (shows .long) (write-current s m shows g)) each)
+    where
+      u : State
+      u = withEngine s (withCurrent g (s .engine))
+
+  pub ended-stored : endedWords m C P ≡ stored (withEngine s (ended (s .engine))) m
+  unfolding ended endedWords
+  ended-stored =
+      ap₂ (λ (x y : ℕ). cond (later (up x) y) (set m currentGenerationAt (up x)) (startedWords (set m currentGenerationAt (up x)) C P)) (current-shown s m shows) (largest-shown s m shows)
+      ∙ ended-by (later (up (s .engine .current)) (s .engine .largest)) (up (s .engine .current))
+
+  -- the largest requested, raised to g
+  abbrev raised : ℕ → Engine
+  raised g = withLargest (cond (later g (s .engine .largest)) g (s .engine .largest)) (s .engine)
+
+  raised-by : (b : Bool) (g : ℕ) → cond b (set m largestGenerationAt g) m ≡ stored (withEngine s (withLargest (cond b g (s .engine .largest)) (s .engine))) m
+  raised-by true g = write-largest s m shows g
+  raised-by false g = sym (stored-shown s m shows)
+
+  pub raised-stored : (g : ℕ) → raisedWords m g ≡ stored (withEngine s (raised g)) m
+  unfolding raisedWords
+  raised-stored g =
+      ap (λ (x : ℕ). cond (later g x) (set m largestGenerationAt g) m) (largest-shown s m shows) ∙ raised-by (later g (s .engine .largest)) g
+
+  requested-by : (b : Bool) (g : ℕ) → cond (not b) (startedWords (raisedWords m g) C P) (raisedWords m g) ≡ stored (withEngine s (cond b (raised g) (started (raised g)))) m
+  requested-by true g = raised-stored g
+  requested-by false g =
+      stored-then u (withEngine u (started (u .engine))) m (raisedWords m g) (startedWords (raisedWords m g) C P) refl (raised-stored g)
+      (started-stored u (raisedWords m g) (shows-then u m (raisedWords m g) (shows .long) (raised-stored g)) each)
+    where
+      u : State
+      u = withEngine s (raised g)
+
+  pub requested-stored : (g : ℕ) → requestedWords m C P g ≡ stored (withEngine s (requested g (s .engine))) m
+  unfolding requested requestedWords
+  requested-stored g =
+      ap (λ (d : Bool). cond d (startedWords (raisedWords m g) C P) (raisedWords m g)) (ap (λ (w : ℕ). eqb w 0) (mask-shown s m shows) ∙ mask-runs s each)
+      ∙ requested-by (runs (s .engine)) g
+
+-- ---- the shape stays
+
+module _ (s : State) (w : Shape s) where
+  shape-either : (b : Bool) (e : Engine) → Shape (withEngine s e) → Shape (withEngine s (cond b e (started e)))
+  shape-either true e x = x
+  shape-either false e x = shape-started (withEngine s e) x
+
+  pub shape-ended : Shape (withEngine s (ended (s .engine)))
+  unfolding ended
+  shape-ended =
+      shape-either (later (up (s .engine .current)) (s .engine .largest)) (withCurrent (up (s .engine .current)) (s .engine)) (shape-engine s (withCurrent (up (s .engine .current)) (s .engine)) w refl (λ x. refl))
+
+  pub shape-requested : (g : ℕ) → Shape (withEngine s (requested g (s .engine)))
+  unfolding requested
+  shape-requested g =
+      let h = cond (later g (s .engine .largest)) g (s .engine .largest) in
+      shape-either (runs (s .engine)) (withLargest h (s .engine)) (shape-engine s (withLargest h (s .engine)) w refl (λ x. refl))

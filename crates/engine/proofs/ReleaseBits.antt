@@ -1,0 +1,96 @@
+-- A lane drops its snapshot; it drops its bit; the period ends where no lane is awaited any more.
+use Prim.Native.Nat.{ℕ, zero, suc, _+_, _*_, _<_}
+use mathlib.Core.Bool.{Bool, true, false, not, cond}
+use mathlib.Core.Path.{_≡_, refl, ap, sym, _∙_}
+use mathlib.Core.Logic.{_≢_}
+use mathlib.Core.List.{List, [], _∷_, _++_}
+use native.Mathlib.Omega.{arith}
+use native.Mathlib.Decide.{decLt}
+use lib.ListN.{getD, set}
+use lib.Seq.{sets}
+use lib.Dec.{eqb}
+use Rattle.model.specs.Lists.{update, concatMap}
+use Rattle.model.specs.State.{laneCount, unheld, Lane, State}
+use Rattle.model.specs.Layout.{snapshotAt, laneAddress, snapshotBit}
+use Rattle.model.specs.Engine.{freshLane, laneAt, setPending, runs, ended}
+use Rattle.model.specs.Rules.{withEngine, withLane}
+use Rattle.model.specs.Memory.{at, flags, snapshotCount, laneWords, laneQueues}
+use Rattle.model.specs.Calls.{stored}
+use Rattle.laws.specs.Tests.{other}
+use Rattle.representation.proofs.Addresses.Fields.{lane}
+use Rattle.changes.specs.Shows.{Shows, stored-shown}
+use Rattle.changes.proofs.Shape.{LaneAtEach}
+use Rattle.changes.proofs.OfLanes.LaneWords.{lane-snapshot}
+use Rattle.masks.specs.Bits.{withoutBit}
+use Rattle.lanes.specs.declared.LaneRecord.{LaneRecord}
+use Rattle.lanes.specs.declared.Change.the-variants.{Drop}
+use Rattle.lanes.specs.Record.{recordAt, droppedRecord}
+use Rattle.lanes.proofs.RecordLaws.{recordOf-dropped}
+use Rattle.lanes.specs.Changes.{changedAt}
+use Rattle.lanes.specs.Cabinet.{droppedAt}
+use Rattle.lanes.proofs.CabinetLaws.{changed-dropped}
+use Rattle.engine.specs.Period.{endedWords}
+use Rattle.engine.proofs.PeriodWords.{row-within}
+use Rattle.engine.proofs.PeriodLaws.{mask-shown, mask-runs, ended-stored}
+use Rattle.engine.specs.Release.{overWords}
+
+-- ---- the snapshot
+
+-- the lane drops its snapshot, and keeps its bit
+abbrev pub unsampled : Lane → Lane
+unsampled k = setPending (k .pending) unheld k
+
+flags-dropped : (l : Lane) → withoutBit snapshotBit (flags l) ≡ flags (unsampled l)
+unfolding recordAt droppedRecord laneWords
+flags-dropped l = sym (ap (λ (r : LaneRecord). r .flags) (recordOf-dropped l (l .pending)))
+
+pub dropped-stored : (s : State) (m : List ℕ) → Shows m s → LaneAtEach s → (i : ℕ) → i < laneCount (s .sizes)
+    → changedAt m (laneAddress (s .sizes) i) Drop ≡ stored (withLane s i unsampled) m
+unfolding droppedAt snapshotCount laneWords
+dropped-stored s m shows each i h =
+    let a = laneAddress (s .sizes) i in
+    let e : a ≡ a + 0 = omega arith in
+    changed-dropped m a
+    ∙ ap (λ (w : ℕ). sets (set m a w) (a + snapshotAt) (0 ∷ 0 ∷ 0 ∷ 0 ∷ []))
+    (ap (withoutBit snapshotBit) (ap (at m) e ∙ shows .image (lane i 0) (h, omega arith)) ∙ flags-dropped (laneAt (s .engine) i))
+    ∙ lane-snapshot s m shows each i h unheld
+
+-- ---- the bit
+
+-- the lane's bit goes
+abbrev pub unawaited : Lane → Lane
+unawaited k = setPending false (k .snapshot) k
+
+pub words-unawaited : (ls : List Lane) (i j : ℕ) → laneWords (getD (update ls i unawaited) j freshLane) ≡ laneWords (getD ls j freshLane)
+unfolding update laneWords flags
+words-unawaited [] i j = refl
+words-unawaited (l ∷ ls) zero zero = refl
+words-unawaited (l ∷ ls) zero (suc j) = refl
+words-unawaited (l ∷ ls) (suc i) zero = refl
+words-unawaited (l ∷ ls) (suc i) (suc j) = words-unawaited ls i j
+
+pub queues-unawaited : (ls : List Lane) (i : ℕ) → concatMap laneQueues (update ls i unawaited) ≡ concatMap laneQueues ls
+unfolding concatMap update
+queues-unawaited [] i = refl
+queues-unawaited (l ∷ ls) zero = refl
+queues-unawaited (l ∷ ls) (suc i) = ap (λ (r : List (List ℕ)). laneQueues l ++ r) (queues-unawaited ls i)
+
+-- places of other cabinets are other lanes
+pub other-row : (k c n q p : ℕ) → k ≢ c → q < n → p < n → k * n + q ≢ c * n + p
+other-row k c n q p d h g e =
+    elim (decLt k c) [
+      | yes b ↦ omega (arith, row-within k c n b)
+      | no b ↦ let r : c < k = omega arith in omega (arith, row-within c k n r)
+    ]
+
+-- if no lane is awaited any more, the period ends
+pub over-stored : (s : State) (m : List ℕ) → Shows m s → LaneAtEach s
+    → overWords m (s .sizes .cabinets) (s .sizes .places) ≡ stored (withEngine s (cond (not (runs (s .engine))) (ended (s .engine)) (s .engine))) m
+unfolding overWords
+over-stored s m shows each =
+    ap (λ (d : Bool). cond d (endedWords m (s .sizes .cabinets) (s .sizes .places)) m) (ap (λ (w : ℕ). eqb w 0) (mask-shown s m shows) ∙ mask-runs s each)
+    ∙ go (not (runs (s .engine)))
+  where
+    go : (b : Bool) → cond b (endedWords m (s .sizes .cabinets) (s .sizes .places)) m ≡ stored (withEngine s (cond b (ended (s .engine)) (s .engine))) m
+    go true = ended-stored s m shows each
+    go false = sym (stored-shown s m shows)

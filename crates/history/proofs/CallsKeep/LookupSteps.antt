@@ -1,0 +1,110 @@
+-- What a step does to its lookup, what the trail says of its answer, and one lane's lookup anew.
+use Prim.Native.Nat.{ℕ, suc, _<_}
+use mathlib.Core.Path.{_≡_, refl, sym, ap, _∙_}
+use mathlib.Core.Logic.{inl, inr, _≢_}
+use mathlib.Core.Bool.{true, false}
+use mathlib.Core.List.{List, List·Memᴰ}
+use native.Mathlib.Omega.{arith}
+use lib.ListN.{length}
+use lib.Dec.{eqb}
+use borrow.Author.Tests.{eq-eqb}
+use Rattle.model.specs.Word.{none}
+use Rattle.model.specs.State.{Lookup, idle, running, Lane, Table, State}
+use Rattle.model.specs.Engine.{freshLane, laneAt, setLookup, atLane}
+use Rattle.model.specs.Table.{productAt, linkOf}
+use Rattle.model.specs.Rules.{laneOf, withLane, Outcome, going, found, absent, findAt, outcome, outcomeAnswer, continued}
+use Rattle.model.specs.Ledger.{Section, Search, Ledger, isAnswer}
+use Rattle.laws.specs.Tests.{clash, same-or}
+use Rattle.laws.specs.Lists.{update-cases, getD-update-same, getD-update-other}
+use Rattle.representation.proofs.WellFormed.{WellFormed, chained}
+use Rattle.history.proofs.Ties.Halves.{Window, Looks, Looking, RetainedBy}
+use Rattle.history.proofs.Ties.Invariant.{Invariant}
+use Rattle.history.proofs.EngineHalf.Grace.{grace-same}
+use Rattle.history.proofs.ChainHalf.Chains.{SameOr}
+use Rattle.history.proofs.ChainHalf.Trail.{trail-none, trail-found}
+use Rattle.history.proofs.CallsKeep.Slots.{standing-once, standing-some, retains-queued, queued-lane}
+use Rattle.history.proofs.CallsKeep.Respects.{Respects, respects-still, looks-kept, trail-kept, looking-kept, sections-same, outs-same, Keeps}
+
+-- the ledger's lookups become qs
+abbrev withSearches : List Search → Ledger → Ledger
+withSearches qs g = record { entries = g .entries; sections = g .sections; searches = qs; outs = g .outs }
+
+-- what a step does to its lookup: absent at the end of the chain, found at a slot of the code, otherwise on to the link
+pub data Stepped (t : Table) (c p : ℕ) : Outcome → Lookup → Type 0 where
+  ends : p ≡ none → Stepped t c p absent idle
+  finds : p ≢ none → productAt (t .products) p .code ≡ c → Stepped t c p (found (findAt p (productAt (t .products) p))) idle
+  goes : p ≢ none → productAt (t .products) p .code ≢ c → Stepped t c p going (running c (linkOf t p))
+
+pub stepped-cases : (t : Table) (c p : ℕ) → Stepped t c p (outcome t (running c p)) (continued t (running c p) (outcome t (running c p)))
+unfolding outcome continued
+stepped-cases t c p = at (same-or p none)
+  where
+    Goal : Type 0
+    Goal = Stepped t c p (outcome t (running c p)) (continued t (running c p) (outcome t (running c p)))
+
+    on : (p ≢ none) × (eqb p none ≡ false) → SameOr (productAt (t .products) p .code) c → Goal
+    on n (inl e) = rw (n .1, eq-eqb (productAt (t .products) p .code) c e) (finds (n .0) e)
+    on n (inr e) = rw (n .1, e .1) (goes (n .0) (e .0))
+
+    at : SameOr p none → Goal
+    at (inl e) = rw (eq-eqb p none e) (ends e)
+    at (inr n) = on n (same-or (productAt (t .products) p .code) c)
+
+module _ {past : ℕ → Ledger} {k : ℕ} {s : State} {g : Ledger} (v : Invariant past k s g) where
+  -- ---- what the trail says of an answer
+
+  -- a retained slot is in no chain, and is a slot
+  pub retained-unchained : (z : Section) (x : ℕ) → RetainedBy g z x → chained x (s .table) ≡ 0
+  retained-unchained z x r = omega (arith, retains-queued (v .outs) z x r, standing-once (v .wellFormed) x)
+
+  pub retained-some : (z : Section) (x : ℕ) → RetainedBy g z x → x ≢ none
+  retained-some z x r = standing-some (v .wellFormed) x (omega (arith, retains-queued (v .outs) z x r))
+
+  pub chained-some : (x : ℕ) → 0 < chained x (s .table) → x ≢ none
+  chained-some x h = standing-some (v .wellFormed) x (omega arith)
+
+  -- the answer of a step is one of the lookup's window
+  pub answer-window : (i c p : ℕ) (l : Looks past k (s .table) g i c p) (o : Outcome) {q : Lookup} → Stepped (s .table) c p o q
+      → isAnswer (outcomeAnswer o) ≡ true → Window past (l .noted .started) k c (outcomeAnswer o)
+  unfolding outcomeAnswer
+  answer-window i c p l o (ends e) h = trail-none (s .table) c p e chained-some (retained-some (l .section)) (l .trail)
+  answer-window i c p l o (finds n e) h = trail-found (s .table) c p n e (l .trail)
+  answer-window i c p l o (goes n e) h = clash h refl
+
+  -- ---- one lane's lookup anew
+
+  -- lane i's lookup becomes l, and the ledger's lookups become qs, which differ in those of lane i alone
+  pub keeps-lookup : (i : ℕ) (f : Lane → Lane) (l : Lookup) (qs : List Search) → i < length (s .engine .lanes)
+      → f (laneOf s i) ≡ setLookup l (laneOf s i) → WellFormed (withLane s i f)
+      → ((q : Search) → q .lane ≢ i → List·Memᴰ q (g .searches) → List·Memᴰ q qs)
+      → ((q : Search) → q .lane ≢ i → List·Memᴰ q qs → List·Memᴰ q (g .searches))
+      → Looking past (suc k) (s .table) (withSearches qs g) i l → Keeps past k s (withLane s i f) g (withSearches qs g)
+  keeps-lookup i f l qs inside is w to of mine = record {
+    invariant = record {
+      wellFormed = w;
+      entries = v .entries;
+      sections = sections-same (atLane i f (s .engine)) reading (v .sections);
+      outs = outs-same (atLane i f (s .engine)) (queued-lane i f (s .engine) (ap (λ (l : Lane). l .queues) is)) (v .outs);
+      grace = grace-same i f (s .engine) (ap (λ (l : Lane). l .queues) is) (ap (λ (l : Lane). l .pending) is) (ap (λ (l : Lane). l .snapshot) is)
+          (λ x q. let r = v .grace .reads x i q in
+          (ap (λ (l : Lane). l .online) is ∙ r .0, ap (λ (l : Lane). l .reading) is ∙ r .1, ap (λ (l : Lane). l .quiescent) is)) (v .grace);
+      looking = λ j. go j (same-or j i);
+    };
+    respects = r;
+  }
+    where
+      g′ : Ledger
+      g′ = withSearches qs g
+
+      r : Respects k (s .table) (s .table) g g′
+      r = respects-still k (s .table) g g′ refl (λ z m o. m)
+
+      reading : (j : ℕ) → laneAt (atLane i f (s .engine)) j .reading ≡ laneOf s j .reading
+      reading = update-cases freshLane (λ (j : ℕ) (l : Lane). l .reading ≡ laneOf s j .reading) (s .engine .lanes) i f (λ j. refl)
+          (ap (λ (l : Lane). l .reading) is)
+
+      go : (j : ℕ) → SameOr j i → Looking past (suc k) (s .table) g′ j (laneAt (atLane i f (s .engine)) j .lookup)
+      go j (inl e) = rw (e, getD-update-same freshLane (s .engine .lanes) i f inside, is) mine
+      go j (inr e) = rw (getD-update-other freshLane (s .engine .lanes) i f j (e .0)) (looking-kept j (laneOf s j .lookup)
+          (λ c p h. looks-kept r past j c p (λ z n m. m) (λ q n m. to q (λ d. e .0 (sym n ∙ d)) m) (λ q n m. of q (λ d. e .0 (sym n ∙ d)) m)
+          (trail-kept r past c (λ xs ys z. (xs, z)) p)) (v .looking j))

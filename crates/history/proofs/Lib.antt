@@ -1,0 +1,9 @@
+-- Demand 3 (docs/PROOF.md says why it holds). Demand3, NewSlots, Corollaries: the theorems; the folders: what they rest on.
+pub mod Ties
+pub mod EngineHalf
+pub mod ChainHalf
+pub mod CallsKeep
+pub mod OverLists
+pub mod Demand3
+pub mod NewSlots
+pub mod Corollaries

@@ -1,0 +1,3 @@
+-- What ties a state to the ledger: the two halves, and the invariant made of them.
+pub mod Halves
+pub mod Invariant

@@ -1,0 +1,151 @@
+-- Laws of a cabinet's work: a change of a lane's record is a change of these words, and what is done to the cabinet's part, put back in its place, is done to
+-- the whole memory at the lane's address.
+use Prim.Native.Nat.{ℕ, zero, suc, _+_, _*_, _^_, _<_, _≤_}
+use mathlib.Core.Bool.{Bool, true, false, cond}
+use mathlib.Core.Path.{_≡_, refl, ap, ap₂, sym, _∙_}
+use mathlib.Core.List.{List, [], _∷_, _++_, map}
+use native.Mathlib.Omega.{arith}
+use lib.ListN.{length, set, take, drop}
+use lib.Seq.{sets}
+use lib.Bits.{bitOr}
+use lib.Pow.{pow-mono}
+use Rattle.model.specs.Word.{upTo}
+use Rattle.model.specs.Lists.{update, from, mask}
+use Rattle.model.specs.State.{Sizes}
+use Rattle.model.specs.Layout.{kinds, countLimit, quiescentAt, snapshotAt, laneLength, laneAddress, onlineBit, snapshotBit}
+use Rattle.model.specs.Memory.{at, flag}
+use Rattle.laws.specs.Lists.{map-from-alike}
+use Rattle.laws.specs.Masks.{mask-from-lt, mask-from-suc}
+use Rattle.laws.specs.MaskFlags.{shl-bit}
+use Rattle.laws.specs.Stores.{set-sets, sets-sets, update-sets, getD-part, part-sets}
+use Rattle.masks.specs.Bits.{width, withBit, withoutBit}
+use Rattle.masks.proofs.BitLaws.{or-withBit}
+use Rattle.lanes.specs.declared.LaneRecord.{LaneRecord}
+use Rattle.lanes.specs.declared.Change.{Change}
+use Rattle.lanes.specs.declared.Change.the-variants.{Pass, Sample, Drop, Leave}
+use Rattle.lanes.specs.Record.{recordAt, recordWords, recordStored, countedRecord, sampledRecord, droppedRecord, offlineRecord}
+use Rattle.lanes.proofs.RecordLaws.{wordsAt, recordAt-words, recordStored-recordAt}
+use Rattle.lanes.specs.Changes.{Fits, changedRecord, changedAt}
+use Rattle.lanes.specs.Cabinet.{placeAt, cabinetAt, onlineAt, countedAt, sampledAt, droppedAt, offlineAt}
+
+-- the lane of place p of cabinet c stands where the model has it
+pub cabinetAt-lane : (z : Sizes) (c p : ℕ) → cabinetAt (z .cabinets) (z .places) c + placeAt p ≡ laneAddress z (c * z .places + p)
+cabinetAt-lane z c p = omega arith
+
+-- the changes that ask for nothing
+pub fits-sample : Fits Sample
+unfolding Fits
+fits-sample = tt
+
+pub fits-drop : Fits Drop
+unfolding Fits
+fits-drop = tt
+
+pub fits-leave : Fits Leave
+unfolding Fits
+fits-leave = tt
+
+module _ (m : List ℕ) (a : ℕ) where
+  -- ---- the words of each change: the record is read, changed and written, and no other word changes
+
+  pub changed-counted : (k : ℕ) → a + laneLength ≤ length m → k < kinds → changedAt m a (Pass k) ≡ countedAt m a k
+  unfolding changedRecord recordWords recordAt countedRecord update
+  changed-counted k fits h =
+      let e : a + (1 + k) ≡ a + quiescentAt + k = omega arith in
+      ap (sets m a) (go k h)
+      ∙ sym (update-sets (recordWords (recordAt m a)) m 0 a (1 + k) (upTo countLimit) fits (omega arith))
+      ∙ ap (λ (l : List ℕ). update l (a + (1 + k)) (upTo countLimit)) (recordStored-recordAt m a)
+      ∙ ap (λ (i : ℕ). update m i (upTo countLimit)) e
+    where
+      go : (k : ℕ) → k < kinds → recordWords (countedRecord (recordAt m a) k) ≡ update (recordWords (recordAt m a)) (1 + k) (upTo countLimit)
+      go zero h = refl
+      go (suc zero) h = refl
+      go (suc (suc zero)) h = refl
+      go (suc (suc (suc zero))) h = refl
+      go (suc (suc (suc (suc k)))) h = absurd (omega arith)
+
+  -- the flags anew
+  stored-flags : (w : ℕ) → set m a w ≡ sets m a (set (recordWords (recordAt m a)) 0 w)
+  unfolding recordWords recordAt
+  stored-flags w =
+      let e : a + 0 ≡ a = omega arith in
+      ap (λ (l : List ℕ). set l a w) (sym (recordStored-recordAt m a)) ∙ ap (λ (i : ℕ). set (recordStored m a (recordAt m a)) i w) (sym e)
+      ∙ set-sets (recordWords (recordAt m a)) m a 0 w (omega arith)
+
+  -- flags and snapshot words anew
+  stored-snapshot : (w x y z v : ℕ) → sets (set m a w) (a + snapshotAt) (x ∷ y ∷ z ∷ v ∷ []) ≡ sets m a (sets (set (recordWords (recordAt m a)) 0 w) snapshotAt (x ∷ y ∷ z ∷ v ∷ []))
+  unfolding recordWords recordAt
+  stored-snapshot w x y z v =
+      ap (λ (l : List ℕ). sets l (a + snapshotAt) (x ∷ y ∷ z ∷ v ∷ [])) (stored-flags w)
+      ∙ sets-sets (x ∷ y ∷ z ∷ v ∷ []) (set (recordWords (recordAt m a)) 0 w) m a snapshotAt (omega arith)
+
+  pub changed-sampled : changedAt m a Sample ≡ sampledAt m a
+  unfolding changedRecord recordWords recordAt sampledRecord sampledAt
+  changed-sampled =
+      sym (stored-snapshot (withBit snapshotBit (at m a)) (at m (a + quiescentAt)) (at m (a + quiescentAt + 1)) (at m (a + quiescentAt + 2)) (at m (a + quiescentAt + 3)))
+
+  pub changed-dropped : changedAt m a Drop ≡ droppedAt m a
+  unfolding changedRecord recordWords recordAt droppedRecord droppedAt
+  changed-dropped = sym (stored-snapshot (withoutBit snapshotBit (at m a)) 0 0 0 0)
+
+  pub changed-offline : changedAt m a Leave ≡ offlineAt m a
+  unfolding changedRecord recordWords recordAt offlineRecord
+  changed-offline = sym (stored-flags (withoutBit onlineBit (at m a)))
+
+-- ---- a cabinet's part of n words from a on, in its place again
+
+module _ (m : List ℕ) (a n : ℕ) where
+  abbrev part : List ℕ
+  part = take n (drop a m)
+
+  -- k words of the part
+  part-words : (k b : ℕ) → b + k ≤ n → wordsAt part b k ≡ wordsAt m (a + b) k
+  unfolding from
+  part-words zero b h = refl
+  part-words (suc k) b h =
+      let e : a + suc b ≡ suc (a + b) = omega arith in
+      ap₂ _∷_ (getD-part m a n b 0 (omega arith)) (part-words k (suc b) (omega arith) ∙ ap (λ (i : ℕ). wordsAt m i k) e)
+
+  module _ (p : ℕ) (h : placeAt p + laneLength ≤ n) where
+    -- a lane's record is read from the part
+    pub part-record : recordAt part (placeAt p) ≡ recordAt m (a + placeAt p)
+    part-record =
+        recordAt-words part (placeAt p)
+        ∙ ap (λ (ws : List ℕ). recordAt ws 0) (part-words laneLength (placeAt p) h)
+        ∙ sym (recordAt-words m (a + placeAt p))
+
+    -- and what changes it in the part changes it in the whole
+    pub part-changed : (x : Change) (l : List ℕ) → l ≡ changedAt part (placeAt p) x → take a m ++ (l ++ drop n (drop a m)) ≡ changedAt m (a + placeAt p) x
+    unfolding recordWords
+    part-changed x l e =
+        ap (λ (ys : List ℕ). take a m ++ (ys ++ drop n (drop a m))) (e ∙ ap (λ (r : LaneRecord). recordStored part (placeAt p) (changedRecord x r)) part-record)
+        ∙ part-sets (recordWords (changedRecord x (recordAt m (a + placeAt p)))) m a n (placeAt p) h
+
+  -- the lanes of the part that are on
+  pub part-online : (k : ℕ) → laneLength * k ≤ n → mask (map (onlineAt part 0) (from 0 k)) ≡ mask (map (onlineAt m a) (from 0 k))
+  part-online k h =
+      let inner : (p : ℕ) → a + (0 + placeAt p) ≡ a + placeAt p = λ p. omega arith in
+      ap mask
+      (map-from-alike (onlineAt part 0) (onlineAt m a) 0 k (λ p x y. ap (flag onlineBit) (getD-part m a n (0 + placeAt p) 0 (omega arith) ∙ ap (at m) (inner p))))
+
+-- ---- a mask built bit by bit
+
+-- one bit more
+pub mask-more : (g : ℕ → Bool) (p : ℕ) → p < width → cond (g p) (withBit p (mask (map g (from 0 p)))) (mask (map g (from 0 p))) ≡ mask (map g (from 0 (suc p)))
+mask-more g p h =
+    let w : ℕ = mask (map g (from 0 p)) in
+    let below : w < 2 ^ width = omega (arith, mask-from-lt g p, pow-mono {i = p} {j = width} (omega arith)) in
+    ap (λ (x : ℕ). cond (g p) x w) (sym (or-withBit w p below h) ∙ ap (bitOr w) (shl-bit p h)) ∙ sym (mask-from-suc g p)
+
+-- the same for a flag that was tested: it is set, or not
+module _ (g : ℕ → Bool) (p w x : ℕ) (h : p < width) (e : w ≡ mask (map g (from 0 p))) (b : Bool) (f : b ≡ g p) where
+  next : cond b (withBit p w) w ≡ mask (map g (from 0 (p + 1)))
+  next =
+      let s : suc p ≡ p + 1 = omega arith in
+      ap₂ (λ (d : Bool) (y : ℕ). cond d (withBit p y) y) f e ∙ mask-more g p h ∙ ap (λ (n : ℕ). mask (map g (from 0 n))) s
+
+  pub mask-set : b ≡ true → x ≡ withBit p w → x ≡ mask (map g (from 0 (p + 1)))
+  mask-set t q = q ∙ ap (λ (d : Bool). cond d (withBit p w) w) (sym t) ∙ next
+
+  pub mask-clear : b ≡ false → x ≡ w → x ≡ mask (map g (from 0 (p + 1)))
+  mask-clear t q = q ∙ ap (λ (d : Bool). cond d (withBit p w) w) (sym t) ∙ next

@@ -1,0 +1,132 @@
+-- Laws of the lane record: it reads back, all other words stay, and it is the model's lane in its words.
+use Prim.Native.Nat.{ℕ, zero, suc, _+_, _<_, _≤_}
+use mathlib.Core.Bool.{Bool}
+use mathlib.Core.Path.{_≡_, refl, ap, ap₂, sym, _∙_}
+use mathlib.Core.List.{List, [], _∷_, map}
+use native.Mathlib.Omega.{arith}
+use lib.ListN.{length, set, take, drop}
+use lib.Seq.{sets, drop-cons}
+use Rattle.model.specs.Word.{upTo}
+use Rattle.model.specs.Lists.{from, update}
+use Rattle.model.specs.State.{Lane, unheld, held, isHeld, isRunning}
+use Rattle.model.specs.Layout.{kinds, countLimit, laneLength, quiescentAt, snapshotAt, generationAt, queuesAt, currentOffset, doneOffset, lookupAt, snapshotBit}
+use Rattle.model.specs.Engine.{counted, setPending}
+use Rattle.model.specs.Memory.{at, flags, readCounts, laneWords, snapshotCount}
+use Rattle.laws.specs.Lists.{length-update}
+use Rattle.laws.specs.Stores.{getD-sets-below, getD-sets-above, map-sets, sets-same}
+use Rattle.masks.proofs.BitLaws.{withBit-mask, withoutBit-mask}
+use Rattle.lanes.proofs.Offsets.{plus-1, plus-2, plus-3, plus-4, plus-5, plus-9, plus-10, plus-16, plus-18}
+use Rattle.lanes.specs.Record.{endsAt, endsWords, lookupWordsAt, lookupWords, recordAt, recordWith, recordWords, recordStored, recordOf, withQuiescent, withSnapshot, countedRecord, sampledRecord, droppedRecord}
+use Rattle.lanes.specs.declared.Ends.{Ends}
+use Rattle.lanes.specs.declared.Lookup.{Lookup}
+use Rattle.lanes.specs.declared.LaneRecord.{LaneRecord}
+
+-- ---- the words of a record
+
+-- the n words of m from a on
+abbrev pub wordsAt : List ℕ → ℕ → ℕ → List ℕ
+wordsAt m a n = map (at m) (from a n)
+
+pub wordsAt-part : (m : List ℕ) (a n : ℕ) → a + n ≤ length m → wordsAt m a n ≡ take n (drop a m)
+unfolding from
+wordsAt-part m a zero h = refl
+wordsAt-part m a (suc n) h = ap (_∷_ (at m a)) (wordsAt-part m (suc a) n (omega arith)) ∙ sym (ap (take (suc n)) (drop-cons m a 0 (omega arith)))
+
+pub length-recordWords : (r : LaneRecord) → length (recordWords r) ≡ laneLength
+unfolding recordWords
+length-recordWords r = refl
+
+-- a record that was read has the words that stand there
+pub recordWords-recordAt : (m : List ℕ) (a : ℕ) → recordWords (recordAt m a) ≡ wordsAt m a laneLength
+unfolding recordWords recordAt from
+recordWords-recordAt m a = simp (plus-1, plus-2, plus-3, plus-5, plus-9, plus-10, plus-4, plus-16, plus-18)
+
+-- a record is read from its words alone
+pub recordAt-words : (m : List ℕ) (a : ℕ) → recordAt m a ≡ recordAt (wordsAt m a laneLength) 0
+unfolding recordAt from
+recordAt-words m a = simp (plus-1, plus-2, plus-3, plus-5, plus-9, plus-10, plus-4, plus-16, plus-18)
+
+-- four counts, one by one
+counts-back : (c : List ℕ) → length c ≡ kinds → readCounts c 0 ≡ c
+counts-back [] h = absurd (omega arith)
+counts-back (x ∷ []) h = absurd (omega arith)
+counts-back (x ∷ (y ∷ [])) h = absurd (omega arith)
+counts-back (x ∷ (y ∷ (z ∷ []))) h = absurd (omega arith)
+counts-back (x ∷ (y ∷ (z ∷ (w ∷ [])))) h = refl
+counts-back (x ∷ (y ∷ (z ∷ (w ∷ (v ∷ c))))) h = absurd (omega arith)
+
+-- a record is read back from its words
+recordAt-recordWords : (r : LaneRecord) → length (r .quiescent) ≡ kinds → length (r .snapshot) ≡ kinds → recordAt (recordWords r) 0 ≡ r
+unfolding recordAt recordWords
+recordAt-recordWords r hq hs =
+    ap₂ (λ (q x : List ℕ). recordWith (recordWords r) 0 q x (r .next) (r .current) (r .done) (r .lookup)) (counts-back (r .quiescent) hq) (counts-back (r .snapshot) hs)
+
+-- a record that was written reads back
+pub recordAt-recordStored : (m : List ℕ) (a : ℕ) (r : LaneRecord) → a + laneLength ≤ length m → length (r .quiescent) ≡ kinds → length (r .snapshot) ≡ kinds
+    → recordAt (recordStored m a r) a ≡ r
+unfolding recordWords
+recordAt-recordStored m a r fits hq hs =
+    recordAt-words (recordStored m a r) a
+    ∙ ap (λ (ws : List ℕ). recordAt ws 0) (map-sets (recordWords r) m a 0 fits)
+    ∙ recordAt-recordWords r hq hs
+
+-- a record is read part by part
+pub recordAt-parts : (m : List ℕ) (a : ℕ) (q s : List ℕ) (n c d : Ends) (l : Lookup) → q ≡ readCounts m (a + quiescentAt) → s ≡ readCounts m (a + snapshotAt)
+    → n ≡ endsAt m (a + queuesAt) → c ≡ endsAt m (a + queuesAt + currentOffset) → d ≡ endsAt m (a + queuesAt + doneOffset) → l ≡ lookupWordsAt m (a + lookupAt)
+    → recordWith m a q s n c d l ≡ recordAt m a
+unfolding recordAt
+recordAt-parts m a q s n c d l eq es en ec ed el = rw (eq, es, en, ec, ed, el)
+
+-- and written part by part
+pub recordStored-parts : (m : List ℕ) (a : ℕ) (r : LaneRecord) (x y n c d l : List ℕ) → x ≡ sets (set m a (r .flags)) (a + quiescentAt) (readCounts (r .quiescent) 0)
+    → y ≡ sets x (a + snapshotAt) (readCounts (r .snapshot) 0)
+    → n ≡ sets (set y (a + generationAt) (r .generation)) (a + queuesAt) (endsWords (r .next))
+    → c ≡ sets n (a + queuesAt + currentOffset) (endsWords (r .current))
+    → d ≡ sets c (a + queuesAt + doneOffset) (endsWords (r .done))
+    → l ≡ sets d (a + lookupAt) (lookupWords (r .lookup))
+    → l ≡ recordStored m a r
+unfolding recordWords
+recordStored-parts m a r x y n c d l hx hy hn hc hd hl = rw (hl, hd, hc, hn, hy, hx) (simp (plus-1, plus-2, plus-4, plus-5, plus-9, plus-10, plus-16, plus-18))
+
+-- to write what was read changes nothing
+pub recordStored-recordAt : (m : List ℕ) (a : ℕ) → recordStored m a (recordAt m a) ≡ m
+recordStored-recordAt m a = ap (sets m a) (recordWords-recordAt m a) ∙ sets-same m 0 a laneLength
+
+-- every word before the record and after it stays
+pub recordStored-before : (m : List ℕ) (a : ℕ) (r : LaneRecord) (i : ℕ) → i < a → at (recordStored m a r) i ≡ at m i
+recordStored-before m a r i h = getD-sets-below (recordWords r) m a i 0 h
+
+pub recordStored-after : (m : List ℕ) (a : ℕ) (r : LaneRecord) (i : ℕ) → a + laneLength ≤ i → at (recordStored m a r) i ≡ at m i
+unfolding recordWords
+recordStored-after m a r i h = getD-sets-above (recordWords r) m a i 0 h
+
+-- ---- the record of a lane
+
+pub recordWords-recordOf : (l : Lane) → recordWords (recordOf l) ≡ laneWords l
+unfolding recordWords recordAt laneWords
+recordWords-recordOf l = refl
+
+-- where the words of a lane stand, its record is read
+pub recordAt-lane : (m : List ℕ) (a : ℕ) (l : Lane) → wordsAt m a laneLength ≡ laneWords l → recordAt m a ≡ recordOf l
+recordAt-lane m a l e = recordAt-words m a ∙ ap (λ (ws : List ℕ). recordAt ws 0) e
+
+-- the rules on a lane, and on its record
+pub recordOf-counted : (l : Lane) (k : ℕ) → k < kinds → length (l .quiescent) ≡ kinds → recordOf (counted k l) ≡ countedRecord (recordOf l) k
+unfolding counted countedRecord recordAt laneWords update flags
+recordOf-counted l k h hq = ap (λ (c : List ℕ). withQuiescent c (recordOf l)) (go (l .quiescent) k h hq)
+  where
+    go : (c : List ℕ) (k : ℕ) → k < kinds → length c ≡ kinds → readCounts (update c k (upTo countLimit)) 0 ≡ update (readCounts c 0) k (upTo countLimit)
+    go c k h hq = counts-back (update c k (upTo countLimit)) (length-update c k (upTo countLimit) ∙ hq) ∙ ap (λ (d : List ℕ). update d k (upTo countLimit)) (sym (counts-back c hq))
+
+-- the flags of a lane, bit 0 first
+abbrev laneFlags : Lane → List Bool
+laneFlags l = l .online ∷ l .reading ∷ isRunning (l .lookup) ∷ isHeld (l .snapshot) ∷ []
+
+pub recordOf-sampled : (l : Lane) (b : Bool) → recordOf (setPending b (held (l .quiescent)) l) ≡ sampledRecord (recordOf l)
+unfolding sampledRecord recordAt laneWords snapshotCount isHeld flags
+recordOf-sampled l b =
+    ap (λ (w : ℕ). withSnapshot w (readCounts (l .quiescent) 0) (recordOf l)) (sym (withBit-mask (laneFlags l) (omega arith) snapshotBit (omega arith)))
+
+pub recordOf-dropped : (l : Lane) (b : Bool) → recordOf (setPending b unheld l) ≡ droppedRecord (recordOf l)
+unfolding droppedRecord recordAt laneWords snapshotCount isHeld flags
+recordOf-dropped l b = ap (λ (w : ℕ). withSnapshot w (0 ∷ 0 ∷ 0 ∷ 0 ∷ []) (recordOf l)) (sym (withoutBit-mask (laneFlags l) (omega arith) snapshotBit (omega arith)))

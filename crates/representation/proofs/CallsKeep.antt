@@ -1,0 +1,7 @@
+-- Calls keep a state well-formed.
+pub mod Engines
+pub mod Tables
+pub mod TableGifts
+pub mod NextLanes
+pub mod Next
+pub mod Fresh

@@ -1,0 +1,7 @@
+-- The engine's half of a call: what it leaves as it was, and the discipline of generations.
+pub mod Frame
+pub mod Requests
+pub mod Ages
+pub mod Advances
+pub mod Releases
+pub mod Generations

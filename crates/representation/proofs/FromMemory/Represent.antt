@@ -1,0 +1,184 @@
+-- The fields of a legal memory of words are those of the state that it reads as.
+use Prim.Native.Nat.{ℕ, zero, suc, _+_, _*_, _<_}
+use mathlib.Core.Bool.{Bool, true, false}
+use mathlib.Core.Path.{_≡_, refl, ap, ap₂, sym, _∙_}
+use mathlib.Core.List.{List, [], _∷_, _++_, map}
+use native.Mathlib.Omega.{arith}
+use lib.ListN.{getD}
+use lib.Arith.{digits-lt, digits-div, digits-mod}
+use Rattle.model.specs.Lists.{first, last, from, mask as maskOf}
+use Rattle.model.specs.State.{Sizes, State, Product, Lane, laneCount}
+use Rattle.model.specs.Layout.{chainCount, kinds, queueWidth, currentOffset, doneOffset, lastOffset, contentsLength, headsAt, freeAt, globalQueuesAt, currentGenerationAt, largestGenerationAt, cabinetMaskAt, onlineBit, readingBit, lookupBit, snapshotBit, flagCount, flagsAt, quiescentAt, snapshotAt, generationAt, queuesAt, lookupAt, positionAt, chainLinkAt, queueLinkAt, laneLength, slotLength, slotAddress, laneAddress, total}
+use Rattle.model.specs.Memory.{at, wide, flag, flags, pendingAt, isNotZero, maskWord, laneMask, laneMasks, cabinetMask, laneWords, laneWord, slotWords, slotWord, low, high, headOf, readLookup, readSnapshot, snapshotCount, lookupCode, lookupPosition, state, sizes, contents, readProduct, readQueue, readLane}
+use Rattle.laws.specs.Lists.{map-from-alike, map-map-from, getD-map-below, take-map-from}
+use Rattle.laws.specs.Masks.{mask-flags}
+use Rattle.representation.proofs.WellFormed.{SlotOrNone}
+use Rattle.representation.proofs.Sentences.Facts.{WordsTo, Facts, Legal}
+use Rattle.representation.proofs.FromMemory.Reading.{state-lane, state-chain, state-product, isRunning-readLookup, isHeld-readSnapshot}
+use Rattle.representation.proofs.FromMemory.Walked.{slotWalk-first, chain-link, queue-link}
+use Rattle.representation.proofs.Addresses.Fields.{top, head, end, mask, lane, slot, value, endsLength, endWords, topWords}
+use Rattle.representation.proofs.Addresses.Writes.{Image}
+
+cons : {x y : ℕ} {xs ys : List ℕ} → x ≡ y → xs ≡ ys → x ∷ xs ≡ y ∷ ys
+cons e f = ap₂ (λ (a : ℕ) (r : List ℕ). a ∷ r) e f
+
+module _ (m : List ℕ) (l : Legal m) (w : WordsTo (total (sizes m)) m) where
+  abbrev s : State
+  s = state m
+
+  abbrev z : Sizes
+  z = sizes m
+
+  abbrev f : Facts m s
+  f = l .facts
+
+  -- ---- the global body
+
+  head-is : (k : ℕ) → k < chainCount → headOf (s .table) k ≡ at m (headsAt + k)
+  head-is k b = ap first (state-chain m k b) ∙ slotWalk-first m chainLinkAt (at m (headsAt + k)) _ (omega arith) (f .heads k b)
+
+  first-is : (a : ℕ) → SlotOrNone (z .slots) (at m a) → first (readQueue m a) ≡ at m a
+  first-is a h = slotWalk-first m queueLinkAt (at m a) _ (omega arith) h
+
+  ends-are : endWords s ≡ map (λ (k : ℕ). at m (freeAt + k)) (from 0 endsLength)
+  unfolding state from
+  ends-are =
+      cons (first-is freeAt (f .freeEnds .first))
+      (cons (f .freeLast)
+      (cons (first-is globalQueuesAt (f .globalEnds .next .first))
+      (cons (f .globalLasts .next)
+      (cons (first-is (globalQueuesAt + currentOffset) (f .globalEnds .current .first))
+      (cons (f .globalLasts .current)
+      (cons (first-is (globalQueuesAt + doneOffset) (f .globalEnds .done .first))
+      (cons (f .globalLasts .done) refl)))))))
+
+  -- ---- masks
+
+  pending-is : (c p : ℕ) → c < z .cabinets → p < z .places → pendingAt s c p ≡ flag p (maskWord m c)
+  unfolding readLane state
+  pending-is c p hc hp =
+      ap (λ (l : Lane). l .pending) (state-lane m (c * z .places + p) (digits-lt hc hp))
+      ∙ ap₂ (λ (x y : ℕ). flag x (maskWord m y)) (digits-mod c hp) (digits-div c hp)
+
+  mask-is : (c : ℕ) → c < z .cabinets → laneMask s c ≡ maskWord m c
+  unfolding state
+  mask-is c b = ap maskOf (map-from-alike _ _ 0 (z .places) (λ p u v. pending-is c p b (omega arith))) ∙ mask-flags (maskWord m c) (z .places) (f .laneMasks c b)
+
+  cabinetMask-is : cabinetMask s ≡ at m cabinetMaskAt
+  unfolding state
+  cabinetMask-is =
+      ap maskOf
+      (map-map-from isNotZero (laneMask s) 0 (z .cabinets)
+      ∙ map-from-alike _ (λ c. flag c (at m cabinetMaskAt)) 0 (z .cabinets)
+      (λ c u v. let b : c < z .cabinets = omega arith in ap isNotZero (mask-is c b) ∙ f .cabinetBits c b))
+      ∙ mask-flags (at m cabinetMaskAt) (z .cabinets) (f .cabinetMask)
+
+  top-is : topWords s ≡ map (at m) (from 0 headsAt)
+  unfolding state from
+  top-is =
+      ap (λ (r : List ℕ). r ++ (at m currentGenerationAt ∷ at m largestGenerationAt ∷ cabinetMask s ∷ [])) (sym (l .contents .agree) ∙ take-map-from m contentsLength (omega (arith, l .contents .long)))
+      ∙ ap (λ (x : ℕ). map (at m) (from 0 contentsLength) ++ (at m currentGenerationAt ∷ at m largestGenerationAt ∷ x ∷ [])) cabinetMask-is
+
+  -- ---- a lane's words
+
+  low-wide : (a : ℕ) → a < total z → low (wide m a) ≡ at m a
+  low-wide a b = omega (arith, w a b)
+
+  high-wide : (a : ℕ) → a < total z → high (wide m a) ≡ at m (a + 1)
+  high-wide a b = omega (arith, w a b)
+
+  module _ (i : ℕ) (b : i < laneCount z) where
+    abbrev a : ℕ
+    a = laneAddress z i
+
+    word : (x k : ℕ) → x ≡ a + k → at m x ≡ laneWord m i k
+    word x k e = ap (at m) e
+
+    flags-are : flags (readLane m i) ≡ laneWord m i flagsAt
+    unfolding flags readLane from
+    flags-are =
+        let v = at m a in
+        ap₂ (λ (x y : Bool). maskOf (flag onlineBit v ∷ flag readingBit v ∷ x ∷ y ∷ [])) (isRunning-readLookup m (a + lookupAt) (flag lookupBit v)) (isHeld-readSnapshot m (a + snapshotAt) (flag snapshotBit v))
+        ∙ mask-flags v flagCount (omega (arith, word a 0 (omega arith), f .flags i b))
+        ∙ word a 0 (omega arith)
+
+    flag-clear : (k : ℕ) → flag k (at m a) ≡ false → flag k (laneWord m i flagsAt) ≡ false
+    flag-clear k e = ap (flag k) (sym (word a 0 (omega arith))) ∙ e
+
+    snapshot-is : (c : Bool) → flag snapshotBit (at m a) ≡ c → (k : ℕ) → k < kinds → snapshotCount (readSnapshot m (a + snapshotAt) c) k ≡ laneWord m i (snapshotAt + k)
+    unfolding snapshotCount
+    snapshot-is true e zero h = word (a + snapshotAt) snapshotAt (omega arith)
+    snapshot-is true e (suc zero) h = word (a + snapshotAt + 1) (snapshotAt + 1) (omega arith)
+    snapshot-is true e (suc (suc zero)) h = word (a + snapshotAt + 2) (snapshotAt + 2) (omega arith)
+    snapshot-is true e (suc (suc (suc zero))) h = word (a + snapshotAt + 3) (snapshotAt + 3) (omega arith)
+    snapshot-is true e (suc (suc (suc (suc k)))) h = absurd (omega arith)
+    snapshot-is false e k h = sym (f .snapshotsRest i b (flag-clear snapshotBit e) k h)
+
+    record LookupIs (c : Bool) : Type 0 where
+      low : low (lookupCode (readLookup m (a + lookupAt) c)) ≡ laneWord m i lookupAt
+      high : high (lookupCode (readLookup m (a + lookupAt) c)) ≡ laneWord m i (lookupAt + 1)
+      position : lookupPosition (readLookup m (a + lookupAt) c) ≡ laneWord m i positionAt
+
+    lookup-is : (c : Bool) → flag lookupBit (at m a) ≡ c → LookupIs c
+    unfolding lookupCode lookupPosition
+    lookup-is true e = record { low = low-wide (a + lookupAt) (omega arith); high = high-wide (a + lookupAt) (omega arith) ∙ word _ (lookupAt + 1) (omega arith); position = word _ positionAt (omega arith) }
+    lookup-is false e = let r = f .lookupsRest i b (flag-clear lookupBit e) in record { low = sym (r .low); high = sym (r .high); position = sym (r .position) }
+
+    end-is : (k : ℕ) → SlotOrNone (z .slots) (laneWord m i k) → (x : ℕ) → x ≡ a + k → first (readQueue m x) ≡ laneWord m i k
+    end-is k h x e = ap (λ (y : ℕ). first (readQueue m y)) e ∙ first-is (a + k) h
+
+    lane-words : laneWords (readLane m i) ≡ map (laneWord m i) (from 0 laneLength)
+    unfolding laneWords readLane from
+    lane-words =
+        let v = at m a in
+        let q = f .laneLasts i b in
+        let r = f .laneEnds i b in
+        let e = state-lane m i b in
+        let k = lookup-is (flag lookupBit v) refl in
+        cons flags-are
+        (cons (word _ quiescentAt (omega arith))
+        (cons (word _ (quiescentAt + 1) (omega arith))
+        (cons (word _ (quiescentAt + 2) (omega arith))
+        (cons (word _ (quiescentAt + 3) (omega arith))
+        (cons (snapshot-is (flag snapshotBit v) refl 0 (omega arith))
+        (cons (snapshot-is (flag snapshotBit v) refl 1 (omega arith))
+        (cons (snapshot-is (flag snapshotBit v) refl 2 (omega arith))
+        (cons (snapshot-is (flag snapshotBit v) refl 3 (omega arith))
+        (cons (word _ generationAt (omega arith))
+        (cons (end-is queuesAt (r .next .first) _ (omega arith))
+        (cons (sym (ap (λ (l : Lane). last (l .queues .next)) e) ∙ q .next ∙ word _ (queuesAt + lastOffset) (omega arith))
+        (cons (end-is (queuesAt + currentOffset) (r .current .first) _ (omega arith))
+        (cons (sym (ap (λ (l : Lane). last (l .queues .current)) e) ∙ q .current ∙ word _ (queuesAt + currentOffset + lastOffset) (omega arith))
+        (cons (end-is (queuesAt + doneOffset) (r .done .first) _ (omega arith))
+        (cons (sym (ap (λ (l : Lane). last (l .queues .done)) e) ∙ q .done ∙ word _ (queuesAt + doneOffset + lastOffset) (omega arith))
+        (cons (k .low)
+        (cons (k .high)
+        (cons (k .position) refl))))))))))))))))))
+
+  -- ---- a slot's words
+
+  slot-words : (i : ℕ) → i < z .slots → slotWords s i ≡ map (λ (k : ℕ). slotWord m k i) (from 0 slotLength)
+  unfolding from readProduct slotWords
+  slot-words i b =
+      let p = state-product m i b in
+      let a = slotAddress z i in
+      cons (ap (λ (q : Product). low (q .code)) p ∙ low-wide a (omega arith) ∙ ap (at m) (omega arith))
+      (cons (ap (λ (q : Product). high (q .code)) p ∙ high-wide a (omega arith))
+      (cons (ap (λ (q : Product). q .deposit) p)
+      (cons (ap (λ (q : Product). q .material) p)
+      (cons (chain-link m l i b)
+      (cons (queue-link m l i b) refl)))))
+
+  -- ---- all fields
+
+  pub state-image : Image z m (value s)
+  state-image (top k) b = sym (ap (λ (r : List ℕ). getD r k 0) top-is ∙ getD-map-below (at m) headsAt k 0 b)
+  state-image (head k) b = sym (head-is k b)
+  state-image (end k) b = sym (ap (λ (r : List ℕ). getD r k 0) ends-are ∙ getD-map-below (λ k. at m (freeAt + k)) endsLength k 0 b)
+  state-image (mask c) b = sym (mask-is c b)
+  state-image (lane i k) b =
+      sym
+      (ap (λ (l : Lane). getD (laneWords l) k 0) (state-lane m i (b .0))
+      ∙ ap (λ (r : List ℕ). getD r k 0) (lane-words i (b .0))
+      ∙ getD-map-below (laneWord m i) laneLength k 0 (b .1))
+  state-image (slot i k) b = sym (ap (λ (r : List ℕ). getD r k 0) (slot-words i (b .0)) ∙ getD-map-below (λ k. slotWord m k i) slotLength k 0 (b .1))

@@ -1,0 +1,129 @@
+-- A memory that holds the words of a well-formed state is legal.
+use Prim.Native.Nat.{ℕ, _+_, _-_, _^_, _≤_, _<_}
+use mathlib.Core.Path.{_≡_, sym, ap, _∙_, subst}
+use mathlib.Core.Bool.{true, false, not}
+use mathlib.Core.List.{List, [], _∷_}
+use native.Mathlib.Omega.{arith}
+use lib.ListN.{length}
+use lib.Dec.{eqb}
+use Rattle.model.specs.Word.{none}
+use Rattle.model.specs.Lists.{concat, count}
+use Rattle.model.specs.State.{Sizes, isRunning, isHeld, Engine, Product, Table, State}
+use Rattle.model.specs.Layout.{depositAt, materialAt, lastOffset, queueWidth, currentOffset, doneOffset, cabinetMaskAt, lookupBit, snapshotBit, flagsAt, queuesAt, positionAt, chainLinkAt, queueLinkAt, slotAddress, total}
+use Rattle.model.specs.Engine.{laneAt, runs}
+use Rattle.model.specs.Table.{productAt}
+use Rattle.model.specs.Memory.{at, sizes, wide, flag, flags, contents, lookupCode, cabinetMask, pendingAt, isNotZero, laneWords, slotWords, slotWord, allQueues, readProduct}
+use Rattle.model.specs.Rules.{wrongCode, wrongProduct}
+use Rattle.model.specs.Legal.{legal, codeOf, periodRuns}
+use Rattle.laws.specs.Tests.{not-not}
+use Rattle.laws.specs.Counts.{count-append}
+use Rattle.laws.specs.Repeats.{distinct-map-intro}
+use Rattle.laws.specs.Successors.{successorIn-out}
+use Rattle.laws.specs.Masks.{mask-lt, mask-from-lt}
+use Rattle.representation.proofs.WellFormed.{WellFormed, SlotOrNone}
+use Rattle.representation.proofs.Sentences.Ranges.{code-right, product-right}
+use Rattle.representation.proofs.Sentences.Facts.{Facts, Blank}
+use Rattle.representation.proofs.Sentences.Split.{facts-legal}
+use Rattle.representation.proofs.Addresses.Fields.{top, end, mask, slot, value}
+use Rattle.representation.proofs.Addresses.Writes.{Image}
+use Rattle.representation.proofs.FromState.Standing.{fit, stands, chain-once, chainLink-range, queueLink-range, position-range}
+use Rattle.representation.proofs.FromState.Periods.{cabinetMask-from, flag-cabinetMask, cabinetMask-runs}
+use Rattle.representation.proofs.FromState.RereadQueues.{sized}
+use Rattle.representation.proofs.FromState.Reread.{product-is, reread-sized, at-sizes}
+use Rattle.representation.proofs.FromState.LawfulGenerations.{largest-fits, lane-near, global-near, at-rest}
+use Rattle.representation.proofs.FromState.LawfulLanes.{contents-fit, heads, freeEnds, globalEnds, word, laneEnds, lookup-code, code-fits, flag-word, snapshot-rest, lookup-rest, bare, in-section, with-bit}
+
+module _ (e : Engine) (t : Table) (m : List ℕ) (w : WellFormed (sized e t m)) (holds : Image (sizes m) m (value (sized e t m))) (long : total (sizes m) ≤ length m) where
+  abbrev z : Sizes
+  z = sizes m
+
+  abbrev s : State
+  s = sized e t m
+
+  -- ---- masks
+
+  mask-word : at m cabinetMaskAt ≡ cabinetMask s
+  unfolding contents
+  mask-word = holds (top cabinetMaskAt) (omega arith)
+
+  runs-is : periodRuns m ≡ runs e
+  runs-is = ap (λ (x : ℕ). not (eqb x 0)) mask-word ∙ ap not (cabinetMask-runs s (fit s w .somePlaces) (w .lanes)) ∙ not-not (runs e)
+
+  -- ---- slots
+
+  product-right-at : (i : ℕ) → i < z .slots → wrongProduct (wide m (slotAddress z i)) (at m (slotAddress z i + depositAt)) (at m (slotAddress z i + materialAt)) ≡ false
+  unfolding readProduct
+  product-right-at i b =
+      ap (λ (p : Product). wrongProduct (p .code) (p .deposit) (p .material)) (product-is e t m w holds i b) ∙ product-right (productAt (t .products) i) (w .table .inRange i)
+
+  free-blank : (x : ℕ) → 0 < count x (t .free) → Blank m x
+  unfolding readProduct slotWords
+  free-blank x b =
+      let h : x < z .slots = w .range x (omega arith) in
+      let p = product-is e t m w holds x h ∙ w .table .blanks x b in
+      record {
+        code = ap (λ (q : Product). q .code) p;
+        deposit = ap (λ (q : Product). q .deposit) p;
+        material = ap (λ (q : Product). q .material) p;
+        link = holds (slot x chainLinkAt) (h, omega arith) ∙ successorIn-out (t .chains) x _ (omega (arith, stands s w x)) ∙ w .unlinked x (omega (arith, stands s w x));
+      }
+
+  chainLink-word : (i : ℕ) → i < z .slots → SlotOrNone (z .slots) (slotWord m chainLinkAt i)
+  unfolding slotWords
+  chainLink-word i b = subst (SlotOrNone (z .slots)) (sym (holds (slot i chainLinkAt) (b, omega arith))) (chainLink-range s w i)
+
+  queueLink-word : (i : ℕ) → i < z .slots → SlotOrNone (z .slots) (slotWord m queueLinkAt i)
+  unfolding slotWords
+  queueLink-word i b = subst (SlotOrNone (z .slots)) (sym (holds (slot i queueLinkAt) (b, omega arith))) (queueLink-range s w i)
+
+  -- ---- all facts
+
+  all-facts : Facts m s
+  unfolding flags laneWords slotWords
+  all-facts = record {
+    flags = λ i b. omega (arith, word e t m w holds long i b flagsAt (omega arith), mask-lt (laneAt e i .online ∷ laneAt e i .reading ∷ isRunning (laneAt e i .lookup) ∷ isHeld (laneAt e i .snapshot) ∷ []));
+    cabinetMask = subst (λ (x : ℕ). x < 2 ^ z .cabinets) (sym (mask-word ∙ cabinetMask-from s)) (mask-from-lt _ (z .cabinets));
+    laneMasks = λ c b. subst (λ (x : ℕ). x < 2 ^ z .places) (sym (holds (mask c) b)) (mask-from-lt (pendingAt s c) (z .places));
+    heads = heads e t m w holds long;
+    freeEnds = freeEnds e t m w holds long;
+    globalEnds = globalEnds e t m w holds long;
+    laneEnds = laneEnds e t m w holds long;
+    positions = λ i b. subst (SlotOrNone (z .slots)) (sym (word e t m w holds long i b positionAt (omega arith))) (position-range s w i);
+    chainLinks = chainLink-word;
+    queueLinks = queueLink-word;
+    products = product-right-at;
+    lookupCodes = λ i b. ap wrongCode (lookup-code e t m w holds long i b) ∙ code-right (lookupCode (laneAt e i .lookup)) (code-fits e t m w holds long i b);
+    once = λ i b. omega (arith, count-append i (concat (t .chains)) (concat (allQueues s)), stands s w i, w .once i b);
+    freeLast = sym (holds (end lastOffset) (omega arith));
+    globalLasts = record {
+      next = sym (holds (end (queueWidth + lastOffset)) (omega arith));
+      current = sym (holds (end (queueWidth + currentOffset + lastOffset)) (omega arith));
+      done = sym (holds (end (queueWidth + doneOffset + lastOffset)) (omega arith));
+    };
+    laneLasts = λ i b. record {
+      next = sym (ap (at m) (omega arith) ∙ word e t m w holds long i b (queuesAt + lastOffset) (omega arith));
+      current = sym (ap (at m) (omega arith) ∙ word e t m w holds long i b (queuesAt + currentOffset + lastOffset) (omega arith));
+      done = sym (ap (at m) (omega arith) ∙ word e t m w holds long i b (queuesAt + doneOffset + lastOffset) (omega arith));
+    };
+    onChain = λ k b. w .table .onChain k;
+    codes = distinct-map-intro (codeOf s) (concat (t .chains)) (chain-once s w) (λ x y a b. w .table .distinct x y (omega (arith, stands s w x)) (omega (arith, stands s w y)));
+    snapshotsRest = λ i b h. snapshot-rest e t m w holds long i b (sym (flag-word e t m w holds long i b snapshotBit) ∙ h);
+    lookupsRest = λ i b h. lookup-rest e t m w holds long i b (sym (flag-word e t m w holds long i b lookupBit) ∙ h);
+    globalRest = at-rest e _ _ (e .global) (w .generations .global);
+    lanesRest = λ i. at-rest e _ _ (laneAt e i .queues) (w .generations .lanes i);
+    queueLinksRest = λ i b h. holds (slot i queueLinkAt) (b, omega arith) ∙ successorIn-out (allQueues s) i none h;
+    off = bare e t m w holds long;
+    sections = λ i. in-section e t m w holds long (laneAt e i .reading) (laneAt e i .lookup) (w .fits i .lookup);
+    snapshots = λ i. with-bit e t m w holds long (laneAt e i .pending) (laneAt e i .snapshot) (w .fits i .snapshot);
+    cabinetBits = λ c b. ap isNotZero (holds (mask c) b) ∙ sym (ap (flag c) mask-word ∙ flag-cabinetMask s c b);
+    free = free-blank;
+    largest = largest-fits e (periodRuns m) runs-is (w .generations .word) (w .generations .largest);
+    lanesNear = λ i. lane-near e (periodRuns m) (laneAt e i) runs-is (w .generations .word) (w .generations .largest) (w .generations .lanes i);
+    globalNear = global-near e (w .generations .word) (w .generations .global);
+  }
+
+  lawful-sized : legal m ≡ true
+  lawful-sized = facts-legal m (record { contents = contents-fit e t m w holds long; facts = subst (Facts m) (sym (reread-sized e t m w holds)) all-facts })
+
+pub lawful : (s : State) (m : List ℕ) → WellFormed s → Image (s .sizes) m (value s) → total (s .sizes) ≤ length m → legal m ≡ true
+lawful s m w holds long = at-sizes s m holds (λ t. total (t .sizes) ≤ length m → legal m ≡ true) (λ v h. lawful-sized (s .engine) (s .table) m v h) w long

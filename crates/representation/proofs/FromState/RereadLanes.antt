@@ -1,0 +1,122 @@
+-- A memory that holds the words of a well-formed state: its lanes read as that state's.
+use Prim.Native.Nat.{ℕ, zero, suc, _+_, _/_, _%_, _<_}
+use mathlib.Core.Path.{_≡_, refl, sym, ap, ap₂, _∙_}
+use mathlib.Core.Bool.{false}
+use mathlib.Core.List.{List, [], _∷_, map}
+use native.Mathlib.Omega.{arith}
+use lib.ListN.{length, getD}
+use Rattle.model.specs.Lists.{first, from, concatMap}
+use Rattle.model.specs.State.{Sizes, laneCount, Lookup, idle, running, Snapshot, unheld, held, Lane, Engine, Table, isHeld, isRunning}
+use Rattle.model.specs.Layout.{kinds, currentOffset, doneOffset, onlineBit, readingBit, lookupBit, snapshotBit, quiescentAt, snapshotAt, generationAt, queuesAt, lookupAt, positionAt, laneLength, laneAddress}
+use Rattle.model.specs.Engine.{laneAt, freshLane}
+use Rattle.model.specs.Memory.{at, sizes, wholeOf, low, high, flag, flags, lookupCode, lookupPosition, snapshotCount, laneWords, laneQueues, maskWord, readQueues, readLane, readLookup, readCounts, readSnapshot}
+use Rattle.laws.specs.Lists.{map-from-getD}
+use Rattle.laws.specs.Masks.{flag-mask}
+use Rattle.representation.proofs.WellFormed.{WellFormed, SnapshotFits}
+use Rattle.representation.proofs.Addresses.Fields.{mask, lane, value}
+use Rattle.representation.proofs.Addresses.Writes.{Image}
+use Rattle.representation.proofs.FromState.Standing.{fit}
+use Rattle.representation.proofs.FromState.Periods.{cabinet-below, flag-laneMask}
+use Rattle.representation.proofs.FromState.RereadQueues.{sized, queue-is}
+
+-- where lane i's queues stand among those of all lanes
+abbrev triple : ℕ → ℕ
+triple zero = zero
+triple (suc i) = suc (suc (suc (triple i)))
+
+record Three (ls : List Lane) (i : ℕ) : Type 0 where
+  next : getD (concatMap laneQueues ls) (triple i) [] ≡ getD ls i freshLane .queues .next
+  current : getD (concatMap laneQueues ls) (suc (triple i)) [] ≡ getD ls i freshLane .queues .current
+  done : getD (concatMap laneQueues ls) (suc (suc (triple i))) [] ≡ getD ls i freshLane .queues .done
+
+three : (ls : List Lane) (i : ℕ) → i < length ls → Three ls i
+unfolding concatMap
+three [] i h = absurd (omega arith)
+three (l ∷ ls) zero h = record { next = refl; current = refl; done = refl }
+three (l ∷ ls) (suc i) h = let t = three ls i (omega arith) in record { next = t .next; current = t .current; done = t .done }
+
+four-counts : (xs : List ℕ) → length xs ≡ kinds → getD xs 0 0 ∷ getD xs 1 0 ∷ getD xs 2 0 ∷ getD xs 3 0 ∷ [] ≡ xs
+four-counts [] h = absurd (omega arith)
+four-counts (a ∷ []) h = absurd (omega arith)
+four-counts (a ∷ b ∷ []) h = absurd (omega arith)
+four-counts (a ∷ b ∷ c ∷ []) h = absurd (omega arith)
+four-counts (a ∷ b ∷ c ∷ d ∷ []) h = refl
+four-counts (a ∷ b ∷ c ∷ d ∷ e ∷ xs) h = absurd (omega arith)
+
+pub wholeOf-low-high : (c : ℕ) → wholeOf (low c) (high c) ≡ c
+wholeOf-low-high c = omega arith
+
+module _ (e : Engine) (t : Table) (m : List ℕ) where
+  abbrev z : Sizes
+  z = sizes m
+
+  module _ (w : WellFormed (sized e t m)) (holds : Image z m (value (sized e t m))) where
+    module _ (i : ℕ) (b : i < laneCount z) where
+      abbrev l : Lane
+      l = laneAt e i
+
+      abbrev a : ℕ
+      a = laneAddress z i
+
+      word : (k : ℕ) → k < laneLength → (x : ℕ) → x ≡ a + k → at m x ≡ getD (laneWords l) k 0
+      word k h x p = ap (at m) p ∙ holds (lane i k) (b, h)
+
+      queues-are : readQueues m (a + generationAt) (a + queuesAt) ≡ l .queues
+      unfolding laneWords
+      queues-are =
+          let there = three (e .lanes) i (omega (arith, w .lanes)) in
+          λ j. record {
+            next = (queue-is e t m w holds (a + queuesAt) (suc (suc (suc (suc (triple i))))) (word queuesAt (omega arith) _ (omega arith) ∙ ap first (sym (there .next))) ∙ there .next) j;
+            current = (queue-is e t m w holds (a + queuesAt + currentOffset) (suc (suc (suc (suc (suc (triple i)))))) (word (queuesAt + currentOffset) (omega arith) _ (omega arith) ∙ ap first (sym (there .current))) ∙ there .current) j;
+            done = (queue-is e t m w holds (a + queuesAt + doneOffset) (suc (suc (suc (suc (suc (suc (triple i))))))) (word (queuesAt + doneOffset) (omega arith) _ (omega arith) ∙ ap first (sym (there .done))) ∙ there .done) j;
+            generation = word generationAt (omega arith) (a + generationAt) refl j;
+          }
+
+      pub flag-is : (k : ℕ) → flag k (at m a) ≡ getD (l .online ∷ l .reading ∷ isRunning (l .lookup) ∷ isHeld (l .snapshot) ∷ []) k false
+      unfolding laneWords flags
+      flag-is k = ap (flag k) (word 0 (omega arith) a (omega arith)) ∙ flag-mask (l .online ∷ l .reading ∷ isRunning (l .lookup) ∷ isHeld (l .snapshot) ∷ []) k
+
+      counts-are : readCounts m (a + quiescentAt) ≡ l .quiescent
+      unfolding laneWords
+      counts-are =
+          (λ j. word 1 (omega arith) (a + quiescentAt) refl j ∷ word 2 (omega arith) (a + quiescentAt + 1) (omega arith) j ∷ word 3 (omega arith) (a + quiescentAt + 2) (omega arith) j ∷ word 4 (omega arith) (a + quiescentAt + 3) (omega arith) j ∷ [])
+          ∙ four-counts (l .quiescent) (w .fits i .counts .four)
+
+      lookup-is : (k : Lookup) → l .lookup ≡ k → readLookup m (a + lookupAt) (isRunning k) ≡ k
+      unfolding isRunning laneWords lookupCode lookupPosition
+      lookup-is idle q = refl
+      lookup-is (running c p) q =
+          ap₂ running
+          (ap₂ wholeOf (word lookupAt (omega arith) (a + lookupAt) refl ∙ ap (λ (k : Lookup). low (lookupCode k)) q) (word (lookupAt + 1) (omega arith) (a + lookupAt + 1) (omega arith) ∙ ap (λ (k : Lookup). high (lookupCode k)) q)
+          ∙ wholeOf-low-high c)
+          (word positionAt (omega arith) (a + lookupAt + 2) (omega arith) ∙ ap lookupPosition q)
+
+      snapshot-is : (k : Snapshot) → l .snapshot ≡ k → SnapshotFits (l .pending) k → readSnapshot m (a + snapshotAt) (isHeld k) ≡ k
+      unfolding isHeld laneWords snapshotCount
+      snapshot-is unheld q f = refl
+      snapshot-is (held c) q f =
+          ap held
+          ((λ j. count-at 5 (a + snapshotAt) 0 (omega arith) (omega arith) refl j ∷ count-at 6 (a + snapshotAt + 1) 1 (omega arith) (omega arith) refl j ∷ count-at 7 (a + snapshotAt + 2) 2 (omega arith) (omega arith) refl j ∷ count-at 8 (a + snapshotAt + 3) 3 (omega arith) (omega arith) refl j ∷ [])
+          ∙ four-counts c (f .1 .four))
+        where
+          count-at : (k x j : ℕ) → k < laneLength → x ≡ a + k → getD (laneWords l) k 0 ≡ snapshotCount (l .snapshot) j → at m x ≡ getD c j 0
+          count-at k x j h p d = word k h x p ∙ d ∙ ap (λ (y : Snapshot). snapshotCount y j) q
+
+      pending-is : flag (i % z .places) (maskWord m (i / z .places)) ≡ l .pending
+      pending-is =
+          ap (flag (i % z .places)) (holds (mask (i / z .places)) (cabinet-below (sized e t m) (fit (sized e t m) w .somePlaces) i b)) ∙ flag-laneMask (sized e t m) (fit (sized e t m) w .somePlaces) i
+
+      lane-is : readLane m i ≡ l
+      unfolding readLane
+      lane-is = λ j. record {
+        online = flag-is onlineBit j;
+        reading = flag-is readingBit j;
+        lookup = (ap (readLookup m (a + lookupAt)) (flag-is lookupBit) ∙ lookup-is (l .lookup) refl) j;
+        quiescent = counts-are j;
+        snapshot = (ap (readSnapshot m (a + snapshotAt)) (flag-is snapshotBit) ∙ snapshot-is (l .snapshot) refl (w .fits i .snapshot)) j;
+        pending = pending-is j;
+        queues = queues-are j;
+      }
+
+    pub lanes-are : map (readLane m) (from 0 (laneCount z)) ≡ e .lanes
+    lanes-are = map-from-getD (readLane m) freshLane (e .lanes) (laneCount z) (w .lanes) lane-is

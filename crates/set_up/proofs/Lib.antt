@@ -1,0 +1,2 @@
+-- The ways out of set-up.
+pub mod SetUpLaws

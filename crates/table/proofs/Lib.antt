@@ -1,0 +1,2 @@
+-- A call of the code is the model's.
+pub mod CallLaws
