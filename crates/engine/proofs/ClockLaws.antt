@@ -36,22 +36,9 @@ answer-shown s m shows each =
     turned true = refl
     turned false = refl
 
--- lane i stands in cabinet i / places at place i % places
-pub clock-lane : (s : State) → WellFormed s → (i : ℕ) → refusal s (clock i) ≡ 0
-    → (i / s .sizes .places < s .sizes .cabinets) × (i % s .sizes .places < s .sizes .places) × (i ≡ i / s .sizes .places * s .sizes .places + i % s .sizes .places)
-unfolding causes
-clock-lane s w i h =
-    let (known, rest) = clear (causes s (clock i)) (omega arith) h in
-    let some = fit s w .somePlaces in
-    (cabinet-below s some i (within s i known), mod-lt i some, sym (div-add-mod' i (s .sizes .places)))
-
 module _ (s : State) (m : List ℕ) (shows : Shows m s) (w : WellFormed s) (c p : ℕ) (inCabinets : c < s .sizes .cabinets) (inPlaces : p < s .sizes .places) where
   abbrev z : Sizes
   z = s .sizes
-
-  -- the memory holds what the code asks for
-  pub clock-lent : TableLent m (z .cabinets) (z .places) (slotsBody z) (z .slots) c p
-  clock-lent = table-lent-shown s m shows (fit s w) c p inCabinets inPlaces
 
   module _ (i : ℕ) (e : i ≡ c * z .places + p) where
     pub clock-stored : clockWords m (z .cabinets) (z .places) (slotsBody z) (z .slots) c p ≡ stored (performed s (clock i)) m

@@ -17,14 +17,6 @@ module _ (s : State) (m : List ℕ) (shows : Shows m s) where
   pub lent-shown : SizesFit (s .sizes) → Lent m (s .sizes .cabinets) (s .sizes .places)
   lent-shown f = record { fewCabinets = f .fewCabinets; fewPlaces = f .fewPlaces; long = omega (arith, shows .long) }
 
-  -- advance
-  pub owner-lent-shown : (o : Owner) → Known (s .sizes) o
-      → OwnerLent m (slotsBody (s .sizes)) (s .sizes .slots) (endsAt (s .sizes) (queueBy o next)) (generationBy (s .sizes) o)
-  owner-lent-shown allLanes h =
-      record { queues = omega (arith, shows .long); stamp = omega (arith, shows .long); masks = omega (arith, shows .long); records = shows .long }
-  owner-lent-shown (oneLane i) h =
-      record { queues = omega (arith, shows .long); stamp = omega (arith, shows .long); masks = omega (arith, shows .long); records = shows .long }
-
   -- off, and the clock
   pub table-lent-shown : SizesFit (s .sizes) → (c p : ℕ) → c < s .sizes .cabinets → p < s .sizes .places
       → TableLent m (s .sizes .cabinets) (s .sizes .places) (slotsBody (s .sizes)) (s .sizes .slots) c p

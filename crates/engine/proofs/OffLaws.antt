@@ -67,19 +67,3 @@ module _ (s : State) (m : List ℕ) (shows : Shows m s) (w : WellFormed s) (c p 
       ap stepsAt (cabinetAt-lane (s .sizes) c p)
       ∙ stored-then u (withEngine u (advancedGlobal (u .engine))) m k (advancedAll k) refl v
       (advanced-stored u k (shows-then u m k (shows .long) v) (shape-released t lane-number y) allLanes tt)
-
--- the lane by its number i, where no cause refuses the call
-module _ (s : State) (m : List ℕ) (shows : Shows m s) (w : WellFormed s) (i c p : ℕ) (is : i ≡ c * s .sizes .places + p) (inPlaces : p < s .sizes .places) where
-  in-cabinets : i < laneCount (s .sizes) → c < s .sizes .cabinets
-  in-cabinets h =
-      elim (decLt c (s .sizes .cabinets)) [
-        | yes b ↦ b
-        | no b ↦ absurd (let n : s .sizes .cabinets ≤ c = omega arith in omega (arith, mul-le-mul-right {m = s .sizes .cabinets} {n = c} (s .sizes .places) n))
-      ]
-
-  pub off-call-stored : refusal s (off i) ≡ 0
-      → offWords m (s .sizes .cabinets) (s .sizes .places) (slotsBody (s .sizes)) (s .sizes .slots) c p ≡ stored (performed s (off i)) m
-  unfolding causes
-  off-call-stored h =
-      let (known, rest) = clear (causes s (off i)) (omega arith) h in
-      off-stored s m shows w c p (in-cabinets (within s i known)) inPlaces ∙ ap (λ (j : ℕ). stored (performed s (off j)) m) (sym is)

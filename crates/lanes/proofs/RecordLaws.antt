@@ -13,7 +13,7 @@ use Rattle.model.specs.Layout.{kinds, countLimit, laneLength, quiescentAt, snap
 use Rattle.model.specs.Engine.{counted, setPending}
 use Rattle.model.specs.Memory.{at, flags, readCounts, laneWords, snapshotCount}
 use Rattle.laws.specs.Lists.{length-update}
-use Rattle.laws.specs.Stores.{getD-sets-below, getD-sets-above, map-sets, sets-same}
+use Rattle.laws.specs.Stores.{getD-sets-below, map-sets, sets-same}
 use Rattle.masks.proofs.BitLaws.{withBit-mask, withoutBit-mask}
 use Rattle.lanes.proofs.Offsets.{plus-1, plus-2, plus-3, plus-4, plus-5, plus-9, plus-10, plus-16, plus-18}
 use Rattle.lanes.specs.Record.{endsAt, endsWords, lookupWordsAt, lookupWords, recordAt, recordWith, recordWords, recordStored, recordOf, withQuiescent, withSnapshot, countedRecord, sampledRecord, droppedRecord}
@@ -26,15 +26,6 @@ use Rattle.lanes.specs.declared.LaneRecord.{LaneRecord}
 -- the n words of m from a on
 abbrev pub wordsAt : List ℕ → ℕ → ℕ → List ℕ
 wordsAt m a n = map (at m) (from a n)
-
-pub wordsAt-part : (m : List ℕ) (a n : ℕ) → a + n ≤ length m → wordsAt m a n ≡ take n (drop a m)
-unfolding from
-wordsAt-part m a zero h = refl
-wordsAt-part m a (suc n) h = ap (_∷_ (at m a)) (wordsAt-part m (suc a) n (omega arith)) ∙ sym (ap (take (suc n)) (drop-cons m a 0 (omega arith)))
-
-pub length-recordWords : (r : LaneRecord) → length (recordWords r) ≡ laneLength
-unfolding recordWords
-length-recordWords r = refl
 
 -- a record that was read has the words that stand there
 pub recordWords-recordAt : (m : List ℕ) (a : ℕ) → recordWords (recordAt m a) ≡ wordsAt m a laneLength
@@ -92,31 +83,11 @@ recordStored-parts m a r x y n c d l hx hy hn hc hd hl = rw (hl, hd, hc, hn, hy,
 pub recordStored-recordAt : (m : List ℕ) (a : ℕ) → recordStored m a (recordAt m a) ≡ m
 recordStored-recordAt m a = ap (sets m a) (recordWords-recordAt m a) ∙ sets-same m 0 a laneLength
 
--- every word before the record and after it stays
-pub recordStored-before : (m : List ℕ) (a : ℕ) (r : LaneRecord) (i : ℕ) → i < a → at (recordStored m a r) i ≡ at m i
-recordStored-before m a r i h = getD-sets-below (recordWords r) m a i 0 h
-
-pub recordStored-after : (m : List ℕ) (a : ℕ) (r : LaneRecord) (i : ℕ) → a + laneLength ≤ i → at (recordStored m a r) i ≡ at m i
-unfolding recordWords
-recordStored-after m a r i h = getD-sets-above (recordWords r) m a i 0 h
-
 -- ---- the record of a lane
-
-pub recordWords-recordOf : (l : Lane) → recordWords (recordOf l) ≡ laneWords l
-unfolding recordWords recordAt laneWords
-recordWords-recordOf l = refl
 
 -- where the words of a lane stand, its record is read
 pub recordAt-lane : (m : List ℕ) (a : ℕ) (l : Lane) → wordsAt m a laneLength ≡ laneWords l → recordAt m a ≡ recordOf l
 recordAt-lane m a l e = recordAt-words m a ∙ ap (λ (ws : List ℕ). recordAt ws 0) e
-
--- the rules on a lane, and on its record
-pub recordOf-counted : (l : Lane) (k : ℕ) → k < kinds → length (l .quiescent) ≡ kinds → recordOf (counted k l) ≡ countedRecord (recordOf l) k
-unfolding counted countedRecord recordAt laneWords update flags
-recordOf-counted l k h hq = ap (λ (c : List ℕ). withQuiescent c (recordOf l)) (go (l .quiescent) k h hq)
-  where
-    go : (c : List ℕ) (k : ℕ) → k < kinds → length c ≡ kinds → readCounts (update c k (upTo countLimit)) 0 ≡ update (readCounts c 0) k (upTo countLimit)
-    go c k h hq = counts-back (update c k (upTo countLimit)) (length-update c k (upTo countLimit) ∙ hq) ∙ ap (λ (d : List ℕ). update d k (upTo countLimit)) (sym (counts-back c hq))
 
 -- the flags of a lane, bit 0 first
 abbrev laneFlags : Lane → List Bool

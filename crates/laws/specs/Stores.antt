@@ -58,10 +58,6 @@ module _ {A : Type 0} where
       let e : a + suc k ≡ suc a + k = omega arith in
       rw e (getD-sets xs (set m a x) (suc a) k d (let l = length-set m a x in omega arith) (omega arith))
 
-  pub getD-sets-above : (xs m : List A) (a i : ℕ) (d : A) → a + length xs ≤ i → getD (sets m a xs) i d ≡ getD m i d
-  getD-sets-above [] m a i d h = refl
-  getD-sets-above (x ∷ xs) m a i d h = getD-sets-above xs (set m a x) (suc a) i d (omega arith) ∙ getD-set-other m a i x d (λ e. omega arith)
-
   -- a change within a run of stores
   pub update-sets : (xs m : List A) (d : A) (a k : ℕ) (f : A → A) → a + length xs ≤ length m → k < length xs → update (sets m a xs) (a + k) f ≡ sets m a (update xs k f)
   update-sets xs m d a k f fits h =
@@ -80,21 +76,8 @@ module _ {A : Type 0} where
 
   -- ---- a part: the k elements from a on, changed, in their place again
 
-  pub part-set : (m : List A) (a k p : ℕ) (x : A) → p < k → take a m ++ (set (take k (drop a m)) p x ++ drop k (drop a m)) ≡ set m (a + p) x
-  part-set m a k p x h =
-      sym (
-      sym (take-append-drop a (set m (a + p) x))
-      ∙ ap₂ _++_ (take-set-le a m (a + p) x (omega arith)) (drop-set-add a m p x ∙ sym (take-append-drop k (set (drop a m) p x))
-      ∙ ap₂ _++_ (take-set-lt k (drop a m) p x h) (drop-set-lt k (drop a m) p x h)))
-
   pub getD-part : (m : List A) (a k p : ℕ) (d : A) → p < k → getD (take k (drop a m)) p d ≡ getD m (a + p) d
   getD-part m a k p d h = getD-take k (drop a m) p d h ∙ getD-drop a m p d
-
-  pub part-update : (m : List A) (d : A) (a k p : ℕ) (f : A → A) → p < k → take a m ++ (update (take k (drop a m)) p f ++ drop k (drop a m)) ≡ update m (a + p) f
-  part-update m d a k p f h =
-      ap (λ (l : List A). take a m ++ (l ++ drop k (drop a m)))
-      (update-set d (take k (drop a m)) p f ∙ ap (λ (x : A). set (take k (drop a m)) p (f x)) (getD-part m a k p d h))
-      ∙ part-set m a k p (f (getD m (a + p) d)) h ∙ sym (update-set d m (a + p) f)
 
   -- the part of a list with a store in the part
   part-of-set : (m : List A) (a k p : ℕ) (x : A) → p < k → take k (drop a (set m (a + p) x)) ≡ set (take k (drop a m)) p x
@@ -110,11 +93,3 @@ module _ {A : Type 0} where
       ap₂ _++_ (sym (take-set-le a m (a + p) x (omega arith)))
       (ap₂ _++_ (ap (λ (l : List A). sets l (suc p) xs) (sym (part-of-set m a k p x (omega arith)))) (sym (rest-of-set m a k p x (omega arith))))
       ∙ part-sets xs (set m (a + p) x) a k (suc p) (omega arith) ∙ ap (λ (i : ℕ). sets (set m (a + p) x) i xs) e
-
-  -- a store, then a run of stores
-  pub part-set-sets : (xs m : List A) (a k b p : ℕ) (x : A) → b < k → p + length xs ≤ k
-      → take a m ++ (sets (set (take k (drop a m)) b x) p xs ++ drop k (drop a m)) ≡ sets (set m (a + b) x) (a + p) xs
-  part-set-sets xs m a k b p x hb h =
-      ap₂ _++_ (sym (take-set-le a m (a + b) x (omega arith)))
-      (ap₂ _++_ (ap (λ (l : List A). sets l p xs) (sym (part-of-set m a k b x hb))) (sym (rest-of-set m a k b x hb)))
-      ∙ part-sets xs (set m (a + b) x) a k p h

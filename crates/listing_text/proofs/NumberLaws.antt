@@ -22,11 +22,6 @@ valueFrom-grows v (b ∷ w) =
     let h : v ≤ v * 10 + (b - 48) = omega arith in
     le-trans h (valueFrom-grows (v * 10 + (b - 48)) w)
 
-pub valueFrom-append : (v : ℕ) (u w : List ℕ) → valueFrom v (u ++ w) ≡ valueFrom (valueFrom v u) w
-unfolding valueFrom
-valueFrom-append v [] w = refl
-valueFrom-append v (b ∷ u) w = valueFrom-append (v * 10 + (b - 48)) u w
-
 -- ---- digits
 
 pub decimalIn-digit : (k n : ℕ) → n < 10 → decimalIn k n ≡ (n + 48) ∷ []
@@ -65,66 +60,6 @@ pub decimal-more-length : {n : ℕ} → 10 ≤ n → length (decimal n) ≡ leng
 decimal-more-length {n} h = ap length (decimal-more n h) ∙ simp length-append
 
 -- ---- what the digits of a number are
-
--- what holds of one digit, and of more if of those before the last, holds of every number
-digits-induct : (P : ℕ → List ℕ → Type 0)
-    → ((n : ℕ) → n < 10 → P n ((n + 48) ∷ []))
-    → ((n : ℕ) (w : List ℕ) → 10 ≤ n → P (n / 10) w → P n (w ++ ((n % 10 + 48) ∷ [])))
-    → (k n : ℕ) → n ≤ k → P n (decimalIn k n)
-digits-induct P one more zero n h = rw (decimalIn-digit zero n (omega arith)) (one n (omega arith))
-digits-induct P one more (suc k) n h = go (decLt n 10) (digits-induct P one more k (n / 10))
-  where
-    go : Dec (n < 10) → (n / 10 ≤ k → P (n / 10) (decimalIn k (n / 10))) → P n (decimalIn (suc k) n)
-    go (yes t) ih = rw (decimalIn-digit (suc k) n t) (one n t)
-    go (no t) ih =
-        let t' : 10 ≤ n = omega arith in
-        rw (decimalIn-more k n t') (more n (decimalIn k (n / 10)) t' (ih (omega arith)))
-
--- w is digits of value n, at least one, and the first is not 0 unless n is
-pub record Digits (n : ℕ) (w : List ℕ) : Type 0 where
-  pub value : valueFrom 0 w ≡ n
-  pub digits : all isDigit w ≡ true
-  pub some : 0 < length w
-  pub front : 0 < n → 48 < getD w 0 0
-
-all-append : (u : List ℕ) (b : ℕ) → all isDigit u ≡ true → isDigit b ≡ true → all isDigit (u ++ (b ∷ [])) ≡ true
-unfolding all
-all-append [] b hu hb = rw hb
-all-append (a ∷ u) b hu hb =
-    and-true (and-left (isDigit a) (all isDigit u) hu)
-    (all-append u b (and-right (isDigit a) (all isDigit u) hu) hb)
-
-front-append : (u : List ℕ) (b : ℕ) → 0 < length u → getD (u ++ (b ∷ [])) 0 0 ≡ getD u 0 0
-front-append [] b h = absurd (omega arith)
-front-append (a ∷ u) b h = refl
-
-is-digit : (d : ℕ) → d < 10 → isDigit (d + 48) ≡ true
-is-digit d h = and-true (le-leb 48 (d + 48) (omega arith)) (le-leb (d + 48) 57 (omega arith))
-
-one-digit : (n : ℕ) → n < 10 → Digits n ((n + 48) ∷ [])
-unfolding valueFrom all
-one-digit n h = record { value = omega arith; digits = and-true (is-digit n h) refl; some = omega arith; front = λ p. omega arith }
-
-more-digits : (n : ℕ) (w : List ℕ) → 10 ≤ n → Digits (n / 10) w → Digits n (w ++ ((n % 10 + 48) ∷ []))
-unfolding valueFrom
-more-digits n w h d =
-    let b : ℕ = n % 10 + 48 in
-    let ev : valueFrom 0 (w ++ (b ∷ [])) ≡ n / 10 * 10 + (b - 48) = valueFrom-append 0 w (b ∷ []) ∙ ap (λ (x : ℕ). x * 10 + (b - 48)) (d .value) in
-    record {
-      value = omega (arith, ev);
-      digits = all-append w b (d .digits) (is-digit (n % 10) (omega arith));
-      some = simp length-append (omega arith);
-      front = λ p. rw (front-append w b (d .some)) (d .front (omega arith));
-    }
-
-pub decimal-digits : (n : ℕ) → Digits n (decimal n)
-unfolding decimal
-decimal-digits n = digits-induct Digits one-digit more-digits n n (le-refl n)
-
--- the digits of n are a number of value n
-pub decimal-value : (n : ℕ) → value (decimal n) ≡ n
-unfolding value
-decimal-value n = decimal-digits n .value
 
 -- ---- how many digits
 

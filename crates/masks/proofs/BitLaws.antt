@@ -67,23 +67,6 @@ shr-flag w p = ap (λ (x : ℕ). eqb x 1) (shr-and-one w p) ∙ go (flag p w)
     go true = refl
     go false = refl
 
--- ---- one bit changed
-
-module _ (w k p : ℕ) (hk : k < width) (hp : p < width) where
-  flag-set : (b : Bool) → flag k (mask (set (bits w) p b)) ≡ cond (eqb k p) b (flag k w)
-  flag-set b =
-      flag-mask (set (bits w) p b) k
-      ∙ getD-set (bits w) p k b false (omega (arith, length-bits w))
-      ∙ ap (cond (eqb k p) b) (getD-map-below (λ (j : ℕ). flag j w) width k false hk)
-
-  pub flag-withBit : flag k (withBit p w) ≡ cond (eqb k p) true (flag k w)
-  unfolding withBit
-  flag-withBit = flag-set true
-
-  pub flag-withoutBit : flag k (withoutBit p w) ≡ cond (eqb k p) false (flag k w)
-  unfolding withoutBit
-  flag-withoutBit = flag-set false
-
 -- ---- masks of any width up to 32
 
 module _ (bs : List Bool) (fits : length bs ≤ width) where
@@ -100,9 +83,6 @@ module _ (bs : List Bool) (fits : length bs ≤ width) where
       ∙ ap (λ (x : ℕ). bitAnd (mask bs) ((2 ^ width - 1) - x)) (shl-bit p (omega arith))
       ∙ and-clear width bs p fits h
 
-  pub trues-mask : trues (bits (mask bs)) ≡ trues bs
-  trues-mask = sym (ones-trues (mask bs) mask-word) ∙ ones-mask bs
-
   pub firstTrue-mask : some bs ≡ true → firstTrue (bits (mask bs)) ≡ firstTrue bs
   firstTrue-mask h = sym (trailing-firstTrue (mask bs) mask-word) ∙ trailing-mask width bs fits h
 
@@ -113,9 +93,6 @@ module _ (g h : ℕ → Bool) (n p : ℕ) (fits : n ≤ width) (inside : p < n) 
 
   set-flags : (b : Bool) → ((k : ℕ) → h k ≡ cond (eqb k p) b (g k)) → set (map g (from 0 n)) p b ≡ map h (from 0 n)
   set-flags b e = sym (map-from-set g h 0 n p b inside (λ k. e k ∙ ap (λ (x : ℕ). cond (eqb k x) b (g k)) (let z : p ≡ 0 + p = omega arith in z)))
-
-  pub withBit-from : ((k : ℕ) → h k ≡ cond (eqb k p) true (g k)) → withBit p (mask (map g (from 0 n))) ≡ mask (map h (from 0 n))
-  withBit-from e = withBit-mask (map g (from 0 n)) (omega (arith, length-flags)) p (omega (arith, length-flags)) ∙ ap mask (set-flags true e)
 
   pub withoutBit-from : ((k : ℕ) → h k ≡ cond (eqb k p) false (g k)) → withoutBit p (mask (map g (from 0 n))) ≡ mask (map h (from 0 n))
   withoutBit-from e = withoutBit-mask (map g (from 0 n)) (omega (arith, length-flags)) p (omega (arith, length-flags)) ∙ ap mask (set-flags false e)

@@ -41,29 +41,6 @@ shape-link s w o x = record {
 pub shape-clear : (s : State) → Shape s → (o : ℕ) → Shape (slotCleared o s)
 shape-clear s w o = shape-link (withProduct o blank s) (shape-product s w o blank) o none
 
--- a slot that stood nowhere is linked at the head
-module _ (s : State) (w : Shape s) (k o : ℕ) (below : k < chainCount) (inside : o < s .sizes .slots) (out : chained o s + queued o s ≡ 0) where
-  count-added : (x : ℕ) → chained x (headAdded k o s) ≡ chained x s + mark x o
-  unfolding count
-  count-added x = omega (arith, count-concat-update (s .table .chains) k x (_∷_ o) (omega (arith, w .chains)))
-
-  pub shape-head : Shape (headAdded k o s)
-  shape-head = record {
-    few = w .few;
-    chains = length-update (s .table .chains) k (_∷_ o) ∙ w .chains;
-    lanes = w .lanes;
-    links = w .links;
-    products = w .products;
-    once = λ x. elim (decide x o) [
-      | same e t u ↦ let n : mark x o ≡ 1 = rw t in let h : chained x s + queued x s ≡ 0 = rw e out in omega (arith, count-added x)
-      | other e t u ↦ omega (arith, count-added x, mark-other x o e, w .once x)
-    ];
-    below = λ x h. elim (decide x o) [
-      | same e t u ↦ omega arith
-      | other e t u ↦ w .below x (omega (arith, count-added x, mark-other x o e))
-    ];
-  }
-
 -- slot o of chain k leaves it, or another takes its place
 module _ (s : State) (w : Shape s) (k o : ℕ) (below : k < chainCount) (inChain : 0 < count o (getD (s .table .chains) k [])) where
   pub shape-unlink : Shape (chainLess k o s)

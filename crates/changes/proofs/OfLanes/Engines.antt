@@ -125,8 +125,3 @@ module _ (s : State) (ls : List Lane) where
     value-withPending (lane i k) = ap (λ (ws : List ℕ). getD ws k 0) (words i)
     value-withPending (slot i k) =
         ap (λ (r : List (List ℕ)). getD (set (slotWords s i) queueLinkAt (successorIn (s .table .free ∷ queuesOf (s .engine .global) ++ r) i none)) k 0) queues
-
-    -- the stores made the masks
-    pub pending-done : (m n : List ℕ) (v : Field → ℕ) → Shows m s → Writes (s .sizes) m n v
-        → ((f : Field) → Inside (s .sizes) f → maskedValue f ≡ v f) → n ≡ stored withPending m
-    pending-done m n v shows p e = writes-done withPending m n v (shows .long) p (λ f b. value-withPending f ∙ e f b)

@@ -152,14 +152,6 @@ module _ (s : State) (i : ℕ) (g : Lane → Lane) (pending : g (laneAt (s .engi
         lane-done (storedFrom m (laneAddress (s .sizes) i) ws)
         (rw e (lane-all s i m shows within ws m (laneWords (laneAt (s .engine) i)) refl b (lane-none s i m shows within)))
 
-    -- the whole record is stored
-    pub lane-record : sets m (laneAddress (s .sizes) i) new ≡ stored (withLane s i g) m
-    unfolding laneWords
-    lane-record =
-        lane-done (sets m (laneAddress (s .sizes) i) new)
-        (lane-run s i m shows within new m (laneWords (laneAt (s .engine) i)) 0 (laneAddress (s .sizes) i) refl (omega arith) (omega arith)
-        (lane-none s i m shows within))
-
   pub shape-lane : Shape s → Shape (withLane s i g)
   shape-lane w = record {
     few = w .few;

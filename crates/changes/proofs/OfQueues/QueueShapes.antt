@@ -14,33 +14,6 @@ use Rattle.changes.specs.Queues.{Queue, Named, queueOf, withQueue, joine
 use Rattle.changes.proofs.OfQueues.QueuePlaces.{queueOf-other}
 use Rattle.changes.proofs.OfQueues.QueueStates.{lanes-withQueue, queued-withQueue, shape-withQueue, queue-le}
 
--- a slot that stood nowhere is appended
-module _ (s : State) (w : Shape s) (q : Queue) (named : Named (s .sizes) q) (o : ℕ) (inside : o < s .sizes .slots) (out : chained o s + queued o s ≡ 0) where
-  abbrev appendedState : State
-  appendedState = withQueue q (λ xs. xs ++ (o ∷ [])) s
-
-  record Stands (x : ℕ) : Type 0 where
-    once : chained x s + queued x appendedState ≤ 1
-    below : 0 < chained x s + queued x appendedState → x < s .sizes .slots
-
-  appended-stands : (x : ℕ) → Stands x
-  unfolding count
-  appended-stands x =
-      let c = queued-withQueue s q (λ xs. xs ++ (o ∷ [])) (w .lanes) named x in
-      let d = count-append x (queueOf s q) (o ∷ []) in
-      elim (decide x o) [
-        | same e t u ↦
-            let k : chained x s + queued x s ≡ 0 = rw e out in
-            let n : count x (o ∷ []) ≡ 1 = rw t in
-            record { once = omega arith; below = λ h. omega arith }
-        | other e t u ↦
-            let n : count x (o ∷ []) ≡ 0 = rw t in
-            record { once = omega (arith, w .once x); below = λ h. w .below x (omega arith) }
-      ]
-
-  pub shape-append : Shape appendedState
-  shape-append = shape-withQueue s q (λ xs. xs ++ (o ∷ [])) w (λ x. appended-stands x .once) (λ x. appended-stands x .below)
-
 -- the first leaves
 module _ (s : State) (w : Shape s) (q : Queue) (named : Named (s .sizes) q) where
   count-tail : (x : ℕ) (xs : List ℕ) → count x (tail xs) ≤ count x xs
