@@ -16,7 +16,7 @@ use Rattle.model.specs.Layout.{maxCabinets, maxPlaces, masksAt, cabinetMaskAt}
 use Rattle.model.specs.Engine.{runs}
 use Rattle.model.specs.Rules.{pendingFrom}
 use Rattle.model.specs.Memory.{at, flag, contents, maskWord, isNotZero, laneMask, laneMasks, cabinetMask, sizes, state}
-use Rattle.laws.specs.Lists.{length-map-from}
+use Rattle.laws.specs.ListLaws.{length-map-from}
 use Rattle.laws.specs.Masks.{some, mask-zero}
 use Rattle.laws.specs.MaskFlags.{trues, firstTrue, firstTrue-lt}
 use Rattle.masks.specs.Bits.{width, bits}

@@ -1,2 +1,2 @@
 -- The code's calls as the model's.
-pub mod Calls
+pub mod CallOf

@@ -13,7 +13,7 @@ use borrow.Author.Tests.{ne-eqb}
 use Rattle.model.specs.Word.{none}
 use Rattle.model.specs.Lists.{update, concat, first, count, successor, successorIn, without, swapped}
 use Rattle.laws.specs.Tests.{same, other, decide, eqb-self}
-use Rattle.laws.specs.Lists.{getD-update-same}
+use Rattle.laws.specs.ListLaws.{getD-update-same}
 use Rattle.laws.specs.Counts.{mark, mark-self, mark-other, count-self, count-without, count-swapped, count-concat-update, count-concat-getD}
 use Rattle.laws.specs.Successors.{successorIn-update, successorIn-one, successorIn-out}
 use Rattle.laws.specs.Removals.{beforeIn, beforeIn-self, beforeIn-in, first-without, successor-without}

@@ -1,5 +1,5 @@
 -- Chains and slots: links, products, the search for a code.
-pub mod Chains
+pub mod ChainStates
 pub mod ChainLinks
 pub mod ChainChanges
 pub mod Products

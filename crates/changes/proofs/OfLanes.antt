@@ -1,5 +1,5 @@
 -- The engine's words, a lane's own words, and the calls that change them alone.
-pub mod Engines
-pub mod Lanes
+pub mod EngineWords
+pub mod OneLane
 pub mod LaneWords
 pub mod LaneCalls

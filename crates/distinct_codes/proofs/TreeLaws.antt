@@ -9,7 +9,7 @@ use lib.ListN.{getD, set, length, take, length-set, replicate, getD-replicate, l
 use lib.Seq.{getD-set-same, getD-set-other}
 use Rattle.model.specs.Lists.{count, from, member, distinct}
 use Rattle.laws.specs.Tests.{same, other, decide}
-use Rattle.laws.specs.Lists.{map-map-from, take-map-from}
+use Rattle.laws.specs.ListLaws.{map-map-from, take-map-from}
 use Rattle.laws.specs.Counts.{count-from, count-from-below}
 use Rattle.laws.specs.Repeats.{distinct-map, distinct-map-intro}
 use Rattle.distinct_codes.specs.Cells.{codeAt}

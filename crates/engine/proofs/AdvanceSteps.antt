@@ -9,7 +9,7 @@ use Rattle.model.specs.Lists.{isEmpty}
 use Rattle.model.specs.State.{Queues, Lane, Engine, State}
 use Rattle.model.specs.Engine.{freshLane, setQueues, atLane, withLanes, withGlobal, isPending, settled, ready, target, batched, requested, advancedLane, advancedGlobal}
 use Rattle.model.specs.Rules.{withEngine}
-use Rattle.laws.specs.Lists.{getD-update-same, update-update}
+use Rattle.laws.specs.ListLaws.{getD-update-same, update-update}
 use Rattle.laws.specs.Elements.{any-update-same, isEmpty-true}
 use Rattle.changes.proofs.Shape.{LaneAtEach, Shape}
 use Rattle.changes.specs.Queues.{next, current, done}

@@ -9,7 +9,7 @@ use Rattle.model.specs.Memory.{at, flag}
 use Rattle.lanes.specs.declared.LaneRecord.{LaneRecord}
 use Rattle.lanes.specs.declared.Change.the-variants.{Sample}
 use Rattle.lanes.specs.Record.{recordAt, isHolding, movedOn}
-use Rattle.lanes.specs.Changes.{changedAt}
+use Rattle.lanes.specs.RecordChanges.{changedAt}
 use Rattle.lanes.specs.Cabinet.{placeAt, cabinetAt}
 use Rattle.engine.proofs.PeriodWords.{cabinet-part}
 use Rattle.engine.specs.Release.{TableLent, laneIn, releasedWords}

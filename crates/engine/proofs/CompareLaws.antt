@@ -10,7 +10,7 @@ use Rattle.model.specs.State.{laneCount, isRunning, Snapshot, unheld, held, isH
 use Rattle.model.specs.Layout.{kinds, quiescentAt, snapshotAt, laneLength, laneAddress, snapshotBit}
 use Rattle.model.specs.Engine.{laneAt, differs, quiesced}
 use Rattle.model.specs.Memory.{at, flag, flags, readCounts, snapshotCount, laneWords}
-use Rattle.laws.specs.Lists.{map-from-getD}
+use Rattle.laws.specs.ListLaws.{map-from-getD}
 use Rattle.laws.specs.Masks.{flag-mask}
 use Rattle.representation.proofs.Addresses.Fields.{lane}
 use Rattle.representation.proofs.WellFormed.{SnapshotFits, LaneFits}

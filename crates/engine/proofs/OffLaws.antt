@@ -14,7 +14,7 @@ use Rattle.representation.proofs.Causes.Passed.{clear, within}
 use Rattle.representation.proofs.WellFormed.{WellFormed}
 use Rattle.representation.proofs.FromState.Standing.{fit}
 use Rattle.lanes.specs.declared.Change.the-variants.{Leave}
-use Rattle.lanes.specs.Changes.{changedAt}
+use Rattle.lanes.specs.RecordChanges.{changedAt}
 use Rattle.lanes.proofs.CabinetLaws.{cabinetAt-lane}
 use Rattle.changes.specs.Shows.{Shows, shows-then, stored-then}
 use Rattle.changes.proofs.Shape.{wellFormed-shape}

@@ -12,19 +12,19 @@ use Rattle.model.specs.Engine.{freshLane, laneAt, setOnline, withLanes, withGlo
 use Rattle.model.specs.Rules.{withEngine, withLane}
 use Rattle.model.specs.Memory.{at, flags, laneWords}
 use Rattle.model.specs.Calls.{stored}
-use Rattle.laws.specs.Lists.{getD-update-same, update-update}
+use Rattle.laws.specs.ListLaws.{getD-update-same, update-update}
 use Rattle.masks.specs.Bits.{withoutBit}
 use Rattle.masks.proofs.BitLaws.{withoutBit-mask}
 use Rattle.representation.proofs.Addresses.Fields.{lane}
 use Rattle.representation.proofs.Causes.Passed.{within}
 use Rattle.lanes.specs.declared.Change.the-variants.{Leave}
-use Rattle.lanes.specs.Changes.{changedAt}
+use Rattle.lanes.specs.RecordChanges.{changedAt}
 use Rattle.lanes.proofs.CabinetLaws.{changed-offline}
 use Rattle.changes.specs.Shows.{Shows, shows-then, stored-then}
 use Rattle.changes.proofs.Shape.{Shape}
-use Rattle.changes.proofs.OfLanes.Engines.{atGeneration}
+use Rattle.changes.proofs.OfLanes.EngineWords.{atGeneration}
 use Rattle.changes.proofs.OfLanes.LaneWords.{lane-flags, lane-generation}
-use Rattle.changes.proofs.OfLanes.Lanes.{shape-lane}
+use Rattle.changes.proofs.OfLanes.OneLane.{shape-lane}
 use Rattle.changes.proofs.OfOwners.HandOver.{unqueued, handedOver, handedOverWords, hand-over, shape-hand-over}
 use Rattle.engine.specs.Off.{handedWords}
 

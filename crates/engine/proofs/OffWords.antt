@@ -6,7 +6,7 @@ use lib.ListN.{set}
 use Rattle.model.specs.Layout.{currentOffset, doneOffset, globalQueuesAt, globalGenerationAt, masksAt, queuesAt, generationAt}
 use Rattle.queues.specs.Queue.{joined}
 use Rattle.lanes.specs.declared.Change.the-variants.{Leave}
-use Rattle.lanes.specs.Changes.{changedAt}
+use Rattle.lanes.specs.RecordChanges.{changedAt}
 use Rattle.lanes.specs.Cabinet.{placeAt, cabinetAt}
 use Rattle.engine.specs.Release.{releasedWords}
 use Rattle.engine.specs.Advance.{advancedWords}

@@ -17,14 +17,14 @@ use Rattle.model.specs.Rules.{withEngine}
 use Rattle.model.specs.Memory.{at, contents, flags, pendingAt, laneMask, cabinetMask, isNotZero}
 use Rattle.model.specs.Calls.{stored}
 use Rattle.laws.specs.Tests.{not-not}
-use Rattle.laws.specs.Lists.{map-from-alike, map-map-from, map-from-getD}
+use Rattle.laws.specs.ListLaws.{map-from-alike, map-map-from, map-from-getD}
 use Rattle.laws.specs.Elements.{any-map}
 use Rattle.laws.specs.Masks.{isTrue, some, mask-zero}
 use Rattle.laws.specs.Levels.{concat-rows, upper, some-concat}
 use Rattle.representation.proofs.Addresses.Fields.{top, end, mask}
 use Rattle.changes.specs.Shows.{Shows, stored-shown, shows-then, stored-then}
 use Rattle.changes.proofs.Shape.{LaneAtEach, Shape}
-use Rattle.changes.proofs.OfLanes.Engines.{write-current, write-largest, shape-engine}
+use Rattle.changes.proofs.OfLanes.EngineWords.{write-current, write-largest, shape-engine}
 use Rattle.engine.specs.Period.{startedWords, endedWords, raisedWords, requestedWords}
 use Rattle.engine.proofs.StartLaws.{shape-started, started-stored}
 

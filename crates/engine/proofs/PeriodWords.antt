@@ -16,7 +16,7 @@ use Rattle.model.specs.Lists.{from, mask}
 use Rattle.model.specs.Layout.{maxCabinets, currentGenerationAt, largestGenerationAt, cabinetMaskAt, masksAt, laneLength, onlineBit}
 use Rattle.model.specs.Memory.{at, flag, isNotZero}
 use Rattle.laws.specs.Tests.{same, other, decide}
-use Rattle.laws.specs.Lists.{map-from-alike}
+use Rattle.laws.specs.ListLaws.{map-from-alike}
 use Rattle.laws.specs.Masks.{mask-from-lt, mask-from-suc}
 use Rattle.laws.specs.MaskFlags.{shl-bit}
 use Rattle.masks.specs.Bits.{width, withBit}

@@ -26,7 +26,7 @@ use Rattle.lanes.specs.declared.LaneRecord.{LaneRecord}
 use Rattle.lanes.specs.declared.Change.the-variants.{Drop}
 use Rattle.lanes.specs.Record.{recordAt, droppedRecord}
 use Rattle.lanes.proofs.RecordLaws.{recordOf-dropped}
-use Rattle.lanes.specs.Changes.{changedAt}
+use Rattle.lanes.specs.RecordChanges.{changedAt}
 use Rattle.lanes.specs.Cabinet.{droppedAt}
 use Rattle.lanes.proofs.CabinetLaws.{changed-dropped}
 use Rattle.engine.specs.Period.{endedWords}

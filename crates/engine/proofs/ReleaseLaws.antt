@@ -10,14 +10,14 @@ use Rattle.model.specs.Engine.{freshLane, laneAt, setPending, withLanes, atLane
 use Rattle.model.specs.Rules.{withEngine, withLane}
 use Rattle.model.specs.Memory.{laneQueues, queuesOf}
 use Rattle.model.specs.Calls.{stored}
-use Rattle.laws.specs.Lists.{getD-update-same, update-update, length-update}
+use Rattle.laws.specs.ListLaws.{getD-update-same, update-update, length-update}
 use Rattle.masks.specs.Bits.{width}
 use Rattle.representation.proofs.Addresses.Fields.{lane}
 use Rattle.changes.specs.Shows.{Shows, shows-then, stored-then}
 use Rattle.changes.proofs.Shape.{LaneAtEach, Shape}
-use Rattle.changes.proofs.OfLanes.Engines.{shape-engine}
+use Rattle.changes.proofs.OfLanes.EngineWords.{shape-engine}
 use Rattle.lanes.specs.declared.Change.the-variants.{Drop}
-use Rattle.lanes.specs.Changes.{changedAt}
+use Rattle.lanes.specs.RecordChanges.{changedAt}
 use Rattle.lanes.proofs.CabinetLaws.{cabinetAt-lane}
 use Rattle.engine.proofs.PeriodWords.{row-within}
 use Rattle.engine.proofs.PeriodLaws.{shape-ended}

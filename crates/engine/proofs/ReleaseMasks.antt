@@ -14,14 +14,14 @@ use Rattle.model.specs.State.{Sizes, laneCount, Lane, State}
 use Rattle.model.specs.Engine.{freshLane, laneAt}
 use Rattle.model.specs.Memory.{flag, flags, pendingAt, laneMask, cabinetMask, isNotZero}
 use Rattle.laws.specs.Tests.{clash, same, other, decide}
-use Rattle.laws.specs.Lists.{getD-update, getD-update-other, map-from-alike, map-map-from}
+use Rattle.laws.specs.ListLaws.{getD-update, getD-update-other, map-from-alike, map-map-from}
 use Rattle.laws.specs.Masks.{flag-zero, flag-mask-from}
 use Rattle.masks.specs.Bits.{width, withoutBit}
 use Rattle.masks.proofs.BitLaws.{withoutBit-from}
 use Rattle.representation.proofs.Addresses.Fields.{mask, lane}
 use Rattle.changes.specs.Shows.{Shows}
 use Rattle.changes.proofs.Shape.{LaneAtEach}
-use Rattle.changes.proofs.OfLanes.Engines.{withPending}
+use Rattle.changes.proofs.OfLanes.EngineWords.{withPending}
 use Rattle.engine.proofs.PeriodWords.{row-within}
 use Rattle.engine.proofs.ReleaseBits.{unawaited, other-row}
 

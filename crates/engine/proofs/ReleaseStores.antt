@@ -17,7 +17,7 @@ use Rattle.model.specs.Rules.{withEngine}
 use Rattle.model.specs.Memory.{at, flag, pendingAt, laneMask, cabinetMask}
 use Rattle.model.specs.Calls.{stored}
 use Rattle.laws.specs.Tests.{clash, same, other, decide}
-use Rattle.laws.specs.Lists.{length-update}
+use Rattle.laws.specs.ListLaws.{length-update}
 use Rattle.laws.specs.Masks.{flag-mask-from}
 use Rattle.masks.specs.Bits.{width, withoutBit}
 use Rattle.representation.proofs.Addresses.Fields.{top, head, end, mask, lane, slot, value}
@@ -25,7 +25,7 @@ use Rattle.representation.proofs.Addresses.Writes.{Image, by-fields}
 use Rattle.laws.specs.Updates.{update-same}
 use Rattle.changes.specs.Shows.{Shows, stored-shown, shows-then, stored-then}
 use Rattle.changes.proofs.Shape.{LaneAtEach}
-use Rattle.changes.proofs.OfLanes.Engines.{withPending, maskedValue, value-withPending}
+use Rattle.changes.proofs.OfLanes.EngineWords.{withPending, maskedValue, value-withPending}
 use Rattle.engine.proofs.PeriodLaws.{mask-shown}
 use Rattle.engine.specs.Release.{overWords, clearedBy, clearedWords, passedWords}
 use Rattle.engine.proofs.ReleaseBits.{unawaited, words-unawaited, queues-unawaited, over-stored}

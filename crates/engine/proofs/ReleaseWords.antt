@@ -11,7 +11,7 @@ use Rattle.model.specs.Memory.{at, flag}
 use Rattle.masks.specs.Bits.{withoutBit}
 use Rattle.lanes.specs.declared.Change.{Change}
 use Rattle.lanes.specs.declared.Change.the-variants.{Drop}
-use Rattle.lanes.specs.Changes.{Fits, changedAt}
+use Rattle.lanes.specs.RecordChanges.{Fits, changedAt}
 use Rattle.lanes.specs.Cabinet.{placeAt, cabinetAt, PartLent}
 use Rattle.engine.specs.Period.{endedWords}
 use Rattle.engine.proofs.PeriodWords.{cabinet-part}

@@ -18,13 +18,13 @@ use Rattle.representation.proofs.Addresses.Fields.{mask, lane}
 use Rattle.laws.specs.Updates.{update-same, update-alike}
 use Rattle.changes.specs.Shows.{Shows, stored-shown}
 use Rattle.changes.proofs.Shape.{LaneAtEach, Shape}
-use Rattle.changes.proofs.OfLanes.Lanes.{shape-lane}
+use Rattle.changes.proofs.OfLanes.OneLane.{shape-lane}
 use Rattle.changes.proofs.OfLanes.LaneWords.{lane-snapshot}
 use Rattle.masks.specs.Bits.{withBit}
 use Rattle.lanes.specs.declared.LaneRecord.{LaneRecord}
 use Rattle.lanes.specs.declared.Change.the-variants.{Sample}
 use Rattle.lanes.specs.Record.{recordAt, isHolding, sampledRecord}
-use Rattle.lanes.specs.Changes.{changedAt}
+use Rattle.lanes.specs.RecordChanges.{changedAt}
 use Rattle.lanes.proofs.RecordLaws.{recordOf-sampled}
 use Rattle.lanes.specs.Cabinet.{sampledAt}
 use Rattle.lanes.proofs.CabinetLaws.{cabinetAt-lane, changed-sampled}

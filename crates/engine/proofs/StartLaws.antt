@@ -16,14 +16,14 @@ use Rattle.model.specs.Rules.{withEngine}
 use Rattle.model.specs.Memory.{at, flag, flags, laneWords, laneQueues, queuesOf, pendingAt, laneMask, cabinetMask, isNotZero}
 use Rattle.model.specs.Calls.{stored}
 use Rattle.laws.specs.Tests.{same, other, decide}
-use Rattle.laws.specs.Lists.{map-from-alike, map-map-from}
+use Rattle.laws.specs.ListLaws.{map-from-alike, map-map-from}
 use Rattle.laws.specs.Elements.{getD-map}
 use Rattle.laws.specs.Masks.{flag-mask}
 use Rattle.representation.proofs.Addresses.Fields.{top, head, end, mask, lane, slot, value}
 use Rattle.representation.proofs.Addresses.Writes.{Image, by-fields}
 use Rattle.changes.specs.Shows.{Shows}
 use Rattle.changes.proofs.Shape.{LaneAtEach, Shape}
-use Rattle.changes.proofs.OfLanes.Engines.{shape-engine, withPending, maskedValue, value-withPending}
+use Rattle.changes.proofs.OfLanes.EngineWords.{shape-engine, withPending, maskedValue, value-withPending}
 use Rattle.lanes.specs.Cabinet.{cabinetAt, onlineAt}
 use Rattle.lanes.proofs.CabinetLaws.{cabinetAt-lane}
 use Rattle.engine.specs.Period.{onlineWord, someOnline, masksSet, waitingFor, startedWords}

@@ -7,7 +7,7 @@ use Rattle.model.specs.Layout.{globalQueuesAt, globalGenerationAt, masksAt, gen
 use Rattle.model.specs.Memory.{at, flag}
 use Rattle.lanes.specs.declared.Change.the-variants.{Sample}
 use Rattle.lanes.specs.Record.{recordAt, isHolding, movedOn}
-use Rattle.lanes.specs.Changes.{changedAt}
+use Rattle.lanes.specs.RecordChanges.{changedAt}
 use Rattle.engine.specs.Release.{laneIn, releasedWords}
 use Rattle.engine.specs.Advance.{advancedWords}
 

@@ -5,7 +5,7 @@ use lib.ListN.{length, set}
 use Rattle.model.specs.Layout.{doneOffset, currentOffset, masksAt, globalQueuesAt, globalGenerationAt, queuesAt, generationAt, laneLength, slotLength}
 use Rattle.queues.specs.Queue.{joined}
 use Rattle.lanes.specs.declared.Change.the-variants.{Leave}
-use Rattle.lanes.specs.Changes.{changedAt}
+use Rattle.lanes.specs.RecordChanges.{changedAt}
 use Rattle.engine.specs.Release.{laneIn, releasedWords}
 use Rattle.engine.specs.Advance.{advancedWords}
 

@@ -9,7 +9,7 @@ use Rattle.model.specs.Layout.{maxCabinets, maxPlaces, cabinetMaskAt, masksAt, 
 use Rattle.model.specs.Memory.{at, flag}
 use Rattle.masks.specs.Bits.{withoutBit}
 use Rattle.lanes.specs.declared.Change.the-variants.{Drop}
-use Rattle.lanes.specs.Changes.{changedAt}
+use Rattle.lanes.specs.RecordChanges.{changedAt}
 use Rattle.lanes.specs.Cabinet.{placeAt, cabinetAt}
 use Rattle.engine.specs.Period.{CabinetKnown, endedWords}
 

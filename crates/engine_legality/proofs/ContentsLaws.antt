@@ -13,7 +13,7 @@ use Rattle.model.specs.Memory.{at, sizes, contents}
 use Rattle.model.specs.Layout.{maxCabinets, maxPlaces, maxSlots, version, versionAt, cabinetsAt, placesAt, slotsAt, bodiesAt, contentsLength, globalBody, globalLength, masksAt, laneLength, slotLength, total}
 use Rattle.model.specs.Legal.{sizesFit, contentsAgree}
 use Rattle.laws.specs.Tests.{and-true-right, every-true, eqb-self}
-use Rattle.laws.specs.Lists.{take-map-from}
+use Rattle.laws.specs.ListLaws.{take-map-from}
 use Rattle.engine_legality.specs.Contents.{Fits, bodiesFit}
 
 -- the sizes are not too large

@@ -12,8 +12,8 @@ use Rattle.model.specs.Layout.{cabinetsAt, placesAt, slotsAt, currentOffset, cu
 use Rattle.model.specs.Memory.{at, flag, sizes, maskWord, state, readLane, readQueues}
 use Rattle.model.specs.Legal.{flagsInRange, masksInRange, snapshotsAtRest, lookupsAtRest, generationAtRest, generationsAtRest, offLanes, lookupsInSections, snapshotsPending, cabinetBits, largestFits, globalGenerationFits, periodRuns, largestAgrees, laneGenerations, globalGeneration}
 use Rattle.laws.specs.Tests.{_&_, Every, every-true, every-intro, and-true, and-intro, all-below, all-below-intro}
-use Rattle.engine_legality.specs.Lanes.{emptyFirst, laneFits, cabinetLanes, allLanes, cabinetFits, allCabinets, globalFits, globalWordsFit}
-use Rattle.engine_legality.specs.Sentences.{engineLegal}
+use Rattle.engine_legality.specs.LaneSentences.{emptyFirst, laneFits, cabinetLanes, allLanes, cabinetFits, allCabinets, globalFits, globalWordsFit}
+use Rattle.engine_legality.specs.WordSentences.{engineLegal}
 use Rattle.engine_legality.proofs.LaneLaws.{laneSentences, empty-queue, laneTest, lane-said, said-lane}
 
 -- ---- tests of a mapped list

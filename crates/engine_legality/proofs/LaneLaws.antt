@@ -14,8 +14,8 @@ use Rattle.model.specs.Rules.{wrongCode}
 use Rattle.model.specs.Memory.{at, wide, flag, sizes, maskWord, laneWord, walk, readQueue, readLookup, readSnapshot, readLane}
 use Rattle.model.specs.Legal.{implies, slotOrNone, endsInRange, queuesInRange, laneLinksInRange, generationAtRest, noneQueued, laneGenerationFits, periodRuns}
 use Rattle.laws.specs.Tests.{Every, and-true, and-intro}
-use Rattle.laws.specs.Lists.{length-map-from}
-use Rattle.engine_legality.specs.Lanes.{endsFit, queuesFit, snapshotBlank, lookupBlank, emptyFirst, noneQueuedAt, laneFits}
+use Rattle.laws.specs.ListLaws.{length-map-from}
+use Rattle.engine_legality.specs.LaneSentences.{endsFit, queuesFit, snapshotBlank, lookupBlank, emptyFirst, noneQueuedAt, laneFits}
 
 -- ---- an empty queue
 

@@ -1,7 +1,7 @@
 -- Laws on plain lists and numbers, for the proofs of this crate and of `legality`, from the parts to the whole: bits and loops; the contents; a lane,
 -- then the engine.
-mod Bits
-pub mod Loops
+mod MaskRange
+pub mod AskLoops
 mod LaneLoops
 pub mod ContentsLaws
 mod LaneLaws

@@ -2,7 +2,7 @@
 // of the global one, and the largest itself.
 ghost use mathlib.Core.Path.{_≡_};
 ghost use Rattle.model.specs.Legal.{largestFits};
-ghost use Rattle.engine_legality.specs.Lanes.{generationFits, globalFits};
+ghost use Rattle.engine_legality.specs.LaneSentences.{generationFits, globalFits};
 
 // A generation: "0 while its current line is empty", else as a lane's may be.
 pub fn generation_fits(

@@ -5,7 +5,7 @@ ghost use lib.ListN.{length};
 ghost use lib.Dec.{ltb};
 ghost use Rattle.model.specs.Layout.{maxCabinets, maxPlaces, masksAt};
 ghost use Rattle.masks.specs.Bits.{width};
-ghost use Rattle.engine_legality.specs.Lanes.{cabinetFits, allCabinets, globalWordsFit};
+ghost use Rattle.engine_legality.specs.LaneSentences.{cabinetFits, allCabinets, globalWordsFit};
 
 // the first of the global current queue
 const GLOBAL_CURRENT_FIRST: usize = words::GLOBAL_QUEUES_AT + words::CURRENT_OFFSET;

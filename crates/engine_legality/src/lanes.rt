@@ -3,7 +3,7 @@ ghost use mathlib.Core.Path.{_≡_};
 ghost use Prim.Native.Nat.{_+_, _*_, _≤_};
 ghost use lib.ListN.{length};
 ghost use Rattle.model.specs.Layout.{maxCabinets, maxPlaces, masksAt, laneLength};
-ghost use Rattle.engine_legality.specs.Lanes.{laneInRange, lookupInRange, snapshotBlank, lookupBlank, laneAtRest, noneQueuedAt, laneAgrees, laneFits, cabinetLanes, allLanes};
+ghost use Rattle.engine_legality.specs.LaneSentences.{laneInRange, lookupInRange, snapshotBlank, lookupBlank, laneAtRest, noneQueuedAt, laneAgrees, laneFits, cabinetLanes, allLanes};
 
 // how many flags a lane has
 const FLAG_COUNT: u32 = words::SNAPSHOT + 1;

@@ -8,7 +8,7 @@ mod links;
 
 ghost use mathlib.Core.Path.{_≡_};
 ghost use Rattle.engine_legality.specs.Contents.{Fits};
-ghost use Rattle.engine_legality.specs.Sentences.{engineLegal};
+ghost use Rattle.engine_legality.specs.WordSentences.{engineLegal};
 
 // The sentences about the global words, the cabinets and the lanes.
 pub fn engine_fits(m: &[u32]) -> bool

@@ -3,7 +3,7 @@ ghost use mathlib.Core.Path.{_≡_};
 ghost use Prim.Native.Nat.{_+_, _≤_};
 ghost use lib.ListN.{length};
 ghost use Rattle.model.specs.Layout.{queueWidth, queuesWidth};
-ghost use Rattle.engine_legality.specs.Lanes.{slotOrNone, endsFit, queuesFit};
+ghost use Rattle.engine_legality.specs.LaneSentences.{slotOrNone, endsFit, queuesFit};
 
 // A slot's number or none.
 pub fn link_fits(x: u32, slots: u32) -> bool

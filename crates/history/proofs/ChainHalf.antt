@@ -1,4 +1,4 @@
 -- The chain half: a lookup answers what a whole search answers at an instant since its start.
-pub mod Chains
+pub mod ChainStretches
 pub mod Trail
 pub mod TrailLeaves

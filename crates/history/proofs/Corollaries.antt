@@ -19,7 +19,7 @@ use Rattle.history.proofs.OverLists.Instants.{past, Unchanged, window-u
 use Rattle.history.proofs.OverLists.OneEach.{ledger-one}
 use Rattle.history.proofs.OverLists.OneSection.{OneSection, one-section}
 use Rattle.history.proofs.OverLists.Stands.{Stands, reply-on}
-use Rattle.history.proofs.OverLists.Lists.{At, End, to-end}
+use Rattle.history.proofs.OverLists.ListInvariant.{At, End, to-end}
 use Rattle.history.proofs.OverLists.OneList.{FoundEnd, found-end, found-holds}
 use Rattle.history.proofs.Demand3.{demand3, at-set-up}
 use Rattle.history.proofs.NewSlots.{Unused, Enters, NewSlots, enters-unused}

@@ -7,11 +7,11 @@ use Rattle.model.specs.State.{State}
 use Rattle.model.specs.Rules.{fresh}
 use Rattle.model.specs.Calls.{Call, set-up, sized, refusalOf, replyOf, reply, left}
 use Rattle.model.specs.Ledger.{ledgerFrom, events, RefusesSetUps, Demand3}
-use Rattle.representation.proofs.CallsKeep.Fresh.{fresh-wellFormed}
+use Rattle.representation.proofs.CallsWellFormed.Fresh.{fresh-wellFormed}
 use Rattle.representation.proofs.MemoryCalls.{setUp-accepted, left-setUp}
-use Rattle.history.proofs.CallsKeep.Calls.{invariant-fresh}
+use Rattle.history.proofs.CallsKeep.EveryCall.{invariant-fresh}
 use Rattle.history.proofs.OverLists.Stands.{Stands, stands-stored}
-use Rattle.history.proofs.OverLists.Lists.{At}
+use Rattle.history.proofs.OverLists.ListInvariant.{At}
 use Rattle.history.proofs.OverLists.Instants.{past}
 use Rattle.history.proofs.OverLists.OneList.{explained-list, kept-list, returned-list}
 

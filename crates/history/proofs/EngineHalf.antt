@@ -2,4 +2,4 @@
 pub mod SafeQueues
 pub mod Grace
 pub mod GracePeriods
-pub mod Clock
+pub mod ClockKeeps

@@ -20,8 +20,8 @@ use Rattle.representation.proofs.Causes.Accepted.{accepts}
 use Rattle.representation.proofs.WellFormed.{chained}
 use Rattle.history.proofs.Ties.Halves.{searched}
 use Rattle.history.proofs.Ties.Invariant.{Invariant}
-use Rattle.history.proofs.ChainHalf.Chains.{SameOr, chained-at, searched-here, searched-on}
-use Rattle.history.proofs.CallsKeep.Slots.{standing-once}
+use Rattle.history.proofs.ChainHalf.ChainStretches.{SameOr, chained-at, searched-here, searched-on}
+use Rattle.history.proofs.CallsKeep.SlotFacts.{standing-once}
 use Rattle.history.proofs.OverLists.Instants.{past}
 
 -- ---- a slot that add or replace answers was unused

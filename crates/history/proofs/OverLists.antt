@@ -3,6 +3,6 @@ pub mod Answers
 pub mod Instants
 pub mod OneEach
 pub mod Stands
-pub mod Lists
+pub mod ListInvariant
 pub mod OneSection
 pub mod OneList

@@ -14,7 +14,7 @@ use Rattle.model.specs.Lists.{update, from, mask}
 use Rattle.model.specs.State.{Sizes}
 use Rattle.model.specs.Layout.{kinds, countLimit, quiescentAt, snapshotAt, laneLength, laneAddress, onlineBit, snapshotBit}
 use Rattle.model.specs.Memory.{at, flag}
-use Rattle.laws.specs.Lists.{map-from-alike}
+use Rattle.laws.specs.ListLaws.{map-from-alike}
 use Rattle.laws.specs.Masks.{mask-from-lt, mask-from-suc}
 use Rattle.laws.specs.MaskFlags.{shl-bit}
 use Rattle.laws.specs.Stores.{set-sets, sets-sets, update-sets, getD-part, part-sets}
@@ -25,7 +25,7 @@ use Rattle.lanes.specs.declared.Change.{Change}
 use Rattle.lanes.specs.declared.Change.the-variants.{Pass, Sample, Drop, Leave}
 use Rattle.lanes.specs.Record.{recordAt, recordWords, recordStored, countedRecord, sampledRecord, droppedRecord, offlineRecord}
 use Rattle.lanes.proofs.RecordLaws.{wordsAt, recordAt-words, recordStored-recordAt}
-use Rattle.lanes.specs.Changes.{Fits, changedRecord, changedAt}
+use Rattle.lanes.specs.RecordChanges.{Fits, changedRecord, changedAt}
 use Rattle.lanes.specs.Cabinet.{placeAt, cabinetAt, onlineAt, countedAt, sampledAt, droppedAt, offlineAt}
 
 -- the lane of place p of cabinet c stands where the model has it

@@ -12,7 +12,7 @@ use Rattle.model.specs.State.{Lane, unheld, held, isHeld, isRunning}
 use Rattle.model.specs.Layout.{kinds, countLimit, laneLength, quiescentAt, snapshotAt, generationAt, queuesAt, currentOffset, doneOffset, lookupAt, snapshotBit}
 use Rattle.model.specs.Engine.{counted, setPending}
 use Rattle.model.specs.Memory.{at, flags, readCounts, laneWords, snapshotCount}
-use Rattle.laws.specs.Lists.{length-update}
+use Rattle.laws.specs.ListLaws.{length-update}
 use Rattle.laws.specs.Stores.{getD-sets-below, map-sets, sets-same}
 use Rattle.masks.proofs.BitLaws.{withBit-mask, withoutBit-mask}
 use Rattle.lanes.proofs.Offsets.{plus-1, plus-2, plus-3, plus-4, plus-5, plus-9, plus-10, plus-16, plus-18}

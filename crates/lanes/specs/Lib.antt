@@ -1,4 +1,4 @@
 -- The lane record, how it stands in the words of a memory, what the rules do to it, and a cabinet's part.
 pub mod Record
-pub mod Changes
+pub mod RecordChanges
 pub mod Cabinet

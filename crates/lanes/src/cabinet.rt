@@ -9,7 +9,7 @@ ghost use Rattle.model.specs.Lists.{from, mask};
 ghost use Rattle.model.specs.Layout.{maxCabinets, maxPlaces, laneLength};
 ghost use Rattle.model.specs.Memory.{at as wordAt};
 ghost use Rattle.lanes.specs.Record.{recordAt};
-ghost use Rattle.lanes.specs.Changes.{Fits, changedAt};
+ghost use Rattle.lanes.specs.RecordChanges.{Fits, changedAt};
 ghost use Rattle.lanes.specs.Cabinet.{placeAt, cabinetAt, onlineAt, PartLent};
 
 // ---- in the part

@@ -11,7 +11,7 @@ ghost use Rattle.model.specs.Memory.{readCounts};
 ghost use Rattle.lanes.specs.Record.{lookupWidth, endsAt, endsWords, lookupWordsAt, lookupWords};
 ghost use Rattle.lanes.specs.Record.{recordAt, recordStored, countedRecord, sampledRecord, droppedRecord, offlineRecord};
 ghost use Rattle.lanes.specs.Record.{sameCounts, isHolding, movedOn};
-ghost use Rattle.lanes.specs.Changes.{Fits, changedRecord};
+ghost use Rattle.lanes.specs.RecordChanges.{Fits, changedRecord};
 
 pub mod cabinet;
 

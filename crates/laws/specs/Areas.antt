@@ -9,7 +9,7 @@ use lib.ListN.{getD, length, length-append, List·getD-append}
 use lib.Arith.{digits-div}
 use lib.Seq.{getD-append-add}
 use Rattle.model.specs.Lists.{concatMap, from}
-use Rattle.laws.specs.Lists.{length-from, getD-from, getD-right}
+use Rattle.laws.specs.ListLaws.{length-from, getD-from, getD-right}
 
 pub record Extent : Type 0 where
   pub width : ℕ

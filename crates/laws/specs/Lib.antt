@@ -1,7 +1,7 @@
 -- Laws of the model's lists, counts, words and masks, which know nothing of states and memories. Each module uses only those above it.
 pub mod Tests
 pub mod Elements
-pub mod Lists
+pub mod ListLaws
 pub mod Sums
 pub mod Counts
 pub mod Repeats

@@ -6,7 +6,7 @@ use mathlib.Core.Bool.{Bool, true, false, _||_}
 use mathlib.Core.List.{List, [], _∷_}
 use lib.ListN.{length, getD, drop, drop-of-length-le}
 use Rattle.model.specs.Lists.{from, any}
-use Rattle.laws.specs.Lists.{map-from-alike}
+use Rattle.laws.specs.ListLaws.{map-from-alike}
 use Rattle.laws.specs.Sums.{sum, sum-of-map}
 
 -- ---- sums

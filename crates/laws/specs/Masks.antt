@@ -14,7 +14,7 @@ use borrow.Author.Tests.{eq-eqb, ne-eqb}
 use Rattle.model.specs.Lists.{any, from, mask, bit}
 use Rattle.model.specs.Memory.{flag}
 use Rattle.laws.specs.Tests.{clash, same, other, decide}
-use Rattle.laws.specs.Lists.{getD-map-below, length-map-from, map-from-suc}
+use Rattle.laws.specs.ListLaws.{getD-map-below, length-map-from, map-from-suc}
 use Rattle.laws.specs.Elements.{any-false-intro}
 
 -- ---- bits

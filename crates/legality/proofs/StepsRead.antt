@@ -16,11 +16,11 @@ use Rattle.model.specs.Engine.{laneAt, freshLane}
 use Rattle.model.specs.Memory.{at, sizes, walk, slotField, readChain, readChains, readQueue, readQueues, readLane, queuesOf, laneQueues, state}
 use Rattle.model.specs.Legal.{lastsAt, lastsAgree}
 use Rattle.laws.specs.Tests.{every-true, every-intro, and-true, and-intro, all-below, all-below-intro}
-use Rattle.laws.specs.Lists.{length-map-from, getD-map-below}
+use Rattle.laws.specs.ListLaws.{length-map-from, getD-map-below}
 use Rattle.laws.specs.Walks.{walk-stop, walk-on, stop, on, step}
 use Rattle.laws.specs.Counts.{count-append}
 use Rattle.slot_places.specs.Slots.{slotOrNone, queuedFits}
-use Rattle.slot_places.specs.Steps.{Step, check, slotsOf, several, queueCount, walks, chainSteps, linkSteps, queueSteps, laneSteps}
+use Rattle.slot_places.specs.WalkSteps.{Step, check, slotsOf, several, queueCount, walks, chainSteps, linkSteps, queueSteps, laneSteps}
 use Rattle.slot_places.proofs.StepLaws.{slotsOf-append}
 use Rattle.slot_places.proofs.Marked.{checks, Right, look, stop as ended}
 use Rattle.slot_places.proofs.Places.{slots-append, checks-both, both-check, right-walks, right-append, right-several, several-check, check-several, told-walks}

@@ -15,16 +15,16 @@ use Rattle.model.specs.Layout.{slotsAt, maxSlots, chainCount, queueWidth, curre
 use Rattle.model.specs.Memory.{at, wide, sizes, slotWord, laneWord, readChain, readChains, readQueue}
 use Rattle.model.specs.Legal.{endsInRange, queuesInRange, laneLinksInRange, slotOrNone as inRange}
 use Rattle.laws.specs.Tests.{every-true, and-true, and-intro, or-left, or-right, all-below, clash}
-use Rattle.laws.specs.Lists.{getD-replicate-default}
+use Rattle.laws.specs.ListLaws.{getD-replicate-default}
 use Rattle.laws.specs.Counts.{count-append}
 use Rattle.distinct_codes.specs.Cells.{cellsOf, spread, codeAt, held, Places}
 use Rattle.distinct_codes.proofs.CellLaws.{meets-told, meets-twice}
 use Rattle.slot_places.specs.Slots.{slotOrNone, productInRange, chainedFits, queuedFits}
-use Rattle.slot_places.specs.Steps.{Step, Outcome, spoilt, painted, run, slotsOf, several, queueCount, chainSteps, linkSteps, queueSteps, laneSteps, unmarked, Counted, Ready, entersAll, Enters, Runs}
+use Rattle.slot_places.specs.WalkSteps.{Step, Outcome, spoilt, painted, run, slotsOf, several, queueCount, chainSteps, linkSteps, queueSteps, laneSteps, unmarked, Counted, Ready, entersAll, Enters, Runs}
 use Rattle.slot_places.proofs.StepLaws.{unlike, going, run-append, unmarked-all, unmarked-none, unmarked-some}
 use Rattle.slot_places.proofs.Marked.{checks, marks-are, marks-most, marks-checked, Spoilt, failed, doubled, spoilt-why}
 use Rattle.slot_places.proofs.Places.{Told, checks-both, both-check, told-append, told-several, several-check, check-several, walks-begin, walks-told, told-walks}
-use Rattle.engine_legality.specs.Sentences.{engineLegal}
+use Rattle.engine_legality.specs.WordSentences.{engineLegal}
 use Rattle.legality.specs.Parts.{Table, tableLegal, queuedSteps, Lent}
 use Rattle.legality.proofs.StepsRead.{S, base, laneTotal, chainPart, freePart, threeSteps, lanePart, queuedPart, chain-slots, chains-are, free-count, retired-count, all-count, steps-right, queue-last, steps-lasts, lasts-steps}
 use Rattle.legality.proofs.TableSaid.{chainedCount, freeCount, retiredCount, TableSaid, chain-below, queue-below-at, chain-chained, table-said, said-table}

@@ -17,7 +17,7 @@ use Rattle.model.specs.Rules.{wrongProduct}
 use Rattle.model.specs.Memory.{at, wide, sizes, slotWord, slotField, walk, readChain, readChains, readQueue, readProduct, allQueues, state}
 use Rattle.model.specs.Legal.{endsInRange, queuesInRange, codeOf, standsOnce, lastsAgree, onTheirChains, noCodeTwice, queueLinksAtRest, freeBlank}
 use Rattle.laws.specs.Tests.{every-true, every-intro, or-cases, or-left, or-right, all-below, all-below-intro, clash}
-use Rattle.laws.specs.Lists.{length-map-from, getD-map-below}
+use Rattle.laws.specs.ListLaws.{length-map-from, getD-map-below}
 use Rattle.laws.specs.Counts.{count-append, count-concat-getD, member-true, member-false, all-count, all-count-intro}
 use Rattle.laws.specs.Walks.{walk-below}
 use Rattle.legality.specs.Parts.{tableLegal}

@@ -9,9 +9,9 @@ use Rattle.model.specs.Layout.{maxSlots, chainCount, headsAt, laneLength, slotL
 use Rattle.model.specs.Rules.{wrongProduct}
 use Rattle.model.specs.Memory.{at, wide, sizes, slotWord, state}
 use Rattle.model.specs.Legal.{slotNumbers, slotOrNone, endsInRange, queuesInRange, standsOnce, lastsAgree, onTheirChains, noCodeTwice, queueLinksAtRest, freeBlank}
-use Rattle.slot_places.specs.Steps.{Step, several, queueCount, queueSteps, laneSteps}
+use Rattle.slot_places.specs.WalkSteps.{Step, several, queueCount, queueSteps, laneSteps}
 use Rattle.distinct_codes.specs.Cells.{cellsOf}
-use Rattle.engine_legality.specs.Sentences.{engineLegal}
+use Rattle.engine_legality.specs.WordSentences.{engineLegal}
 
 -- the sizes are in range, the memory has the table's words, and the rest of it is legal; with the addresses of slot 0 and lane 0 and the number of
 -- lanes

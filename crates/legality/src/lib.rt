@@ -9,9 +9,9 @@ ghost use Rattle.model.specs.Layout.{masksAt, laneLength};
 ghost use Rattle.model.specs.Memory.{sizes};
 ghost use Rattle.model.specs.Legal.{legal as isLegal};
 ghost use Rattle.distinct_codes.specs.Cells.{fewCells};
-ghost use Rattle.slot_places.specs.Steps.{Counted, Runs};
+ghost use Rattle.slot_places.specs.WalkSteps.{Counted, Runs};
 ghost use Rattle.engine_legality.specs.Contents.{Fits};
-ghost use Rattle.engine_legality.specs.Sentences.{engineLegal};
+ghost use Rattle.engine_legality.specs.WordSentences.{engineLegal};
 ghost use Rattle.legality.specs.Parts.{Table, tableLegal, queuedSteps, Lent};
 
 // the slots of a small table, and of any

@@ -11,11 +11,11 @@ use Rattle.access.specs.declared.Answer.{Answer}
 use Rattle.access.specs.Contract.{five, Does}
 use Rattle.listing_text.specs.Call.{Parsed, bad, call, parsed}
 use Rattle.listing_text.specs.Answer.{lineLength, badLength, lineText, badText, PutsWithin}
-use Rattle.listing_text.specs.Reading.{Reads, Finishes, parsedOf}
+use Rattle.listing_text.specs.LineReading.{Reads, Finishes, parsedOf}
 use Rattle.listing_text.specs.declared.line.Line.{Line}
 use Rattle.listing_text.specs.declared.line.Asked.{Asked}
 use Rattle.listing.specs.Output.{answered, after, answeredAll, afterAll, ended}
-use Rattle.listing.specs.Contract.{Prints, Holds, AnswersLine}
+use Rattle.listing.specs.ProgramContract.{Prints, Holds, AnswersLine}
 use Rattle.listing.specs.declared.answers.Unended.{Unended}
 
 -- ---- a line that has ended

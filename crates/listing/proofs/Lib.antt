@@ -1,6 +1,6 @@
 -- The laws of the lines of an input and of their answers, and worked examples.
-pub mod LineLaws
+pub mod LinesInParts
 pub mod AnswerLaws
 pub mod PlaceLaws
 pub mod ServeLaws
-pub mod Cases
+pub mod ProgramCases

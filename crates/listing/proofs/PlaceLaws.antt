@@ -10,14 +10,14 @@ use Rattle.model.specs.Lists.{member}
 use Rattle.listing_text.specs.Number.{newline}
 use Rattle.listing_text.specs.Call.{parsed}
 use Rattle.listing_text.specs.Answer.{lineLength, Puts}
-use Rattle.listing_text.specs.Reading.{firstLine, BlockFeeds}
+use Rattle.listing_text.specs.LineReading.{firstLine, BlockFeeds}
 use Rattle.listing_text.specs.declared.line.Fed.{Fed}
 use Rattle.listing_text.proofs.BufferLaws.{puts-then, puts-as}
 use Rattle.listing.specs.Output.{answered, answeredAll, afterAll, ended, unended}
-use Rattle.listing.specs.Contract.{Prints, Holds, Answers, Goes, AnswersLine}
+use Rattle.listing.specs.ProgramContract.{Prints, Holds, Answers, Goes, AnswersLine}
 use Rattle.listing.specs.declared.answers.Unended.{Unended}
 use Rattle.listing.specs.declared.answers.Place.{Place}
-use Rattle.listing.proofs.LineLaws.{ended-append, unended-append, answeredAll-append, afterAll-append, line-ended, line-unended, part-ended, part-unended, slice-take, slice-slice}
+use Rattle.listing.proofs.LinesInParts.{ended-append, unended-append, answeredAll-append, afterAll-append, line-ended, line-unended, part-ended, part-unended, slice-take, slice-slice}
 use Rattle.listing.proofs.AnswerLaws.{holds-as, begun-append, answered-one, after-one, answered-nothing, after-nothing}
 
 puts-none : (xs : List ℕ) (at : ℕ) → Puts xs at [] xs at

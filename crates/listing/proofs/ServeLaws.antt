@@ -12,10 +12,10 @@ use Rattle.model.specs.Lists.{isEmpty}
 use Rattle.listing_text.specs.Call.{parsed}
 use Rattle.listing.specs.Output.{answered, afterAll, ended, unended, lastLine}
 use Rattle.listing_text.specs.Answer.{lineLength}
-use Rattle.listing.specs.Contract.{Prints, Holds, Answers, Goes, AnswersLine, GoesThrough, Served, ServesBlock, EndsInput}
+use Rattle.listing.specs.ProgramContract.{Prints, Holds, Answers, Goes, AnswersLine, GoesThrough, Served, ServesBlock, EndsInput}
 use Rattle.listing.specs.declared.answers.Unended.{Unended}
 use Rattle.listing.specs.declared.answers.Place.{Place}
-use Rattle.listing.proofs.LineLaws.{ended-append, unended-append, afterAll-append, slice-slice, slice-all}
+use Rattle.listing.proofs.LinesInParts.{ended-append, unended-append, afterAll-append, slice-slice, slice-all}
 use Rattle.listing.proofs.AnswerLaws.{holds-as, after-one, after-nothing}
 
 -- ---- a block

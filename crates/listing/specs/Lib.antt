@@ -1,3 +1,3 @@
 -- What the listing program prints, and what its functions ensure.
 pub mod Output
-pub mod Contract
+pub mod ProgramContract

@@ -2,7 +2,7 @@
 // printed for each. It lends 16,000 words, all 0 at first.
 mod answers;
 
-ghost use Rattle.listing.specs.Contract.{ServesBlock, EndsInput};
+ghost use Rattle.listing.specs.ProgramContract.{ServesBlock, EndsInput};
 use answers::Place;
 use answers::Unended;
 use libc::STDERR_FILENO;

@@ -12,7 +12,7 @@ use borrow.Author.Tests.{eq-eqb, ne-eqb}
 use Rattle.model.specs.Lists.{member}
 use Rattle.listing_text.specs.Number.{newline}
 use Rattle.listing_text.specs.Machine.{fed, fedAll}
-use Rattle.listing_text.specs.Reading.{firstLine, BlockFeeds}
+use Rattle.listing_text.specs.LineReading.{firstLine, BlockFeeds}
 use Rattle.listing_text.specs.declared.line.Line.{Line}
 use Rattle.listing_text.specs.declared.line.Fed.{Fed}
 use Rattle.listing_text.proofs.MachineLaws.{reads-append}

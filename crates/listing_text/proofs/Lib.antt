@@ -1,4 +1,4 @@
-pub mod Cases
+pub mod LineCases
 pub mod NumberLaws
 pub mod BufferLaws
 mod Bools

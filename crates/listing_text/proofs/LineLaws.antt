@@ -10,7 +10,7 @@ use Rattle.model.specs.Lists.{all}
 use Rattle.listing_text.specs.Number.{space, isNumber, value}
 use Rattle.listing_text.specs.Call.{Parsed, bad, longer, wordsOf, asked, ofWords, parsed}
 use Rattle.listing_text.specs.Machine.{naming, started, grown, ended, fed, fedAll, packedFrom, commandOf, askedOf, requested, finished}
-use Rattle.listing_text.specs.Reading.{parsedOf, Reads, Finishes}
+use Rattle.listing_text.specs.LineReading.{parsedOf, Reads, Finishes}
 use Rattle.listing_text.specs.declared.line.Line.{Line}
 use Rattle.listing_text.specs.declared.line.Asked.{Asked}
 use Rattle.listing_text.specs.declared.line.Command.{Command}

@@ -2,4 +2,4 @@ pub mod Number
 pub mod Call
 pub mod Answer
 pub mod Machine
-pub mod Reading
+pub mod LineReading

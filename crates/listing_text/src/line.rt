@@ -5,7 +5,7 @@ ghost use mathlib.Core.List.{[]};
 ghost use lib.ListN.{getD};
 ghost use Rattle.listing_text.specs.Call.{word};
 ghost use Rattle.listing_text.specs.Machine.{refused, lettered, counted, argued, ended, grown, commandOf, limitsOf, room, Shapes, within, askedOf, made};
-ghost use Rattle.listing_text.specs.Reading.{Reads, parsedOf, Feeds, Finishes, BlockFeeds};
+ghost use Rattle.listing_text.specs.LineReading.{Reads, parsedOf, Feeds, Finishes, BlockFeeds};
 use crate::NEWLINE;
 use crate::SPACE;
 use calls::Call;

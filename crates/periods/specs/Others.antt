@@ -10,7 +10,7 @@ use Rattle.model.specs.State.{laneCount, Lane, State}
 use Rattle.model.specs.Engine.{freshLane, setOnline, atLane}
 use Rattle.model.specs.Rules.{isOnline, laneOf}
 use Rattle.model.specs.Memory.{sizes, state}
-use Rattle.laws.specs.Lists.{getD-update-same, getD-update-other, length-update}
+use Rattle.laws.specs.ListLaws.{getD-update-same, getD-update-other, length-update}
 use Rattle.access.specs.Ways.{wellFormed}
 use Rattle.access.specs.Lanes.{LaneIn}
 

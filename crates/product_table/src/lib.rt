@@ -6,7 +6,7 @@ ghost use lib.ListN.{length, drop};
 ghost use Rattle.model.specs.Rules.{add, replace, delete, begin, end, start, step, pass, clock, on, off, hand-back, awaited};
 ghost use Rattle.model.specs.Calls.{set-up, on-state};
 ghost use Rattle.access.specs.Contract.{five};
-ghost use Rattle.calls.specs.Calls.{callOf};
+ghost use Rattle.calls.specs.CallOf.{callOf};
 ghost use Rattle.product_table.specs.Called.{answerLength, answerWords, Called};
 use calls::Call;
 use calls::Op;

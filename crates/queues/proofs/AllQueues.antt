@@ -13,7 +13,7 @@ use borrow.Author.Tests.{ne-eqb}
 use Rattle.model.specs.Word.{none}
 use Rattle.model.specs.Lists.{update, concat, first, last, tail, count, successor, successorIn}
 use Rattle.laws.specs.Tests.{same, other, decide}
-use Rattle.laws.specs.Lists.{length-update, getD-update-same, getD-update-other}
+use Rattle.laws.specs.ListLaws.{length-update, getD-update-same, getD-update-other}
 use Rattle.laws.specs.Counts.{count-append, count-concat-update, count-concat-getD}
 use Rattle.laws.specs.Successors.{successor-out, count-last, successor-append, successor-append-right, successorIn-update, successorIn-one, successorIn-out}
 

@@ -12,7 +12,7 @@ use Rattle.model.specs.Rules.{pass, zeros, refusal, result}
 use Rattle.model.specs.Memory.{sizes, state}
 use Rattle.model.specs.Calls.{on-state}
 use Rattle.lanes.specs.declared.Change.the-variants.{Pass}
-use Rattle.lanes.specs.Changes.{Fits, changedAt}
+use Rattle.lanes.specs.RecordChanges.{Fits, changedAt}
 use Rattle.lanes.specs.Cabinet.{placeAt, cabinetAt, PartLent}
 use Rattle.lanes.proofs.CabinetLaws.{cabinetAt-lane, changed-counted}
 use Rattle.representation.specs.Sound.{Sound}

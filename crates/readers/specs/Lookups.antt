@@ -18,7 +18,7 @@ use Rattle.representation.specs.Sound.{Sound}
 use Rattle.chains.specs.Outcome.{outcomeAt}
 use Rattle.changes.proofs.Shape.{wellFormed-shape}
 use Rattle.changes.proofs.OfChains.Find.{outcome-shown}
-use Rattle.changes.proofs.OfLanes.Lanes.{storedFrom}
+use Rattle.changes.proofs.OfLanes.OneLane.{storedFrom}
 use Rattle.changes.proofs.OfLanes.LaneWords.{lookupWords}
 use Rattle.changes.proofs.OfLanes.LaneCalls.{start-stored}
 use Rattle.access.specs.declared.Answer.{Answer}

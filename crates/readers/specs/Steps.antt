@@ -19,7 +19,7 @@ use Rattle.representation.proofs.WellFormed.{SlotOrNone, LookupFits}
 use Rattle.representation.specs.Sound.{Sound}
 use Rattle.chains.specs.Chain.{linkAddress}
 use Rattle.changes.proofs.OfChains.ChainChanges.{link-shown}
-use Rattle.changes.proofs.OfLanes.Lanes.{storedFrom}
+use Rattle.changes.proofs.OfLanes.OneLane.{storedFrom}
 use Rattle.changes.proofs.OfLanes.LaneWords.{lookupWords}
 use Rattle.changes.proofs.OfLanes.LaneCalls.{step-stored, step-going-stored}
 use Rattle.access.specs.declared.Answer.{Answer}

@@ -1,4 +1,4 @@
 -- One address for each field, and stores by fields.
 pub mod Fields
 pub mod Writes
-pub mod Changes
+pub mod MaskWords

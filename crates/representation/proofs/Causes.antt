@@ -1,5 +1,5 @@
 -- The table's half, and what is known of a call that no cause refuses.
 pub mod Searches
-pub mod Places
+pub mod SlotCounts
 pub mod Passed
 pub mod Accepted

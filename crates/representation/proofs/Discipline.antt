@@ -4,4 +4,4 @@ pub mod Requests
 pub mod Ages
 pub mod Advances
 pub mod Releases
-pub mod Generations
+pub mod GenerationsKept

@@ -6,7 +6,7 @@ pub mod Sentences
 pub mod Addresses
 pub mod FromMemory
 pub mod FromState
-pub mod CallsKeep
+pub mod CallsWellFormed
 pub mod Round
 pub mod MemoryCalls
 pub mod Memories

@@ -16,8 +16,8 @@ use Rattle.model.specs.Calls.{Call, set-up, on-state, sized, stored, refusalOf,
 use Rattle.representation.proofs.WellFormed.{WellFormed}
 use Rattle.representation.proofs.Causes.Passed.{clear, sizes-next, status}
 use Rattle.representation.proofs.FromState.Worded.{stored-words}
-use Rattle.representation.proofs.CallsKeep.Fresh.{fresh-wellFormed}
-use Rattle.representation.proofs.CallsKeep.Next.{next-wellFormed}
+use Rattle.representation.proofs.CallsWellFormed.Fresh.{fresh-wellFormed}
+use Rattle.representation.proofs.CallsWellFormed.Next.{next-wellFormed}
 use Rattle.representation.proofs.Round.{ready, legal-wellFormed, stored-state, round}
 
 -- ---- a refused call, on any list

@@ -15,7 +15,7 @@ use Rattle.model.specs.Table.{blank, productAt}
 use Rattle.model.specs.Legal.{sizesFit}
 use Rattle.laws.specs.Sums.{sum}
 use Rattle.representation.proofs.Discipline.Frame.{queued}
-use Rattle.representation.proofs.Causes.Places.{inTable}
+use Rattle.representation.proofs.Causes.SlotCounts.{inTable}
 use Rattle.representation.proofs.Discipline.Ages.{Strict, Clean, Level}
 
 abbrev pub Word : ℕ → Type 0

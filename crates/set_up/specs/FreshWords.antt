@@ -17,7 +17,7 @@ use Rattle.model.specs.Rules.{fresh}
 use Rattle.model.specs.Memory.{words, contents, globalWords, laneMask, laneMasks, pendingAt, cabinetMask, isNotZero, laneWords, laneWordsAt, allQueues, slotWords, flags, snapshotCount, lookupCode, lookupPosition}
 use Rattle.model.specs.Calls.{stored}
 use Rattle.laws.specs.Tests.{same, other, decide}
-use Rattle.laws.specs.Lists.{getD-replicate-default}
+use Rattle.laws.specs.ListLaws.{getD-replicate-default}
 use Rattle.laws.specs.Masks.{mask-from-none}
 use Rattle.representation.proofs.Addresses.Writes.{length-words}
 use Rattle.set_up.specs.Written.{Written, after, renamed, written-front, rows, rows-alike, length-rows}

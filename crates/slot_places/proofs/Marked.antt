@@ -9,8 +9,8 @@ use lib.Dec.{eqb}
 use borrow.Author.Tests.{eq-eqb}
 use Rattle.model.specs.Lists.{count}
 use Rattle.laws.specs.Tests.{same, other, decide}
-use Rattle.laws.specs.Lists.{getD-set}
-use Rattle.slot_places.specs.Steps.{Step, put, check, spoilt, painted, met, run, slotsOf}
+use Rattle.laws.specs.ListLaws.{getD-set}
+use Rattle.slot_places.specs.WalkSteps.{Step, put, check, spoilt, painted, met, run, slotsOf}
 
 unfoldable pub checks : List Step → Bool
 checks [] = true

@@ -12,7 +12,7 @@ use Rattle.model.specs.Word.{none}
 use Rattle.model.specs.Layout.{slotLength}
 use Rattle.model.specs.Memory.{at}
 use Rattle.laws.specs.Tests.{same, other, decide}
-use Rattle.slot_places.specs.Steps.{Step, put, check, Outcome, spoilt, painted, met, run, slotsOf, several, walks, unmarked, Counted}
+use Rattle.slot_places.specs.WalkSteps.{Step, put, check, Outcome, spoilt, painted, met, run, slotsOf, several, walks, unmarked, Counted}
 
 pub unlike : false ≡ true → ⊥
 unlike e = let z : _≡_ {A = ℕ} 0 1 = cc in omega arith

@@ -3,7 +3,7 @@ ghost use mathlib.Core.Path.{_≡_};
 ghost use Prim.Native.Nat.{ℕ, _+_, _*_, _<_, _≤_};
 ghost use lib.ListN.{length};
 ghost use Rattle.model.specs.Layout.{chainCount, headsAt, masksAt};
-ghost use Rattle.slot_places.specs.Steps.{chainSteps, several, Counted, Ready, Enters};
+ghost use Rattle.slot_places.specs.WalkSteps.{chainSteps, several, Counted, Ready, Enters};
 
 // the mark of a slot that was met
 const MET: u8 = 1;

@@ -5,7 +5,7 @@ ghost use Prim.Native.Nat.{ℕ, _+_, _*_, _<_, _≤_};
 ghost use mathlib.Core.Bool.{true, false};
 ghost use lib.ListN.{length};
 ghost use Rattle.model.specs.Layout.{lastOffset, queueWidth, laneLength};
-ghost use Rattle.slot_places.specs.Steps.{linkSteps, queueSteps, laneSteps, several, Counted, Runs, Walks};
+ghost use Rattle.slot_places.specs.WalkSteps.{linkSteps, queueSteps, laneSteps, several, Counted, Runs, Walks};
 
 // the mark of a slot that was met
 const MET: u8 = 1;

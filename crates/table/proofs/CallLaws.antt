@@ -5,7 +5,7 @@ use mathlib.Core.List.{List}
 use Rattle.model.specs.Calls.{on-state}
 use Rattle.calls.specs.declared.Op as code-op
 use Rattle.calls.specs.declared.Call as code
-use Rattle.calls.specs.Calls.{opOf, callOf}
+use Rattle.calls.specs.CallOf.{opOf, callOf}
 use Rattle.access.specs.declared.Answer.{Answer}
 use Rattle.access.specs.Contract.{Does}
 

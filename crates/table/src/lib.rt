@@ -2,7 +2,7 @@
 // set-up on a memory that is not legal is refused here, once for all calls.
 ghost use Rattle.model.specs.Calls.{on-state};
 ghost use Rattle.representation.specs.Sound.{Sound};
-ghost use Rattle.calls.specs.Calls.{opOf, callOf};
+ghost use Rattle.calls.specs.CallOf.{opOf, callOf};
 ghost use Rattle.access.specs.Contract.{Does};
 use access::causes;
 use calls::Call;

@@ -17,11 +17,11 @@ use Rattle.chains.specs.declared.Found.{Found}
 use Rattle.chains.specs.Chain.{recordAddress, linkedAtHead, putInPlace, productSet}
 use Rattle.changes.specs.Queues.{free, lane, next, endsAt}
 use Rattle.changes.specs.Search.{searchWords}
-use Rattle.changes.proofs.OfCalls.Calls.{add-stored, replace-stored}
+use Rattle.changes.proofs.OfCalls.UpdateWords.{add-stored, replace-stored}
 use Rattle.access.specs.declared.Answer.{Answer}
 use Rattle.access.specs.Contract.{five, Does}
 use Rattle.access.specs.Ways.{performs, passed, shown, wellFormed, long}
-use Rattle.updates.specs.Stores.{FirstIn, Filled}
+use Rattle.updates.specs.UpdateStores.{FirstIn, Filled}
 use Rattle.updates.proofs.Shown.{found-slot, found-below, queue-first, first-in}
 
 -- taken, and then written

@@ -16,7 +16,7 @@ use Rattle.chains.specs.declared.Found.{Found}
 use Rattle.chains.specs.Chain.{unlinked}
 use Rattle.changes.specs.Queues.{lane, next, endsAt}
 use Rattle.changes.specs.Search.{searchWords}
-use Rattle.changes.proofs.OfCalls.Calls.{delete-stored}
+use Rattle.changes.proofs.OfCalls.UpdateWords.{delete-stored}
 use Rattle.access.specs.declared.Answer.{Answer}
 use Rattle.access.specs.Contract.{five, Does}
 use Rattle.access.specs.Ways.{performs, passed, shown, wellFormed, long}

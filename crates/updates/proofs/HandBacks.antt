@@ -18,12 +18,12 @@ use Rattle.queues.specs.Queue.{appended, Taken}
 use Rattle.chains.specs.Chain.{recordAddress, cleared}
 use Rattle.changes.specs.Queues.{Queue, global, lane, done, Named, queueOf, endsAt}
 use Rattle.changes.proofs.OfCalls.CallSteps.{reclaimedWords}
-use Rattle.changes.proofs.OfCalls.Calls.{hand-back-lane-stored, hand-back-global-stored}
+use Rattle.changes.proofs.OfCalls.UpdateWords.{hand-back-lane-stored, hand-back-global-stored}
 use Rattle.access.specs.declared.Answer.{Answer}
 use Rattle.access.specs.Contract.{five, Does}
 use Rattle.access.specs.Ways.{performs, passed, shown, wellFormed, long}
 use Rattle.access.specs.Lanes.{LaneIn, lane-known}
-use Rattle.updates.specs.Stores.{FirstIn, handedFrom, Reclaimed}
+use Rattle.updates.specs.UpdateStores.{FirstIn, handedFrom, Reclaimed}
 use Rattle.updates.proofs.Shown.{queue-shown, queue-first, ends-inside, first-in}
 
 -- ---- the queue that it takes from

@@ -24,7 +24,7 @@ use Rattle.changes.proofs.OfChains.Find.{find-slot, slot-in-chain}
 use Rattle.changes.specs.Search.{searchWords}
 use Rattle.access.specs.Ways.{shown, wellFormed, long}
 use Rattle.access.specs.Lanes.{chain-head}
-use Rattle.updates.specs.Stores.{FirstIn}
+use Rattle.updates.specs.UpdateStores.{FirstIn}
 
 shaped : (m : List ℕ) → Sound m → Shape (state m)
 shaped m v = wellFormed-shape (state m) (wellFormed m v)

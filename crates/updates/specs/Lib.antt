@@ -1,2 +1,2 @@
 -- What the contracts of `updates` cite: the stores that its calls share.
-pub mod Stores
+pub mod UpdateStores

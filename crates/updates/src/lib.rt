@@ -16,7 +16,7 @@ ghost use Rattle.changes.specs.Queues.{lane as ofTheLane, next, endsAt};
 ghost use Rattle.changes.specs.Search.{searchWords};
 ghost use Rattle.access.specs.Contract.{Does};
 ghost use Rattle.access.specs.Lanes.{LaneIn};
-ghost use Rattle.updates.specs.Stores.{FirstIn, Filled, handedFrom, Reclaimed};
+ghost use Rattle.updates.specs.UpdateStores.{FirstIn, Filled, handedFrom, Reclaimed};
 use access::causes;
 
 // ---- where a code's chain and a lane's queue stand

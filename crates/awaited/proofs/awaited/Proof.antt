@@ -2,7 +2,7 @@
 use native.Mathlib.Omega.{arith}
 use Rattle.access.specs.Ways.{inRange, long}
 use Rattle.awaited.proofs.OwnerLengths.{free-at}
-use Rattle.awaited.proofs.Answers.{answered}
+use Rattle.awaited.proofs.AwaitedAnswer.{answered}
 use borrow.Author.Needs.{needs}
 use Rattle.awaited.proofs.awaited.Statement.{statement}
 use Rattle.awaited.proofs.awaited.Tie as tie

@@ -24,7 +24,7 @@ use Rattle.changes.proofs.OfQueues.QueueEnds.{first-shown}
 use Rattle.changes.proofs.OfQueues.QueueChanges.{append-queue}
 use Rattle.changes.proofs.OfQueues.QueueTakes.{take-first}
 use Rattle.changes.proofs.OfQueues.QueueShapes.{shape-take, taken-out, taken-inside}
-use Rattle.changes.proofs.OfChains.Chains.{headAdded, chainSwapped}
+use Rattle.changes.proofs.OfChains.ChainStates.{headAdded, chainSwapped}
 use Rattle.changes.proofs.OfChains.ChainLinks.{old-inside}
 use Rattle.changes.proofs.OfChains.ChainChanges.{put-in-place, link-at-head}
 use Rattle.changes.proofs.OfChains.Products.{write-product}

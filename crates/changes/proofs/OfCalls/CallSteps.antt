@@ -12,7 +12,7 @@ use Rattle.queues.specs.Queue.{appended, lessFirst}
 use Rattle.chains.specs.declared.Found.{Found}
 use Rattle.chains.specs.Chain.{recordAddress, linkedAtHead, putInPlace, unlinked, productSet, cleared}
 use Rattle.changes.specs.Queues.{Queue, free, global, lane, next, done, queueOf, withQueue, endsAt}
-use Rattle.changes.proofs.OfChains.Chains.{headAdded, chainLess, chainSwapped, withProduct, slotCleared}
+use Rattle.changes.proofs.OfChains.ChainStates.{headAdded, chainLess, chainSwapped, withProduct, slotCleared}
 
 -- ---- in words
 

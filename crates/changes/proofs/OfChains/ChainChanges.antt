@@ -15,7 +15,7 @@ use Rattle.model.specs.Table.{linkOf}
 use Rattle.model.specs.Memory.{at, headOf, slotWords}
 use Rattle.model.specs.Calls.{stored}
 use Rattle.laws.specs.Tests.{same, other, decide}
-use Rattle.laws.specs.Lists.{getD-update}
+use Rattle.laws.specs.ListLaws.{getD-update}
 use Rattle.representation.proofs.Addresses.Fields.{Field, head, slot, Inside, value}
 use Rattle.representation.proofs.Addresses.Writes.{Writes, put, writes-none, writes-put, writes-done}
 use Rattle.chains.specs.Chain.{linkAddress, pointed, linkedAtHead, putInPlace, unlinked}
@@ -23,7 +23,7 @@ use Rattle.chains.proofs.AllChains.{add-links}
 use Rattle.changes.specs.Shows.{Shows}
 use Rattle.changes.proofs.Shape.{Shape, chained}
 use Rattle.changes.proofs.Puts.{put-over, linked, linked-alike, linked-same, linked-put, linked-put-one, headed, headed-same, headed-put, writes-alike}
-use Rattle.changes.proofs.OfChains.Chains.{withChains, headAdded, chainLess, chainSwapped, headsWith, chainLinksWith, value-withChains}
+use Rattle.changes.proofs.OfChains.ChainStates.{withChains, headAdded, chainLess, chainSwapped, headsWith, chainLinksWith, value-withChains}
 use Rattle.changes.proofs.OfChains.ChainLinks.{before, before-cases, old-inside, heads-less, links-less, heads-swapped, links-swapped}
 
 module _ (s : State) (m : List ℕ) (shows : Shows m s) where

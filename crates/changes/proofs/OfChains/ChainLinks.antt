@@ -15,12 +15,12 @@ use Rattle.model.specs.State.{Table, State}
 use Rattle.model.specs.Layout.{chainCount}
 use Rattle.model.specs.Table.{linkOf}
 use Rattle.laws.specs.Tests.{same, other, decide}
-use Rattle.laws.specs.Lists.{getD-update}
+use Rattle.laws.specs.ListLaws.{getD-update}
 use Rattle.laws.specs.Counts.{mark, count-without, count-swapped, count-concat-update, count-concat-getD}
 use Rattle.laws.specs.Removals.{beforeIn, beforeIn-in}
 use Rattle.chains.proofs.AllChains.{unlink-head, unlink-links, replace-head, replace-links}
 use Rattle.changes.proofs.Shape.{Shape}
-use Rattle.changes.proofs.OfChains.Chains.{headsWith, chainLinksWith}
+use Rattle.changes.proofs.OfChains.ChainStates.{headsWith, chainLinksWith}
 
 -- slot o stands in chain k
 module _ (s : State) (w : Shape s) (k o : ℕ) (below : k < chainCount) (inChain : 0 < count o (getD (s .table .chains) k [])) where

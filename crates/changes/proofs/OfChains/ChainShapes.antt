@@ -10,10 +10,10 @@ use Rattle.model.specs.State.{Product, State}
 use Rattle.model.specs.Layout.{chainCount}
 use Rattle.model.specs.Table.{blank, linkOf}
 use Rattle.laws.specs.Tests.{same, other, decide}
-use Rattle.laws.specs.Lists.{length-update}
+use Rattle.laws.specs.ListLaws.{length-update}
 use Rattle.laws.specs.Counts.{mark, mark-self, mark-other, count-concat-update}
 use Rattle.changes.proofs.Shape.{Shape, chained, queued}
-use Rattle.changes.proofs.OfChains.Chains.{headAdded, chainLess, chainSwapped, withLink, withProduct, slotCleared}
+use Rattle.changes.proofs.OfChains.ChainStates.{headAdded, chainLess, chainSwapped, withLink, withProduct, slotCleared}
 use Rattle.changes.proofs.OfChains.ChainLinks.{count-less, count-swapped-all}
 
 pub shape-product : (s : State) → Shape s → (o : ℕ) (p : Product) → Shape (withProduct o p s)

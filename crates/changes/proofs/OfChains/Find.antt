@@ -15,14 +15,14 @@ use Rattle.model.specs.Table.{product, productAt, chainNumber, chainOf, slotOf,
 use Rattle.model.specs.Rules.{outcome}
 use Rattle.model.specs.Memory.{at, walk, slotWords, wholeOf}
 use Rattle.laws.specs.Tests.{clash}
-use Rattle.laws.specs.Lists.{length-map-from, getD-map-below}
+use Rattle.laws.specs.ListLaws.{length-map-from, getD-map-below}
 use Rattle.laws.specs.Counts.{count-concat-getD}
 use Rattle.laws.specs.Repeats.{length-at-most}
 use Rattle.laws.specs.Successors.{successorIn-one}
 use Rattle.laws.specs.Removals.{beforeIn}
 use Rattle.laws.specs.Walks.{linked, walk-back}
 use Rattle.representation.proofs.Addresses.Fields.{slot}
-use Rattle.representation.proofs.Causes.Places.{present-in}
+use Rattle.representation.proofs.Causes.SlotCounts.{present-in}
 use Rattle.representation.proofs.WellFormed.{SlotOrNone}
 use Rattle.chains.specs.Chain.{recordAddress, linkAddress, codeWords, foundAt, seek}
 use Rattle.chains.specs.Chained.{beforeCode}

@@ -14,7 +14,7 @@ use Rattle.model.specs.Table.{blank, product, productAt, linkOf}
 use Rattle.model.specs.Memory.{slotWords, low, high}
 use Rattle.model.specs.Calls.{stored}
 use Rattle.laws.specs.Tests.{eqb-self, same, other, decide}
-use Rattle.laws.specs.Lists.{getD-set}
+use Rattle.laws.specs.ListLaws.{getD-set}
 use Rattle.laws.specs.Successors.{successorIn-out}
 use Rattle.representation.proofs.Addresses.Fields.{Field, top, head, end, mask, lane, slot, Inside, value}
 use Rattle.representation.proofs.Addresses.Writes.{Writes, put, writes-none, writes-put, writes-done}
@@ -22,7 +22,7 @@ use Rattle.chains.specs.Chain.{recordAddress, linkAddress, productSet, cleared}
 use Rattle.changes.specs.Shows.{Shows, shows-then, stored-then}
 use Rattle.changes.proofs.Shape.{Shape, chained}
 use Rattle.changes.proofs.Puts.{linked, linked-put-one, headed-same}
-use Rattle.changes.proofs.OfChains.Chains.{withLink, withProduct, slotCleared, headsWith, chainLinksWith, value-withChains}
+use Rattle.changes.proofs.OfChains.ChainStates.{withLink, withProduct, slotCleared, headsWith, chainLinksWith, value-withChains}
 
 module _ (s : State) (m : List ℕ) (shows : Shows m s) (o : ℕ) (inside : o < s .sizes .slots) where
   abbrev z : Sizes

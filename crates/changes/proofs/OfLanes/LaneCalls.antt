@@ -17,7 +17,7 @@ use Rattle.representation.proofs.Causes.Accepted.{PassAccepted}
 use Rattle.representation.proofs.WellFormed.{WellFormed}
 use Rattle.laws.specs.Updates.{update-alike}
 use Rattle.changes.specs.Shows.{Shows}
-use Rattle.changes.proofs.OfLanes.Lanes.{storedFrom}
+use Rattle.changes.proofs.OfLanes.OneLane.{storedFrom}
 use Rattle.changes.proofs.OfLanes.LaneWords.{lookupWords, lane-lookup, lane-position, lane-count}
 
 module _ (s : State) (m : List ℕ) (shows : Shows m s) (w : WellFormed s) (i : ℕ) where

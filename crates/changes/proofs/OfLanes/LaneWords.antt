@@ -14,13 +14,13 @@ use Rattle.model.specs.Engine.{laneAt, setLookup, setPending, counted}
 use Rattle.model.specs.Rules.{withLane}
 use Rattle.model.specs.Memory.{flags, lookupCode, lookupPosition, snapshotCount, quiescentCount, laneWords, laneQueues, low, high}
 use Rattle.model.specs.Calls.{stored}
-use Rattle.laws.specs.Lists.{getD-update}
+use Rattle.laws.specs.ListLaws.{getD-update}
 use Rattle.representation.proofs.Addresses.Fields.{lane}
 use Rattle.laws.specs.Updates.{update-set}
 use Rattle.changes.specs.Shows.{Shows}
 use Rattle.changes.proofs.Shape.{LaneAtEach}
-use Rattle.changes.proofs.OfLanes.Lanes.{lane-none, lane-put, lane-run, lane-done, lane-change, storedFrom}
-use Rattle.changes.proofs.OfLanes.Engines.{atGeneration}
+use Rattle.changes.proofs.OfLanes.OneLane.{lane-none, lane-put, lane-run, lane-done, lane-change, storedFrom}
+use Rattle.changes.proofs.OfLanes.EngineWords.{atGeneration}
 
 -- a lane's count of kind k goes up: one word
 counted-words : (l : Lane) (k : ℕ) → length (l .quiescent) ≡ kinds → k < kinds

@@ -10,7 +10,7 @@ use Rattle.model.specs.Layout.{slotsBody}
 use Rattle.model.specs.Engine.{laneAt, setQueues, atLane, withLanes, withGlobal, taken}
 use Rattle.model.specs.Rules.{withEngine}
 use Rattle.model.specs.Calls.{stored}
-use Rattle.laws.specs.Lists.{update-update}
+use Rattle.laws.specs.ListLaws.{update-update}
 use Rattle.queues.specs.Queue.{joined}
 use Rattle.changes.specs.Shows.{Shows, shows-then, stored-then}
 use Rattle.changes.proofs.Shape.{Shape}

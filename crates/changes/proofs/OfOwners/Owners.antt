@@ -14,7 +14,7 @@ use Rattle.model.specs.Layout.{globalGenerationAt, generationAt, laneAddress, s
 use Rattle.model.specs.Engine.{freshLane, laneAt, setQueues, withLanes, withGlobal, settled, batched}
 use Rattle.model.specs.Rules.{withEngine, withLane}
 use Rattle.model.specs.Calls.{stored}
-use Rattle.laws.specs.Lists.{update-update}
+use Rattle.laws.specs.ListLaws.{update-update}
 use Rattle.laws.specs.Elements.{isEmpty-true}
 use Rattle.queues.specs.Queue.{joined}
 use Rattle.laws.specs.Updates.{update-same, update-alike}
@@ -25,9 +25,9 @@ use Rattle.changes.specs.Queues.{withQueue, joinedState, endsAt}
 use Rattle.changes.proofs.OfQueues.QueueStates.{lanes-withQueue}
 use Rattle.changes.proofs.OfQueues.QueueJoins.{join-queues}
 use Rattle.changes.proofs.OfQueues.QueueShapes.{shape-join}
-use Rattle.changes.proofs.OfLanes.Engines.{withGeneration, atGeneration, write-global-generation}
+use Rattle.changes.proofs.OfLanes.EngineWords.{withGeneration, atGeneration, write-global-generation}
 use Rattle.changes.proofs.OfLanes.LaneWords.{lane-generation}
-use Rattle.changes.proofs.OfLanes.Lanes.{shape-lane}
+use Rattle.changes.proofs.OfLanes.OneLane.{shape-lane}
 
 -- all lanes, or one
 pub data Owner : Type 0 where

@@ -13,10 +13,10 @@ use Rattle.model.specs.Layout.{lastOffset, queueWidth, queuesAt, queueLinkAt}
 use Rattle.model.specs.Engine.{freshLane, laneAt, atLane}
 use Rattle.model.specs.Memory.{allQueues, flags, laneWords, slotWords}
 use Rattle.laws.specs.Tests.{and-false-right, eqb-self, same, other, decide}
-use Rattle.laws.specs.Lists.{update-cases, getD-update-same, getD-update-other, getD-set}
+use Rattle.laws.specs.ListLaws.{update-cases, getD-update-same, getD-update-other, getD-set}
 use Rattle.representation.proofs.Addresses.Fields.{Field, top, head, end, mask, lane, slot, value, endWords}
 use Rattle.representation.proofs.Addresses.Writes.{put}
-use Rattle.representation.proofs.Addresses.Changes.{laneMask-kept, top-kept}
+use Rattle.representation.proofs.Addresses.MaskWords.{laneMask-kept, top-kept}
 use Rattle.changes.proofs.Shape.{LaneAtEach}
 use Rattle.changes.proofs.Puts.{linked}
 use Rattle.changes.specs.Queues.{Part, next, current, done, Queue, free, global, lane as ofLane, Named, partOf, partAt, atPart, queueOf}

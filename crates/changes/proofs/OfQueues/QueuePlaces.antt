@@ -9,7 +9,7 @@ use Rattle.model.specs.Lists.{update, concatMap}
 use Rattle.model.specs.State.{Lane, State}
 use Rattle.model.specs.Engine.{freshLane}
 use Rattle.model.specs.Memory.{allQueues, queuesOf, laneQueues}
-use Rattle.laws.specs.Lists.{getD-update-other}
+use Rattle.laws.specs.ListLaws.{getD-update-other}
 use Rattle.changes.proofs.Shape.{LaneAtEach}
 use Rattle.changes.specs.Queues.{Part, current, done, next, Queue, free, global, lane, Named, partOf, atPart, queueOf, withQueue}
 

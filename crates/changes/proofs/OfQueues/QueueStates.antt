@@ -7,7 +7,7 @@ use Rattle.model.specs.State.{Queues, Lane, State}
 use Rattle.model.specs.Engine.{freshLane, laneAt, setQueues, withLanes, withGlobal}
 use Rattle.model.specs.Rules.{withEngine}
 use Rattle.model.specs.Memory.{allQueues}
-use Rattle.laws.specs.Lists.{length-update}
+use Rattle.laws.specs.ListLaws.{length-update}
 use Rattle.laws.specs.Counts.{count-concat-getD, count-concat-update}
 use Rattle.laws.specs.Updates.{update-same}
 use Rattle.changes.proofs.Shape.{LaneAtEach, Shape, chained, queued}

@@ -13,17 +13,17 @@ use Rattle.model.specs.Table.{blank, product, productAt, chainNumber, chainOf, 
 use Rattle.model.specs.Rules.{accepted, with, laneOf}
 use Rattle.model.specs.Ledger.{Ledger, ofCode, entryOf, entryMade, search}
 use Rattle.laws.specs.Tests.{same-or}
-use Rattle.laws.specs.Lists.{getD-update-same, getD-update-other}
+use Rattle.laws.specs.ListLaws.{getD-update-same, getD-update-other}
 use Rattle.laws.specs.Counts.{mark-self, count-first, count-cons}
 use Rattle.representation.proofs.Discipline.Frame.{queued}
-use Rattle.representation.proofs.Causes.Places.{in-added}
+use Rattle.representation.proofs.Causes.SlotCounts.{in-added}
 use Rattle.representation.proofs.WellFormed.{WellFormed, chained}
 use Rattle.history.proofs.Ties.Halves.{something, searched}
 use Rattle.history.proofs.Ties.Invariant.{Invariant, inChain}
-use Rattle.history.proofs.ChainHalf.Chains.{SameOr, searched-here}
+use Rattle.history.proofs.ChainHalf.ChainStretches.{SameOr, searched-here}
 use Rattle.history.proofs.ChainHalf.TrailLeaves.{Turn, turn-others}
 use Rattle.history.proofs.CallsKeep.Entries.{search-drops-other, search-made, search-made-other}
-use Rattle.history.proofs.CallsKeep.Slots.{standing-once, retains-queued}
+use Rattle.history.proofs.CallsKeep.SlotFacts.{standing-once, retains-queued}
 use Rattle.history.proofs.CallsKeep.Respects.{Respects, looks-kept, trail-kept, looking-kept, sections-same, outs-same, Keeps}
 
 -- ---- the first free slot

@@ -11,7 +11,7 @@ use Rattle.model.specs.Rules.{accepted}
 use Rattle.model.specs.Ledger.{Entry, ofCode, searchIn}
 use Rattle.laws.specs.Tests.{eqb-self, same-or}
 use Rattle.history.proofs.Ties.Halves.{nothing}
-use Rattle.history.proofs.ChainHalf.Chains.{SameOr}
+use Rattle.history.proofs.ChainHalf.ChainStretches.{SameOr}
 
 -- another code's entry stays
 pub search-drops-other : (c d : ℕ) (es : List Entry) → c ≢ d → searchIn c (drops (ofCode d) es) ≡ searchIn c es

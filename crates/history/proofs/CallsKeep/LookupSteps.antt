@@ -15,14 +15,14 @@ use Rattle.model.specs.Table.{productAt, linkOf}
 use Rattle.model.specs.Rules.{laneOf, withLane, Outcome, going, found, absent, findAt, outcome, outcomeAnswer, continued}
 use Rattle.model.specs.Ledger.{Section, Search, Ledger, isAnswer}
 use Rattle.laws.specs.Tests.{clash, same-or}
-use Rattle.laws.specs.Lists.{update-cases, getD-update-same, getD-update-other}
+use Rattle.laws.specs.ListLaws.{update-cases, getD-update-same, getD-update-other}
 use Rattle.representation.proofs.WellFormed.{WellFormed, chained}
 use Rattle.history.proofs.Ties.Halves.{Window, Looks, Looking, RetainedBy}
 use Rattle.history.proofs.Ties.Invariant.{Invariant}
 use Rattle.history.proofs.EngineHalf.Grace.{grace-same}
-use Rattle.history.proofs.ChainHalf.Chains.{SameOr}
+use Rattle.history.proofs.ChainHalf.ChainStretches.{SameOr}
 use Rattle.history.proofs.ChainHalf.Trail.{trail-none, trail-found}
-use Rattle.history.proofs.CallsKeep.Slots.{standing-once, standing-some, retains-queued, queued-lane}
+use Rattle.history.proofs.CallsKeep.SlotFacts.{standing-once, standing-some, retains-queued, queued-lane}
 use Rattle.history.proofs.CallsKeep.Respects.{Respects, respects-still, looks-kept, trail-kept, looking-kept, sections-same, outs-same, Keeps}
 
 -- the ledger's lookups become qs

@@ -15,18 +15,18 @@ use Rattle.model.specs.Table.{blank, chainOf, reclaimed}
 use Rattle.model.specs.Rules.{laneOf, with, lessDone, reclaiming, fromGlobal, handedBack, lessHandedBack}
 use Rattle.model.specs.Ledger.{Section, Ledger, ofSlot, slotBack}
 use Rattle.laws.specs.Tests.{same-or}
-use Rattle.laws.specs.Lists.{update-cases}
+use Rattle.laws.specs.ListLaws.{update-cases}
 use Rattle.laws.specs.Elements.{of-drops, to-drops}
 use Rattle.laws.specs.Counts.{mark, mark-self, count-first}
 use Rattle.representation.proofs.Discipline.Frame.{queued}
-use Rattle.representation.proofs.Causes.Places.{in-handed}
+use Rattle.representation.proofs.Causes.SlotCounts.{in-handed}
 use Rattle.representation.proofs.WellFormed.{WellFormed, chained}
 use Rattle.history.proofs.Ties.Halves.{Retains, Waits, SafeIn, Grace, RetainedBy, WaitsFor}
 use Rattle.history.proofs.Ties.Invariant.{OutOf, Outs, Invariant, inChain}
 use Rattle.history.proofs.EngineHalf.Grace.{grace-lane, grace-global, grace-wider}
-use Rattle.history.proofs.ChainHalf.Chains.{SameOr, searched-agree}
+use Rattle.history.proofs.ChainHalf.ChainStretches.{SameOr, searched-agree}
 use Rattle.history.proofs.ChainHalf.Trail.{Kept, agree-chain}
-use Rattle.history.proofs.CallsKeep.Slots.{standing-once, retains-map, waits-map}
+use Rattle.history.proofs.CallsKeep.SlotFacts.{standing-once, retains-map, waits-map}
 use Rattle.history.proofs.CallsKeep.Respects.{Respects, looks-kept, trail-kept, looking-kept, sections-same, Keeps}
 
 -- ---- the first of a done queue is taken

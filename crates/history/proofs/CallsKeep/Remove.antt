@@ -11,7 +11,7 @@ use Rattle.model.specs.Table.{product, slotOf, present, replaced, deleted}
 use Rattle.model.specs.Rules.{with, retired}
 use Rattle.model.specs.Ledger.{Ledger, ofCode, entryOf, entryMade, entryStruck, slotOut}
 use Rattle.laws.specs.Counts.{mark-other, count-first}
-use Rattle.representation.proofs.Causes.Places.{in-replaced, in-deleted}
+use Rattle.representation.proofs.Causes.SlotCounts.{in-replaced, in-deleted}
 use Rattle.representation.proofs.WellFormed.{WellFormed, chained}
 use Rattle.history.proofs.Ties.Invariant.{Invariant}
 use Rattle.history.proofs.CallsKeep.Respects.{Keeps}

@@ -15,14 +15,14 @@ use Rattle.model.specs.Table.{product, productAt, chainNumber, chainOf, slotOf,
 use Rattle.model.specs.Rules.{accepted}
 use Rattle.model.specs.Ledger.{Entry, ofCode, entryOf, searchIn}
 use Rattle.laws.specs.Tests.{clash, same-or}
-use Rattle.laws.specs.Lists.{getD-update-same, getD-update-other}
+use Rattle.laws.specs.ListLaws.{getD-update-same, getD-update-other}
 use Rattle.laws.specs.Counts.{mark, mark-self, count-cons, count-append}
 use Rattle.representation.proofs.WellFormed.{WellFormed, chained}
 use Rattle.history.proofs.Ties.Halves.{searched}
-use Rattle.history.proofs.ChainHalf.Chains.{SameOr, linkOf-chained, chained-at, Lacks, searched-here, searched-skip, searched-none, Spot, spot}
+use Rattle.history.proofs.ChainHalf.ChainStretches.{SameOr, linkOf-chained, chained-at, Lacks, searched-here, searched-skip, searched-none, Spot, spot}
 use Rattle.history.proofs.ChainHalf.TrailLeaves.{Turn, agree-ahead, turn-others, Leaves}
 use Rattle.history.proofs.CallsKeep.Entries.{search-drops-other, search-drops, search-made, search-made-other}
-use Rattle.history.proofs.CallsKeep.Slots.{standing-once}
+use Rattle.history.proofs.CallsKeep.SlotFacts.{standing-once}
 use Rattle.history.proofs.CallsKeep.Add.{code-new, something-new, product-other}
 
 -- ---- the slot of a code in its chain

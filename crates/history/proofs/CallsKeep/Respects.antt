@@ -12,7 +12,7 @@ use Rattle.representation.proofs.Discipline.Frame.{queued}
 use Rattle.representation.proofs.WellFormed.{chained}
 use Rattle.history.proofs.Ties.Halves.{Window, Trail, Looks, Looking, RetainedBy}
 use Rattle.history.proofs.Ties.Invariant.{Sections, Outs, Invariant, Anchored, inChain, retained, Held}
-use Rattle.history.proofs.CallsKeep.Slots.{retains-map}
+use Rattle.history.proofs.CallsKeep.SlotFacts.{retains-map}
 use Rattle.history.proofs.ChainHalf.Trail.{Stay, Kept, Suffixes, trail-suffix}
 
 -- A call takes table t and ledger g of instant k to u and g′.

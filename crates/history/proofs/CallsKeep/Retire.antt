@@ -15,19 +15,19 @@ use Rattle.model.specs.Table.{productAt, chainOf}
 use Rattle.model.specs.Rules.{with, retired, retiring, laneOf}
 use Rattle.model.specs.Ledger.{Section, Out, Entry, Ledger, ofSlot, searchIn}
 use Rattle.laws.specs.Tests.{same-or}
-use Rattle.laws.specs.Lists.{update-cases}
+use Rattle.laws.specs.ListLaws.{update-cases}
 use Rattle.laws.specs.Elements.{of-drops, to-drops}
 use Rattle.laws.specs.Counts.{mark-self, mark-other, count-append}
 use Rattle.representation.proofs.Discipline.Frame.{queued}
-use Rattle.representation.proofs.Causes.Places.{in-retired}
+use Rattle.representation.proofs.Causes.SlotCounts.{in-retired}
 use Rattle.representation.proofs.WellFormed.{WellFormed, chained}
 use Rattle.history.proofs.Ties.Halves.{Retains, RetainedBy, Waits, WaitsFor, searched, Window, Trail, Grace}
 use Rattle.history.proofs.Ties.Invariant.{OutOf, Outs, Invariant}
 use Rattle.history.proofs.Ties.Invariant.{inChain, retained}
 use Rattle.history.proofs.EngineHalf.Grace.{grace-lane, Newly, grace-wider}
-use Rattle.history.proofs.ChainHalf.Chains.{SameOr, chained-at}
+use Rattle.history.proofs.ChainHalf.ChainStretches.{SameOr, chained-at}
 use Rattle.history.proofs.ChainHalf.TrailLeaves.{Leaves, trail-leaves}
-use Rattle.history.proofs.CallsKeep.Slots.{standing-once, reading-online, retains-queued, retains-map}
+use Rattle.history.proofs.CallsKeep.SlotFacts.{standing-once, reading-online, retains-queued, retains-map}
 use Rattle.history.proofs.CallsKeep.Respects.{Respects, window-later, looks-kept, looking-kept, sections-same, Keeps}
 
 module _ {past : ℕ → Ledger} {k : ℕ} {s : State} {g : Ledger} (v : Invariant past k s g) where

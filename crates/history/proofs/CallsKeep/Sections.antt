@@ -14,14 +14,14 @@ use Rattle.model.specs.Engine.{freshLane, laneAt, setReading, atLane}
 use Rattle.model.specs.Rules.{laneOf, withLane}
 use Rattle.model.specs.Ledger.{Section, Ledger, sectionOf, sectionOpened, sectionEnded}
 use Rattle.laws.specs.Tests.{clash, same-or}
-use Rattle.laws.specs.Lists.{update-cases, getD-update-same, getD-update-other}
+use Rattle.laws.specs.ListLaws.{update-cases, getD-update-same, getD-update-other}
 use Rattle.laws.specs.Elements.{of-drops, to-drops}
 use Rattle.representation.proofs.WellFormed.{WellFormed}
 use Rattle.history.proofs.Ties.Halves.{Waits, Grace, WaitsFor}
 use Rattle.history.proofs.Ties.Invariant.{OpenOn, Sections, Invariant}
 use Rattle.history.proofs.EngineHalf.Grace.{grace-same, grace-wider}
-use Rattle.history.proofs.ChainHalf.Chains.{SameOr}
-use Rattle.history.proofs.CallsKeep.Slots.{queued-lane, retains-map, waits-map}
+use Rattle.history.proofs.ChainHalf.ChainStretches.{SameOr}
+use Rattle.history.proofs.CallsKeep.SlotFacts.{queued-lane, retains-map, waits-map}
 use Rattle.history.proofs.CallsKeep.Respects.{Respects, respects-still, looks-kept, trail-kept, looking-kept, outs-same, Keeps}
 
 module _ {past : ℕ → Ledger} {k : ℕ} {s : State} {g : Ledger} (v : Invariant past k s g) where

@@ -12,7 +12,7 @@ use Rattle.representation.proofs.WellFormed.{WellFormed}
 use Rattle.history.proofs.Ties.Halves.{Grace, WaitsFor}
 use Rattle.history.proofs.Ties.Invariant.{Invariant}
 use Rattle.history.proofs.EngineHalf.Grace.{grace-same}
-use Rattle.history.proofs.EngineHalf.Clock.{grace-clocked, grace-wentOff}
+use Rattle.history.proofs.EngineHalf.ClockKeeps.{grace-clocked, grace-wentOff}
 use Rattle.history.proofs.CallsKeep.Respects.{Respects, respects-still, looks-kept, trail-kept, looking-kept, sections-same, outs-same, Keeps}
 
 module _ {past : ℕ → Ledger} {k : ℕ} {s : State} {g : Ledger} (v : Invariant past k s g) where

@@ -14,8 +14,8 @@ use Rattle.model.specs.Rules.{Answer}
 use Rattle.laws.specs.Counts.{mark-self, count-append}
 use Rattle.representation.proofs.WellFormed.{chained}
 use Rattle.history.proofs.Ties.Halves.{nothing, something, searched, Trail, live, met, beyond}
-use Rattle.history.proofs.ChainHalf.Chains.{linkOf-unchained, linkOf-chained, chained-at, Agree}
-use Rattle.history.proofs.ChainHalf.Chains.{searched-here, searched-on, searched-agree}
+use Rattle.history.proofs.ChainHalf.ChainStretches.{linkOf-unchained, linkOf-chained, chained-at, Agree}
+use Rattle.history.proofs.ChainHalf.ChainStretches.{searched-here, searched-on, searched-agree}
 
 -- ---- the lookup's own step
 

@@ -13,8 +13,8 @@ use Rattle.model.specs.Rules.{Answer}
 use Rattle.laws.specs.Tests.{same-or}
 use Rattle.laws.specs.Counts.{mark-self, count-append}
 use Rattle.history.proofs.Ties.Halves.{searched, Trail, live, met, beyond}
-use Rattle.history.proofs.ChainHalf.Chains.{SameOr, chained-at, Lacks, Agree, Split, ahead, behind, split}
-use Rattle.history.proofs.ChainHalf.Chains.{searched-here, searched-on, searched-skip, searched-gap, searched-agree}
+use Rattle.history.proofs.ChainHalf.ChainStretches.{SameOr, chained-at, Lacks, Agree, Split, ahead, behind, split}
+use Rattle.history.proofs.ChainHalf.ChainStretches.{searched-here, searched-on, searched-skip, searched-gap, searched-agree}
 use Rattle.history.proofs.ChainHalf.Trail.{Stay, Kept, agree-chain, trail-map, live-suffix}
 
 -- ---- one place of a chain anew

@@ -7,7 +7,7 @@ use native.Mathlib.Omega.{arith}
 use Rattle.model.specs.Lists.{count}
 use Rattle.model.specs.State.{Queues, Lane, Engine}
 use Rattle.model.specs.Engine.{freshLane, laneAt, withGlobal, atLane}
-use Rattle.laws.specs.Lists.{update-cases}
+use Rattle.laws.specs.ListLaws.{update-cases}
 use Rattle.laws.specs.Sums.{sum-getD}
 use Rattle.representation.proofs.Discipline.Frame.{inQueues, inLane, queued}
 use Rattle.history.proofs.Ties.Halves.{Awaited, AwaitedIn, SafeIn, Asked, now, soon, quiet}

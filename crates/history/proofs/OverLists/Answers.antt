@@ -18,9 +18,9 @@ use Rattle.representation.proofs.WellFormed.{chained}
 use Rattle.history.proofs.Ties.Halves.{Window, Looks, Looking, RetainedBy}
 use Rattle.history.proofs.Ties.Invariant.{Invariant, Anchored, inChain, retained, Held}
 use Rattle.history.proofs.ChainHalf.Trail.{trail-anchored}
-use Rattle.history.proofs.CallsKeep.Slots.{retains-queued}
+use Rattle.history.proofs.CallsKeep.SlotFacts.{retains-queued}
 use Rattle.history.proofs.CallsKeep.LookupSteps.{Stepped, ends, finds, goes, stepped-cases, answer-window}
-use Rattle.history.proofs.CallsKeep.Calls.{inside}
+use Rattle.history.proofs.CallsKeep.EveryCall.{inside}
 use Rattle.history.proofs.CallsKeep.Reclaim.{none-retains, was-out}
 
 -- a lookup that the ledger has noted of lane i, in whose window the answer r lies

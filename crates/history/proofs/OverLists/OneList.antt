@@ -11,11 +11,11 @@ use Rattle.model.specs.Rules.{Op, step, hand-back, Answer, answer}
 use Rattle.model.specs.Memory.{at, wide, sizes, readProduct, state}
 use Rattle.model.specs.Calls.{Call, on-state, reply, leftAll}
 use Rattle.model.specs.Ledger.{Section, Search, Event, ledgerFrom, ledger, isAnswer, events, Came, Explained, Holds, Kept, Returned, stepEvent, handBackEvent}
-use Rattle.laws.specs.Lists.{getD-map-below}
+use Rattle.laws.specs.ListLaws.{getD-map-below}
 use Rattle.history.proofs.Ties.Invariant.{Invariant, Held}
 use Rattle.history.proofs.OverLists.Answers.{Answered, Found, Ended, step-answered, step-found, anchored-inside, handBack-ended}
 use Rattle.history.proofs.OverLists.Stands.{Stands, reply-on}
-use Rattle.history.proofs.OverLists.Lists.{At, Point, point, End, to-end}
+use Rattle.history.proofs.OverLists.ListInvariant.{At, Point, point, End, to-end}
 use Rattle.history.proofs.OverLists.Instants.{past}
 use Rattle.history.proofs.OverLists.OneSection.{OneSection, one-section}
 

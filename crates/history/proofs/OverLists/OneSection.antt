@@ -14,11 +14,11 @@ use Rattle.laws.specs.Tests.{clash, cond-cases}
 use Rattle.representation.proofs.Causes.Passed.{call-cases, status}
 use Rattle.representation.proofs.Causes.Accepted.{accepts}
 use Rattle.history.proofs.Ties.Invariant.{Invariant}
-use Rattle.history.proofs.CallsKeep.Calls.{fedCall-accepted, fedCall-refused}
+use Rattle.history.proofs.CallsKeep.EveryCall.{fedCall-accepted, fedCall-refused}
 use Rattle.history.proofs.OverLists.Instants.{ledger-snoc}
 use Rattle.history.proofs.OverLists.OneEach.{One, one-drops}
 use Rattle.history.proofs.OverLists.Stands.{reply-on}
-use Rattle.history.proofs.OverLists.Lists.{event, At, later}
+use Rattle.history.proofs.OverLists.ListInvariant.{event, At, later}
 
 abbrev pub sectionLane : Section → ℕ
 sectionLane z = z .lane

@@ -12,7 +12,7 @@ use Rattle.model.specs.Legal.{legal}
 use Rattle.model.specs.Calls.{on-state, stored, refusalOf, leftOf, reply, left}
 use Rattle.representation.proofs.Causes.Passed.{sizes-next}
 use Rattle.representation.proofs.WellFormed.{WellFormed}
-use Rattle.representation.proofs.CallsKeep.Next.{next-wellFormed}
+use Rattle.representation.proofs.CallsWellFormed.Next.{next-wellFormed}
 use Rattle.representation.proofs.Round.{round}
 use Rattle.representation.proofs.MemoryCalls.{reply-legal}
 

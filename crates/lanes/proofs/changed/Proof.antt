@@ -1,7 +1,7 @@
 -- At each case of the enum `changedRecord` is what the function called there gives.
 use mathlib.Core.Path.{sym, ap, subst, _∙_}
 use Rattle.lanes.specs.declared.Change.{Change}
-use Rattle.lanes.specs.Changes.{Fits, changedRecord}
+use Rattle.lanes.specs.RecordChanges.{Fits, changedRecord}
 use borrow.Author.Needs.{needs}
 use Rattle.lanes.proofs.changed.Statement.{statement}
 use Rattle.lanes.proofs.changed.Tie as tie

@@ -13,7 +13,7 @@ use Rattle.model.specs.State.{Sizes, laneCount, State}
 use Rattle.model.specs.Layout.{total}
 use Rattle.model.specs.Memory.{at, words, contents, globalWords, laneMask, laneMasks, laneWords, laneWordsAt, slotWords, headOf}
 use Rattle.model.specs.Calls.{stored}
-use Rattle.laws.specs.Lists.{getD-right, concatMap-single}
+use Rattle.laws.specs.ListLaws.{getD-right, concatMap-single}
 use Rattle.laws.specs.Areas.{Area, extentAt, noArea, laidOut, laidOut-append, length-laidOut, getD-laidOut}
 use Rattle.representation.proofs.Addresses.Fields.{Field, top, head, end, mask, lane, slot, Inside, address, value, topWords, endWords, area, row, column, layout, address-of, within-of, extent-of, address-below, place, sameField, load}
 

@@ -13,7 +13,7 @@ use Rattle.model.specs.Engine.{freshLane, awaiting, isPending, laneAt, setQueue
 use Rattle.model.specs.Rules.{isOnline}
 use Rattle.laws.specs.Generations.{later-self, later-up, up-later, up-word}
 use Rattle.laws.specs.Tests.{clash, and-true, cond-cases, same-or}
-use Rattle.laws.specs.Lists.{update-cases, getD-update-same, getD-update-other}
+use Rattle.laws.specs.ListLaws.{update-cases, getD-update-same, getD-update-other}
 use Rattle.laws.specs.Elements.{map-cases, map-cases-default, any-map, any-update-same}
 use Rattle.representation.proofs.Discipline.Frame.{frame-requested}
 use Rattle.representation.proofs.Discipline.Requests.{none-pending, requested-lane, requested-global, raised}

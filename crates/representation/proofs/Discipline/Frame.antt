@@ -10,7 +10,7 @@ use Rattle.model.specs.Lists.{count, isEmpty}
 use Rattle.model.specs.State.{unheld, Queues, Lane, Engine, isHeld}
 use Rattle.model.specs.Engine.{freshLane, awaiting, emptied, laneAt, setPending, setQueues, withCurrent, withLargest, withGlobal, atLane, runs, started, ended, released, settled, ready, target, batched, requested, advancedLane, advancedGlobal, quiesced, sampled, clocked, taken, wentOff}
 use Rattle.laws.specs.Tests.{clash, and-true, cond-cases}
-use Rattle.laws.specs.Lists.{update-cases, length-update}
+use Rattle.laws.specs.ListLaws.{update-cases, length-update}
 use Rattle.laws.specs.Elements.{map-cases}
 use Rattle.laws.specs.Sums.{sum, sum-update-same, sum-update-zero, sum-map}
 use Rattle.laws.specs.Counts.{count-append, count-empty}

@@ -11,7 +11,7 @@ use Rattle.model.specs.Engine.{freshLane, isPending, laneAt, setPending, withCu
 use Rattle.model.specs.Rules.{isOnline}
 use Rattle.laws.specs.Generations.{later-self, up-later, up-word, up-up-later}
 use Rattle.laws.specs.Tests.{clash, same-or}
-use Rattle.laws.specs.Lists.{update-cases, getD-update-other}
+use Rattle.laws.specs.ListLaws.{update-cases, getD-update-other}
 use Rattle.laws.specs.Elements.{any-update-same, any-false-intro}
 use Rattle.representation.proofs.Discipline.Frame.{ended-cases}
 use Rattle.representation.proofs.Discipline.Requests.{none-pending}

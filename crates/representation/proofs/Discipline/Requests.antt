@@ -6,7 +6,7 @@ use mathlib.Core.List.{List}
 use Rattle.model.specs.Word.{later}
 use Rattle.model.specs.State.{Queues, Lane, Engine}
 use Rattle.model.specs.Engine.{freshLane, awaiting, isPending, laneAt, setQueues, withLargest, withLanes, withGlobal, atLane, runs, started, requested}
-use Rattle.laws.specs.Lists.{map-update}
+use Rattle.laws.specs.ListLaws.{map-update}
 use Rattle.laws.specs.Elements.{any-false, any-update-same}
 
 -- the largest requested once g is

@@ -15,7 +15,7 @@ use Rattle.representation.proofs.WellFormed.{LaneFits, Counts, LookupFi
 use Rattle.representation.proofs.Sentences.Ranges.{code-fits}
 use Rattle.representation.proofs.Sentences.Facts.{WordsTo, Facts, Legal}
 use Rattle.representation.proofs.FromMemory.Reading.{state-lanes, state-lane}
-use Rattle.representation.proofs.CallsKeep.Fresh.{fresh-fits}
+use Rattle.representation.proofs.CallsWellFormed.Fresh.{fresh-fits}
 
 module _ (m : List ℕ) (l : Legal m) (word : WordsTo (total (sizes m)) m) where
   abbrev s : State

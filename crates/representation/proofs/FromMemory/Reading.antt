@@ -11,7 +11,7 @@ use Rattle.model.specs.Layout.{chainCount, chainLinkAt}
 use Rattle.model.specs.Engine.{laneAt, freshLane}
 use Rattle.model.specs.Table.{productAt, blank}
 use Rattle.model.specs.Memory.{sizes, slotWord, slotField, readChain, readChains, readLane, readProduct, readLink, readLookup, readSnapshot, state}
-use Rattle.laws.specs.Lists.{length-map-from, getD-map-below}
+use Rattle.laws.specs.ListLaws.{length-map-from, getD-map-below}
 
 module _ (m : List ℕ) where
   pub length-slotField : (k : ℕ) → length (slotField m k) ≡ sizes m .slots

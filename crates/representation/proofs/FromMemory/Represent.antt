@@ -10,7 +10,7 @@ use Rattle.model.specs.Lists.{first, last, from, mask as maskOf}
 use Rattle.model.specs.State.{Sizes, State, Product, Lane, laneCount}
 use Rattle.model.specs.Layout.{chainCount, kinds, queueWidth, currentOffset, doneOffset, lastOffset, contentsLength, headsAt, freeAt, globalQueuesAt, currentGenerationAt, largestGenerationAt, cabinetMaskAt, onlineBit, readingBit, lookupBit, snapshotBit, flagCount, flagsAt, quiescentAt, snapshotAt, generationAt, queuesAt, lookupAt, positionAt, chainLinkAt, queueLinkAt, laneLength, slotLength, slotAddress, laneAddress, total}
 use Rattle.model.specs.Memory.{at, wide, flag, flags, pendingAt, isNotZero, maskWord, laneMask, laneMasks, cabinetMask, laneWords, laneWord, slotWords, slotWord, low, high, headOf, readLookup, readSnapshot, snapshotCount, lookupCode, lookupPosition, state, sizes, contents, readProduct, readQueue, readLane}
-use Rattle.laws.specs.Lists.{map-from-alike, map-map-from, getD-map-below, take-map-from}
+use Rattle.laws.specs.ListLaws.{map-from-alike, map-map-from, getD-map-below, take-map-from}
 use Rattle.laws.specs.Masks.{mask-flags}
 use Rattle.representation.proofs.WellFormed.{SlotOrNone}
 use Rattle.representation.proofs.Sentences.Facts.{WordsTo, Facts, Legal}

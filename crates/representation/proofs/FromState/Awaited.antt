@@ -15,7 +15,7 @@ use Rattle.model.specs.Engine.{freshLane, isPending, laneAt, runs}
 use Rattle.model.specs.Rules.{pendingFrom}
 use Rattle.model.specs.Memory.{pendingAt, isNotZero, laneMask, cabinetMask}
 use Rattle.laws.specs.Tests.{not-not}
-use Rattle.laws.specs.Lists.{length-map-from, getD-map-below, map-map-from, map-from-alike, map-from-getD}
+use Rattle.laws.specs.ListLaws.{length-map-from, getD-map-below, map-map-from, map-from-alike, map-from-getD}
 use Rattle.laws.specs.Elements.{each-map, any-map}
 use Rattle.laws.specs.Sums.{sum, sum-of-map}
 use Rattle.laws.specs.Masks.{isTrue, some, mask-zero}

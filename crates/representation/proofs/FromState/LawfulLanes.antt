@@ -11,7 +11,7 @@ use Rattle.model.specs.Layout.{maxCode, kinds, chainCount, contentsLength, last
 use Rattle.model.specs.Engine.{laneAt}
 use Rattle.model.specs.Memory.{at, low as lowWord, high as highWord, sizes, wide, wholeOf, flag, contents, lookupCode, lookupPosition, snapshotCount, cabinetMask, laneWords, laneWord}
 use Rattle.laws.specs.Tests.{clash}
-use Rattle.laws.specs.Lists.{take-map-from, map-from-getD}
+use Rattle.laws.specs.ListLaws.{take-map-from, map-from-getD}
 use Rattle.representation.proofs.WellFormed.{WellFormed, LookupFits, SnapshotFits, SlotOrNone}
 use Rattle.representation.proofs.Sentences.Facts.{ContentsFit, EndsInRange, QueuesInRange, LookupRest, Bare}
 use Rattle.representation.proofs.Addresses.Fields.{top, head, end, lane, value, endsLength, endWords}

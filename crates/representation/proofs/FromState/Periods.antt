@@ -15,7 +15,7 @@ use Rattle.model.specs.State.{Engine, State, laneCount}
 use Rattle.model.specs.Engine.{freshLane, isPending, laneAt, runs}
 use Rattle.model.specs.Memory.{flag, pendingAt, isNotZero, laneMask, cabinetMask}
 use Rattle.laws.specs.Tests.{same, other, decide}
-use Rattle.laws.specs.Lists.{map-map-from}
+use Rattle.laws.specs.ListLaws.{map-map-from}
 use Rattle.laws.specs.Elements.{any-false-intro}
 use Rattle.laws.specs.Masks.{flag-mask-from, flag-zero, mask-from-none}
 use Rattle.representation.proofs.Discipline.Requests.{none-pending}

@@ -12,7 +12,7 @@ use Rattle.model.specs.State.{Sizes, Engine, Table, State}
 use Rattle.model.specs.Layout.{cabinetsAt, placesAt, slotsAt, currentGenerationAt, largestGenerationAt, freeAt, depositAt, materialAt, chainLinkAt, slotLength, slotAddress}
 use Rattle.model.specs.Table.{blank, productAt}
 use Rattle.model.specs.Memory.{at, contents, sizes, wholeOf, slotWords, slotWord, readProduct, readLink, state}
-use Rattle.laws.specs.Lists.{map-from-getD}
+use Rattle.laws.specs.ListLaws.{map-from-getD}
 use Rattle.laws.specs.Counts.{member-false, member-true}
 use Rattle.laws.specs.Successors.{successorIn-out}
 use Rattle.representation.proofs.WellFormed.{WellFormed}

@@ -10,7 +10,7 @@ use Rattle.model.specs.State.{Sizes, laneCount, Lookup, idle, running, Snapshot
 use Rattle.model.specs.Layout.{kinds, currentOffset, doneOffset, onlineBit, readingBit, lookupBit, snapshotBit, quiescentAt, snapshotAt, generationAt, queuesAt, lookupAt, positionAt, laneLength, laneAddress}
 use Rattle.model.specs.Engine.{laneAt, freshLane}
 use Rattle.model.specs.Memory.{at, sizes, wholeOf, low, high, flag, flags, lookupCode, lookupPosition, snapshotCount, laneWords, laneQueues, maskWord, readQueues, readLane, readLookup, readCounts, readSnapshot}
-use Rattle.laws.specs.Lists.{map-from-getD}
+use Rattle.laws.specs.ListLaws.{map-from-getD}
 use Rattle.laws.specs.Masks.{flag-mask}
 use Rattle.representation.proofs.WellFormed.{WellFormed, SnapshotFits}
 use Rattle.representation.proofs.Addresses.Fields.{mask, lane, value}

@@ -9,7 +9,7 @@ use Rattle.model.specs.Lists.{first, concat, count, successor, successorIn}
 use Rattle.model.specs.State.{Sizes, Engine, Table, State}
 use Rattle.model.specs.Layout.{headsAt, maxSlots, chainCount, currentOffset, doneOffset, globalQueuesAt, globalGenerationAt, chainLinkAt, queueLinkAt}
 use Rattle.model.specs.Memory.{at, sizes, walk, slotWords, slotWord, slotField, allQueues, readChain, readChains, readQueue, readQueues}
-use Rattle.laws.specs.Lists.{map-from-getD}
+use Rattle.laws.specs.ListLaws.{map-from-getD}
 use Rattle.laws.specs.Counts.{count-concat-getD}
 use Rattle.laws.specs.Repeats.{length-at-most}
 use Rattle.laws.specs.Successors.{successorIn-one}

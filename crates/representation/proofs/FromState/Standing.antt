@@ -16,7 +16,7 @@ use Rattle.model.specs.Memory.{allQueues, queuesOf, laneQueues, lookupPosition,
 use Rattle.laws.specs.Sums.{sum, sum-getD}
 use Rattle.laws.specs.Counts.{count-append, count-concat, count-concat-getD}
 use Rattle.representation.proofs.Discipline.Frame.{inQueues, inLane, queued}
-use Rattle.representation.proofs.Causes.Places.{inTable}
+use Rattle.representation.proofs.Causes.SlotCounts.{inTable}
 use Rattle.representation.proofs.WellFormed.{WellFormed, LookupFits, SlotOrNone, standing, chained}
 use Rattle.representation.proofs.Sentences.Ranges.{first-range, last-range, successorIn-range}
 use Rattle.representation.proofs.Sentences.Facts.{SizesFit}

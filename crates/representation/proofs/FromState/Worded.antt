@@ -16,7 +16,7 @@ use Rattle.model.specs.Engine.{laneAt}
 use Rattle.model.specs.Memory.{Words, at, low, high, contents, flags, pendingAt, laneWords, slotWords, lookupCode, snapshotCount, words}
 use Rattle.model.specs.Calls.{stored}
 use Rattle.laws.specs.Tests.{_&_}
-use Rattle.laws.specs.Lists.{getD-right}
+use Rattle.laws.specs.ListLaws.{getD-right}
 use Rattle.laws.specs.Elements.{Each, each-getD}
 use Rattle.laws.specs.Masks.{mask-lt, mask-from-lt}
 use Rattle.representation.proofs.Discipline.Ages.{none as noneA, old, now, soon, Level, rests, goes, Strict, Clean}

@@ -1,5 +1,5 @@
 -- The tests are those of `cabinetFits`, a case for each value of the bit.
-use Rattle.engine_legality.specs.Lanes.{cabinetFits}
+use Rattle.engine_legality.specs.LaneSentences.{cabinetFits}
 use borrow.Author.Needs.{needs}
 use Rattle.engine_legality.proofs.globals.cabinet_fits.Statement.{statement}
 use Rattle.engine_legality.proofs.globals.cabinet_fits.Tie as tie

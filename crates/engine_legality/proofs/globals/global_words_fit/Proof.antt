@@ -1,5 +1,5 @@
 -- The tests are those of `globalWordsFit`.
-use Rattle.engine_legality.specs.Lanes.{globalWordsFit}
+use Rattle.engine_legality.specs.LaneSentences.{globalWordsFit}
 use borrow.Author.Needs.{needs}
 use Rattle.engine_legality.proofs.globals.global_words_fit.Statement.{statement}
 use Rattle.engine_legality.proofs.globals.global_words_fit.Tie as tie

@@ -6,8 +6,8 @@ use borrow.Author.Tests.{not-true, not-false}
 use Rattle.model.specs.Lists.{all, from}
 use Rattle.model.specs.Layout.{laneLength}
 use Rattle.model.specs.Memory.{flag}
-use Rattle.engine_legality.specs.Lanes.{laneFits, cabinetLanes}
-use Rattle.engine_legality.proofs.Loops.{all-end}
+use Rattle.engine_legality.specs.LaneSentences.{laneFits, cabinetLanes}
+use Rattle.engine_legality.proofs.AskLoops.{all-end}
 use Rattle.engine_legality.proofs.LaneLoops.{lanes-fails, lanes-on}
 use borrow.Author.Needs.{needs}
 use Rattle.engine_legality.proofs.lanes.cabinet_lanes.Statement.{statement}

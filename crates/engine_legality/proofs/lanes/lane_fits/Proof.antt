@@ -1,5 +1,5 @@
 -- The tests are those of `laneFits`.
-use Rattle.engine_legality.specs.Lanes.{laneFits}
+use Rattle.engine_legality.specs.LaneSentences.{laneFits}
 use borrow.Author.Needs.{needs}
 use Rattle.engine_legality.proofs.lanes.lane_fits.Statement.{statement}
 use Rattle.engine_legality.proofs.lanes.lane_fits.Tie as tie

@@ -2,7 +2,7 @@
 use mathlib.Core.Path.{ap, _∙_}
 use denote.Ref.{now}
 use Rattle.lanes.specs.Record.{recordStored}
-use Rattle.lanes.specs.Changes.{changedRecord}
+use Rattle.lanes.specs.RecordChanges.{changedRecord}
 use Rattle.lanes.specs.Cabinet.{placeAt}
 use borrow.Author.Needs.{needs}
 use Rattle.lanes.proofs.cabinet.change_in.Statement.{statement}

@@ -6,7 +6,7 @@ use native.Mathlib.Omega.{arith}
 use lib.ListN.{length}
 use borrow.Author.Tests.{leb-true, leb-false}
 use Rattle.listing_text.specs.Answer.{lineLength}
-use Rattle.listing.specs.Contract.{Goes}
+use Rattle.listing.specs.ProgramContract.{Goes}
 use Rattle.listing.proofs.PlaceLaws.{goes-none, goes-then}
 use Rattle.listing.proofs.answers.answer_block.Statement.{statement}
 use Rattle.listing.proofs.answers.answer_block.Tie as tie

@@ -1,6 +1,6 @@
 -- What was asked is bad, or a call.
 use mathlib.Core.Path.{sym, ap}
-use Rattle.listing_text.specs.Reading.{parsedOf}
+use Rattle.listing_text.specs.LineReading.{parsedOf}
 use Rattle.listing.proofs.AnswerLaws.{prints-bad, prints-as}
 use borrow.Author.Needs.{needs}
 use Rattle.listing.proofs.answers.put_asked.Statement.{statement}

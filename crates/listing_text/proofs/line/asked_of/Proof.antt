@@ -1,7 +1,7 @@
 -- Numbers that fit are the call's, and others make the line bad.
 use borrow.Author.Needs.{needs}
 use mathlib.Core.Path.{sym, _∙_}
-use Rattle.listing_text.specs.Reading.{parsedOf}
+use Rattle.listing_text.specs.LineReading.{parsedOf}
 use Rattle.listing_text.proofs.LimitLaws.{askedOf-within, askedOf-other}
 use Rattle.listing_text.proofs.line.asked_of.Statement.{statement}
 use Rattle.listing_text.proofs.line.asked_of.Tie as tie

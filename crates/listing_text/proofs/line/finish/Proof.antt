@@ -2,7 +2,7 @@
 use borrow.Author.Needs.{needs}
 use mathlib.Core.Path.{sym, ap, _∙_}
 use Rattle.listing_text.specs.Machine.{askedOf}
-use Rattle.listing_text.specs.Reading.{parsedOf}
+use Rattle.listing_text.specs.LineReading.{parsedOf}
 use Rattle.listing_text.proofs.LineLaws.{finishes, finished-bad, finished-whole}
 use Rattle.listing_text.proofs.line.finish.Statement.{statement}
 use Rattle.listing_text.proofs.line.finish.Tie as tie

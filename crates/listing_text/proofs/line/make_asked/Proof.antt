@@ -1,7 +1,7 @@
 -- The call of each command takes as many of the numbers as it needs, cut to their widths.
 use Rattle.listing_text.specs.Call.{limits, callOf}
 use Rattle.listing_text.specs.Machine.{coded, made}
-use Rattle.listing_text.specs.Reading.{parsedOf}
+use Rattle.listing_text.specs.LineReading.{parsedOf}
 use borrow.Author.Needs.{needs}
 use Rattle.listing_text.proofs.line.make_asked.Statement.{statement}
 use Rattle.listing_text.proofs.line.make_asked.Tie as tie

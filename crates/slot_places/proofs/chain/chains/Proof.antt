@@ -7,7 +7,7 @@ use native.Mathlib.Omega.{arith}
 use lib.ListN.{length}
 use borrow.Author.Tests.{not-true, not-false}
 use Rattle.model.specs.Layout.{chainCount}
-use Rattle.slot_places.specs.Steps.{chainSteps, several, Counted, Ready, Enters}
+use Rattle.slot_places.specs.WalkSteps.{chainSteps, several, Counted, Ready, Enters}
 use Rattle.slot_places.proofs.ChainLaws.{chains-fail, chains-on, chains-done, chains-counted}
 use borrow.Author.Needs.{needs}
 use Rattle.slot_places.proofs.chain.chains.Statement.{statement}

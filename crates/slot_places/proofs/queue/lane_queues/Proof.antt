@@ -7,7 +7,7 @@ use native.Mathlib.Omega.{arith}
 use lib.ListN.{length}
 use borrow.Author.Tests.{not-true, not-false}
 use Rattle.model.specs.Layout.{laneLength}
-use Rattle.slot_places.specs.Steps.{laneSteps, several, Counted, Runs}
+use Rattle.slot_places.specs.WalkSteps.{laneSteps, several, Counted, Runs}
 use Rattle.slot_places.proofs.QueueLaws.{runs-counted, several-fail, several-more, several-none}
 use borrow.Author.Needs.{needs}
 use Rattle.slot_places.proofs.queue.lane_queues.Statement.{statement}

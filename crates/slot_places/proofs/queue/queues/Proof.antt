@@ -7,7 +7,7 @@ use native.Mathlib.Omega.{arith}
 use lib.ListN.{length}
 use borrow.Author.Tests.{not-true, not-false}
 use Rattle.model.specs.Layout.{queueWidth}
-use Rattle.slot_places.specs.Steps.{queueSteps, several, Counted, Runs}
+use Rattle.slot_places.specs.WalkSteps.{queueSteps, several, Counted, Runs}
 use Rattle.slot_places.proofs.QueueLaws.{runs-counted, several-fail, several-more, several-none}
 use borrow.Author.Needs.{needs}
 use Rattle.slot_places.proofs.queue.queues.Statement.{statement}

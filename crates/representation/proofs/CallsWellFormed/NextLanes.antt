@@ -14,13 +14,13 @@ use Rattle.model.specs.Table.{chainOf}
 use Rattle.model.specs.Rules.{off, laneOf, with, withEngine, withLane, stepped, continued, outcome, Outcome, going, found, absent, isOnline}
 use Rattle.laws.specs.Generations.{up-word}
 use Rattle.laws.specs.Tests.{clash}
-use Rattle.laws.specs.Lists.{length-update, update-cases}
+use Rattle.laws.specs.ListLaws.{length-update, update-cases}
 use Rattle.laws.specs.Sums.{sum, sum-update-same}
 use Rattle.representation.proofs.Discipline.Frame.{inQueues, inLane, queued, Frame, frame-clocked, frame-wentOff}
-use Rattle.representation.proofs.Causes.Places.{inTable}
+use Rattle.representation.proofs.Causes.SlotCounts.{inTable}
 use Rattle.representation.proofs.WellFormed.{WellFormed, LaneFits, TableFits, LookupFits, Generations, standing}
 use Rattle.representation.proofs.FromState.Standing.{head-range, chainLink-range}
-use Rattle.representation.proofs.CallsKeep.Engines.{Fits, fits-clocked, fits-wentOff, generations-at, generations-clocked, generations-wentOff}
+use Rattle.representation.proofs.CallsWellFormed.EngineFields.{Fits, fits-clocked, fits-wentOff, generations-at, generations-clocked, generations-wentOff}
 
 module _ (s : State) (w : WellFormed s) where
   abbrev n : ℕ

@@ -19,7 +19,7 @@ use Rattle.representation.proofs.WellFormed.{WellFormed}
 use Rattle.history.proofs.Ties.Halves.{Looks, Looking}
 use Rattle.history.proofs.Ties.Invariant.{OpenOn, Invariant}
 use Rattle.history.proofs.ChainHalf.Trail.{trail-start, trail-step}
-use Rattle.history.proofs.CallsKeep.Slots.{standing-once}
+use Rattle.history.proofs.CallsKeep.SlotFacts.{standing-once}
 use Rattle.history.proofs.CallsKeep.Respects.{respects-still, trail-kept, Keeps}
 use Rattle.history.proofs.CallsKeep.LookupSteps.{Stepped, ends, finds, goes, stepped-cases, retained-unchained, keeps-lookup}
 

@@ -9,7 +9,7 @@ use Rattle.model.specs.Lists.{isEmpty}
 use Rattle.listing_text.specs.Call.{Parsed, parsed}
 use Rattle.listing_text.specs.Answer.{lineLength, Puts, PutsWithin}
 use Rattle.listing_text.specs.declared.line.Line.{Line}
-use Rattle.listing_text.specs.Reading.{Reads}
+use Rattle.listing_text.specs.LineReading.{Reads}
 use Rattle.listing.specs.Output.{answered, after, answeredAll, afterAll, ended, unended, lastLine}
 use Rattle.listing.specs.declared.answers.Unended.{Unended}
 use Rattle.listing.specs.declared.answers.Place.{Place}

@@ -10,7 +10,7 @@ use lib.Dec.{eqb}
 use Rattle.model.specs.Lists.{member, concat}
 use Rattle.listing_text.specs.Number.{newline}
 use Rattle.listing_text.specs.Call.{parsed}
-use Rattle.listing_text.specs.Reading.{firstLine}
+use Rattle.listing_text.specs.LineReading.{firstLine}
 use Rattle.listing.specs.Output.{answered, after, answeredAll, afterAll, ended, unended, lastLine, linesOf, output, printedIn}
 
 -- ---- a text after another

@@ -9,12 +9,12 @@ use Rattle.model.specs.Rules.{Answer, answer, next}
 use Rattle.model.specs.Memory.{state}
 use Rattle.model.specs.Calls.{Call, set-up, on-state, reply, left, leftAll}
 use Rattle.model.specs.Ledger.{Section, Ledger, Event, fedCall, ledger, events, RefusesSetUps}
-use Rattle.representation.proofs.CallsKeep.Next.{next-wellFormed}
+use Rattle.representation.proofs.CallsWellFormed.Next.{next-wellFormed}
 use Rattle.representation.proofs.MemoryCalls.{refused-keeps}
 use Rattle.history.proofs.Ties.Invariant.{Invariant, Held}
 use Rattle.history.proofs.CallsKeep.Respects.{Respects, held-kept, Keeps}
 use Rattle.history.proofs.CallsKeep.Unseen.{keeps-same}
-use Rattle.history.proofs.CallsKeep.Calls.{keeps-next}
+use Rattle.history.proofs.CallsKeep.EveryCall.{keeps-next}
 use Rattle.history.proofs.OverLists.Instants.{past, past-seam, ledger-snoc, length-snoc}
 use Rattle.history.proofs.OverLists.Stands.{Stands, reply-on, stands-next}
 

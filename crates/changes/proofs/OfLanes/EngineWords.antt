@@ -14,7 +14,7 @@ use Rattle.model.specs.Engine.{laneAt, setQueues, withCurrent, withLargest, wit
 use Rattle.model.specs.Rules.{withEngine}
 use Rattle.model.specs.Memory.{contents, cabinetMask, laneMask, laneWords, slotWords, queuesOf, laneQueues}
 use Rattle.model.specs.Calls.{stored}
-use Rattle.laws.specs.Lists.{getD-set}
+use Rattle.laws.specs.ListLaws.{getD-set}
 use Rattle.representation.proofs.Addresses.Fields.{Field, top, head, end, mask, lane, slot, Inside, value, topWords, endWords}
 use Rattle.representation.proofs.Addresses.Writes.{Writes, put, writes-none, writes-put, writes-done}
 use Rattle.changes.specs.Shows.{Shows}

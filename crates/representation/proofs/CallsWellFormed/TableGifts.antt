@@ -15,14 +15,14 @@ use Rattle.model.specs.State.{Product, Table}
 use Rattle.model.specs.Layout.{maxSlots, chainCount}
 use Rattle.model.specs.Table.{blank, productAt, chainOf, slotOf, present, linkOf, added, replaced}
 use Rattle.laws.specs.Tests.{clash, same-or}
-use Rattle.laws.specs.Lists.{length-update, update-cases, set-cases}
+use Rattle.laws.specs.ListLaws.{length-update, update-cases, set-cases}
 use Rattle.laws.specs.Sums.{sum-update}
 use Rattle.laws.specs.Counts.{mark, mark-self, mark-other, count-first, count-swapped, count-concat}
 use Rattle.representation.proofs.Causes.Searches.{slotIn-code}
-use Rattle.representation.proofs.Causes.Places.{inTable, present-in}
+use Rattle.representation.proofs.Causes.SlotCounts.{inTable, present-in}
 use Rattle.representation.proofs.WellFormed.{SlotOrNone, ProductFits, TableFits, chained}
 use Rattle.representation.proofs.Sentences.Ranges.{successorIn-range}
-use Rattle.representation.proofs.CallsKeep.Tables.{chain-le, no-code, spot}
+use Rattle.representation.proofs.CallsWellFormed.Tables.{chain-le, no-code, spot}
 
 module _ (n : ℕ) (t : Table) (fits : TableFits n t) (few : n ≤ maxSlots) (once : (x : ℕ) → inTable x t ≤ 1) (below : (x : ℕ) → 0 < inTable x t → x < n) where
   abbrev codeIn : ℕ → ℕ

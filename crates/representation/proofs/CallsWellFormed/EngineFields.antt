@@ -10,12 +10,12 @@ use Rattle.model.specs.State.{Snapshot, unheld, held, Queues, Lane, Engine, isH
 use Rattle.model.specs.Engine.{freshLane, awaiting, isPending, emptied, laneAt, setPending, setQueues, setOnline, withCurrent, withLargest, withGlobal, atLane, runs, started, released, settled, ready, target, batched, requested, advancedLane, advancedGlobal, quiesced, sampled, clocked, taken, wentOff}
 use Rattle.model.specs.Rules.{isOnline}
 use Rattle.laws.specs.Tests.{clash, and-true, cond-cases}
-use Rattle.laws.specs.Lists.{update-cases, update-update}
+use Rattle.laws.specs.ListLaws.{update-cases, update-update}
 use Rattle.laws.specs.Elements.{map-cases, any-update-same, any-true}
 use Rattle.representation.proofs.Discipline.Frame.{ended-cases}
 use Rattle.representation.proofs.Discipline.Requests.{raised}
 use Rattle.representation.proofs.Discipline.Ages.{none as noneA, old, now, soon, Strict, Clean, Disciplined, level-anew, strict-anew}
-use Rattle.representation.proofs.Discipline.Generations.{own-released, tidy-clocked, tidy-wentOff}
+use Rattle.representation.proofs.Discipline.GenerationsKept.{own-released, tidy-clocked, tidy-wentOff}
 use Rattle.representation.proofs.WellFormed.{LaneFits, SnapshotFits, Generations}
 
 -- ---- lanes through the engine

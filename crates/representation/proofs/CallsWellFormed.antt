@@ -1,5 +1,5 @@
 -- Calls keep a state well-formed.
-pub mod Engines
+pub mod EngineFields
 pub mod Tables
 pub mod TableGifts
 pub mod NextLanes

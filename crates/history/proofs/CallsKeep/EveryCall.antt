@@ -27,7 +27,7 @@ use Rattle.history.proofs.Ties.Invariant.{Invariant}
 use Rattle.history.proofs.CallsKeep.Respects.{Keeps}
 use Rattle.history.proofs.CallsKeep.Unseen.{keeps-same, keeps-pass, keeps-on, keeps-clock, keeps-off}
 use Rattle.history.proofs.CallsKeep.Sections.{keeps-begin, keeps-end}
-use Rattle.history.proofs.CallsKeep.Lookups.{keeps-start, keeps-step}
+use Rattle.history.proofs.CallsKeep.StartStep.{keeps-start, keeps-step}
 use Rattle.history.proofs.CallsKeep.Add.{keeps-add}
 use Rattle.history.proofs.CallsKeep.Remove.{keeps-replace, keeps-delete}
 use Rattle.history.proofs.CallsKeep.Reclaim.{keeps-handBack}

@@ -16,11 +16,11 @@ use Rattle.model.specs.Rules.{withLane}
 use Rattle.model.specs.Memory.{laneWords, slotWords, queuesOf, laneQueues}
 use Rattle.model.specs.Calls.{stored}
 use Rattle.laws.specs.Tests.{and-false-right, eqb-self, same, other, decide}
-use Rattle.laws.specs.Lists.{length-update, getD-set, getD-update-same, getD-update-other}
+use Rattle.laws.specs.ListLaws.{length-update, getD-set, getD-update-same, getD-update-other}
 use Rattle.laws.specs.Elements.{Each}
 use Rattle.representation.proofs.Addresses.Fields.{Field, top, head, end, mask, lane, slot, value}
 use Rattle.representation.proofs.Addresses.Writes.{Writes, put, writes-none, writes-put, writes-done}
-use Rattle.representation.proofs.Addresses.Changes.{laneMask-kept, top-kept}
+use Rattle.representation.proofs.Addresses.MaskWords.{laneMask-kept, top-kept}
 use Rattle.changes.specs.Shows.{Shows}
 use Rattle.changes.proofs.Shape.{LaneAtEach, Shape}
 use Rattle.changes.proofs.Puts.{writes-alike}

@@ -15,7 +15,7 @@ use Rattle.model.specs.Table.{blank, productAt}
 use Rattle.model.specs.Rules.{fresh}
 use Rattle.model.specs.Legal.{sizesFit}
 use Rattle.laws.specs.Tests.{clash}
-use Rattle.laws.specs.Lists.{getD-replicate-default}
+use Rattle.laws.specs.ListLaws.{getD-replicate-default}
 use Rattle.laws.specs.Elements.{any-false-intro}
 use Rattle.laws.specs.Sums.{sum}
 use Rattle.laws.specs.Counts.{count-from, count-from-below}

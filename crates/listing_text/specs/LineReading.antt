@@ -6,7 +6,7 @@ use mathlib.Core.Path.{_≡_}
 use lib.ListN.{length, drop}
 use lib.Dec.{eqb}
 use Rattle.model.specs.Lists.{member}
-use Rattle.calls.specs.Calls.{callOf}
+use Rattle.calls.specs.CallOf.{callOf}
 use Rattle.listing_text.specs.Number.{newline}
 use Rattle.listing_text.specs.Call.{Parsed, bad, call, parsed}
 use Rattle.listing_text.specs.Machine.{started, fed, fedAll, finished}

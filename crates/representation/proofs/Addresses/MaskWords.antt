@@ -7,7 +7,7 @@ use Rattle.model.specs.State.{Engine, Table, State}
 use Rattle.model.specs.Engine.{laneAt}
 use Rattle.model.specs.Rules.{with}
 use Rattle.model.specs.Memory.{isNotZero, laneMask, cabinetMask}
-use Rattle.laws.specs.Lists.{map-from-alike}
+use Rattle.laws.specs.ListLaws.{map-from-alike}
 use Rattle.representation.proofs.Addresses.Fields.{top, value}
 
 -- ---- pending bits as they were

@@ -16,11 +16,11 @@ use Rattle.model.specs.State.{Product, Table}
 use Rattle.model.specs.Layout.{maxSlots, chainCount}
 use Rattle.model.specs.Table.{blank, productAt, chainOf, slotOf, present, linkOf, deleted, reclaimed}
 use Rattle.laws.specs.Tests.{same-or}
-use Rattle.laws.specs.Lists.{length-update, update-cases, set-cases}
+use Rattle.laws.specs.ListLaws.{length-update, update-cases, set-cases}
 use Rattle.laws.specs.Sums.{sum, sum-update, sum-getD}
 use Rattle.laws.specs.Counts.{mark-other, count-append, count-without, count-concat}
 use Rattle.representation.proofs.Causes.Searches.{slotIn-some}
-use Rattle.representation.proofs.Causes.Places.{inTable, present-in}
+use Rattle.representation.proofs.Causes.SlotCounts.{inTable, present-in}
 use Rattle.representation.proofs.WellFormed.{SlotOrNone, ProductFits, TableFits, chained}
 use Rattle.representation.proofs.Sentences.Ranges.{successorIn-range}
 

@@ -11,7 +11,7 @@ use Rattle.model.specs.Layout.{chainLinkAt}
 use Rattle.model.specs.Table.{blank, linkOf}
 use Rattle.model.specs.Rules.{with}
 use Rattle.model.specs.Memory.{slotWords}
-use Rattle.laws.specs.Lists.{getD-set}
+use Rattle.laws.specs.ListLaws.{getD-set}
 use Rattle.representation.proofs.Addresses.Fields.{Field, top, head, end, mask, lane, slot, value}
 use Rattle.changes.proofs.Puts.{linked, headed}
 

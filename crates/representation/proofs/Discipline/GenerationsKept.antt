@@ -10,7 +10,7 @@ use Rattle.model.specs.Word.{up}
 use Rattle.model.specs.Engine.{withCurrent, noQueues, freshLane, awaiting, isPending, emptied, laneAt, setPending, setOnline, withGlobal, atLane, runs, started, released, quiesced, sampled, clocked, taken, wentOff}
 use Rattle.model.specs.Rules.{isOnline}
 use Rattle.laws.specs.Tests.{and-true, cond-cases}
-use Rattle.laws.specs.Lists.{update-cases, getD-update-same}
+use Rattle.laws.specs.ListLaws.{update-cases, getD-update-same}
 use Rattle.laws.specs.Elements.{map-cases, any-update-same, any-update-alike}
 use Rattle.representation.proofs.Discipline.Frame.{ended-cases, frame-released}
 use Rattle.representation.proofs.Discipline.Ages.{none, old, now, soon, Strict, Clean, Disciplined, LooseAt, LooseGlobal, age-map, level-anew, strict-anew, OffEmpty}

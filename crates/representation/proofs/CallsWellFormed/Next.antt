@@ -14,19 +14,19 @@ use Rattle.model.specs.Engine.{freshLane}
 use Rattle.model.specs.Table.{product, slotOf, present, linkOf, added, replaced, deleted, reclaimed}
 use Rattle.model.specs.Rules.{Op, add, replace, delete, begin, end, start, step, pass, clock, on, off, hand-back, awaited, Answer, laneOf, with, retired, handedBack, lessHandedBack, fromGlobal, lessDone, performed, next, reclaiming, refusal}
 use Rattle.laws.specs.Tests.{clash, cond-cases, same-or}
-use Rattle.laws.specs.Lists.{length-update, update-cases}
+use Rattle.laws.specs.ListLaws.{length-update, update-cases}
 use Rattle.laws.specs.Counts.{mark, mark-self, mark-other}
 use Rattle.representation.proofs.Discipline.Frame.{queued}
-use Rattle.representation.proofs.Causes.Places.{inTable, in-added, in-replaced, in-deleted, in-reclaimed, in-retired, in-handed}
+use Rattle.representation.proofs.Causes.SlotCounts.{inTable, in-added, in-replaced, in-deleted, in-reclaimed, in-retired, in-handed}
 use Rattle.representation.proofs.Causes.Passed.{call-cases}
 use Rattle.representation.proofs.Causes.Accepted.{accepts}
 use Rattle.representation.proofs.WellFormed.{WellFormed, LaneFits, TableFits, ProductFits, Generations}
 use Rattle.representation.proofs.FromState.Standing.{fit, at-most-one, table-once, table-below}
-use Rattle.representation.proofs.CallsKeep.Engines.{Fits, generations-at, generations-global}
+use Rattle.representation.proofs.CallsWellFormed.EngineFields.{Fits, generations-at, generations-global}
 use Rattle.representation.proofs.Sentences.Ranges.{code-fits, product-fits}
-use Rattle.representation.proofs.CallsKeep.Tables.{deleted-fits, reclaimed-fits}
-use Rattle.representation.proofs.CallsKeep.TableGifts.{added-fits, replaced-fits}
-use Rattle.representation.proofs.CallsKeep.NextLanes.{anew, well-begin, well-end, well-start, well-step, well-pass, well-on, in-lanes, well-clock, well-off}
+use Rattle.representation.proofs.CallsWellFormed.Tables.{deleted-fits, reclaimed-fits}
+use Rattle.representation.proofs.CallsWellFormed.TableGifts.{added-fits, replaced-fits}
+use Rattle.representation.proofs.CallsWellFormed.NextLanes.{anew, well-begin, well-end, well-start, well-step, well-pass, well-on, in-lanes, well-clock, well-off}
 
 module _ (s : State) (w : WellFormed s) where
   abbrev n : ℕ
