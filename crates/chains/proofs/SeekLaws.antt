@@ -9,7 +9,7 @@ use lib.ListN.{length, getD}
 use lib.Dec.{leb, eqb}
 use borrow.Author.Tests.{le-leb, lt-leb, eq-eqb, ne-eqb}
 use Rattle.model.specs.Word.{none}
-use Rattle.model.specs.State.{Product}
+use Rattle.model.specs.State.{Sizes, Product}
 use Rattle.model.specs.Table.{productAt, slotIn}
 use Rattle.model.specs.Memory.{at, walk}
 use Rattle.laws.specs.Tests.{same, other, decide, eqb-self}
@@ -21,47 +21,47 @@ use Rattle.chains.specs.Chained.{beforeCode}
 
 -- ---- the loop
 
-module _ (m : List ℕ) (base slots code : ℕ) where
+module _ (m : List ℕ) (z : Sizes) (code : ℕ) where
   seek-step : (n p i : ℕ) → 0 < n
-      → seek m base slots code n p i
-      ≡ cond (leb slots i)
+      → seek m z code n p i
+      ≡ cond (leb (z .slots) i)
       (foundAt none p)
-      (cond (eqb (codeWords m base i) code) (foundAt i p) (seek m base slots code (n - 1) i (at m (linkAddress base i))))
+      (cond (eqb (codeWords m z i) code) (foundAt i p) (seek m z code (n - 1) i (at m (linkAddress z i))))
   unfolding seek
   seek-step zero p i h = absurd (omega arith)
   seek-step (suc n) p i h = let e : suc n - 1 ≡ n = omega arith in rw e
 
   -- with n steps left at slot i, p before it; r is what the whole search finds
-  module _ (n p i : ℕ) (r : Found) (inv : seek m base slots code n p i ≡ r) where
+  module _ (n p i : ℕ) (r : Found) (inv : seek m z code n p i ≡ r) where
     pub seek-end : n ≤ 0 → foundAt none p ≡ r
     unfolding seek
     seek-end h = let e : n ≡ 0 = omega arith in rw e at inv
 
-    pub seek-none : 0 < n → slots ≤ i → foundAt none p ≡ r
-    seek-none h o = sym (seek-step n p i h ∙ simp (le-leb slots i o)) ∙ inv
+    pub seek-none : 0 < n → z .slots ≤ i → foundAt none p ≡ r
+    seek-none h o = sym (seek-step n p i h ∙ simp (le-leb (z .slots) i o)) ∙ inv
 
-    pub seek-found : 0 < n → i < slots → codeWords m base i ≡ code → foundAt i p ≡ r
-    seek-found h o e = sym (seek-step n p i h ∙ simp (lt-leb slots i o, eq-eqb _ _ e)) ∙ inv
+    pub seek-found : 0 < n → i < z .slots → codeWords m z i ≡ code → foundAt i p ≡ r
+    seek-found h o e = sym (seek-step n p i h ∙ simp (lt-leb (z .slots) i o, eq-eqb _ _ e)) ∙ inv
 
-    pub seek-on : 0 < n → i < slots → (codeWords m base i ≡ code → ⊥) → seek m base slots code (n - 1) i (at m (linkAddress base i)) ≡ r
-    seek-on h o e = sym (seek-step n p i h ∙ simp (lt-leb slots i o, ne-eqb _ _ e)) ∙ inv
+    pub seek-on : 0 < n → i < z .slots → (codeWords m z i ≡ code → ⊥) → seek m z code (n - 1) i (at m (linkAddress z i)) ≡ r
+    seek-on h o e = sym (seek-step n p i h ∙ simp (lt-leb (z .slots) i o, ne-eqb _ _ e)) ∙ inv
 
 -- ---- what a search finds in a chain
 
 -- the chain that a walk along the links reads, where `links` and `ps` are the words' own links and products
-module _ (m : List ℕ) (base slots code : ℕ) (links : List ℕ) (ps : List Product) (size : length links ≡ slots)
-    (link : (i : ℕ) → i < slots → getD links i none ≡ at m (linkAddress base i)) (codes : (i : ℕ) → i < slots → productAt ps i .code ≡ codeWords m base i) where
-  pub seek-walk : (n p i : ℕ) → seek m base slots code n p i ≡ foundAt (slotIn ps code (walk links i n)) (beforeCode ps code (walk links i n) p)
+module _ (m : List ℕ) (z : Sizes) (code : ℕ) (links : List ℕ) (ps : List Product) (size : length links ≡ z .slots)
+    (link : (i : ℕ) → i < z .slots → getD links i none ≡ at m (linkAddress z i)) (codes : (i : ℕ) → i < z .slots → productAt ps i .code ≡ codeWords m z i) where
+  pub seek-walk : (n p i : ℕ) → seek m z code n p i ≡ foundAt (slotIn ps code (walk links i n)) (beforeCode ps code (walk links i n) p)
   unfolding seek walk slotIn beforeCode
   seek-walk zero p i = refl
   seek-walk (suc n) p i =
       elim (step links i) [
-        | stop h ↦ rw (le-leb slots i (omega arith), walk-stop links i (suc n) h)
+        | stop h ↦ rw (le-leb (z .slots) i (omega arith), walk-stop links i (suc n) h)
         | on h ↦
-            rw (lt-leb slots i (omega arith), walk-on links i n h, codes i (omega arith), link i (omega arith))
-            (elim (decide (codeWords m base i) code) [
+            rw (lt-leb (z .slots) i (omega arith), walk-on links i n h, codes i (omega arith), link i (omega arith))
+            (elim (decide (codeWords m z i) code) [
               | same e t u ↦ rw t
-              | other e t u ↦ rw t (seek-walk n i (at m (linkAddress base i)))
+              | other e t u ↦ rw t (seek-walk n i (at m (linkAddress z i)))
             ])
       ]
 

@@ -1,20 +1,21 @@
 // Queues of slots in the lent words: first and last stand at `ends`, and each slot's queue link is the next slot of
-// its queue. A queue is empty when its first is none. The slots' records stand from `base` on.
+// its queue. A queue is empty when its first is none.
 ghost use mathlib.Core.Bool.{not};
 ghost use mathlib.Core.Path.{_≡_};
-ghost use Prim.Native.Nat.{_+_, _*_, _^_, _<_, _≤_};
+ghost use Prim.Native.Nat.{_+_, _<_};
 ghost use lib.Dec.{ltb};
 ghost use lib.ListN.{length};
-ghost use Rattle.model.specs.Layout.{lastOffset, slotLength};
+ghost use Rattle.model.specs.Layout.{lastOffset};
 ghost use Rattle.model.specs.Memory.{at};
+ghost use Rattle.words.specs.Lent.{sizesOf, Few, Lent};
 ghost use Rattle.queues.specs.Queue.{linkAddress, endsSet, begunAt, followed, appendedRun, appended, joined, Taken};
 
 // Where the queue link of a slot stands.
-fn link_address(base: usize, slot: u32) -> usize
-    requires { ⌜ linkAddress base slot < 2 ^ 64 ⌝ }
-    ensures { λ r. ⌜ r ≡ linkAddress base slot ⌝ }
+fn link_address(z: words::Sizes, slot: u32) -> usize
+    requires { ⌜ Few (sizesOf z) ⌝ }
+    ensures { λ r. ⌜ r ≡ linkAddress (sizesOf z) slot ⌝ }
 {
-    base + words::SLOT_LENGTH * words::index(slot) + words::QUEUE_LINK_AT
+    words::slot_address(z, slot) + words::QUEUE_LINK_AT
 }
 
 // Both ends anew.
@@ -27,11 +28,11 @@ fn set_ends(m: &mut [u32], ends: usize, first: u32, last: u32)
 }
 
 // The queue begins at `next` from now on; it is empty where that is no slot.
-fn begin_at(m: &mut [u32], slots: u32, ends: usize, next: u32)
+fn begin_at(m: &mut [u32], z: words::Sizes, ends: usize, next: u32)
     requires { ⌜ ends + lastOffset < length (now m) ⌝ }
-    ensures { λ _. ⌜ now (m .exit) ≡ begunAt (now (m .entry)) slots ends next ⌝ }
+    ensures { λ _. ⌜ now (m .exit) ≡ begunAt (now (m .entry)) (sizesOf z) ends next ⌝ }
 {
-    if next < slots {
+    if next < z.slots {
         m[ends] = next;
     } else {
         set_ends(m, ends, words::NONE, words::NONE);
@@ -39,13 +40,13 @@ fn begin_at(m: &mut [u32], slots: u32, ends: usize, next: u32)
 }
 
 // The slot follows the queue's last; it is the first where the queue is empty.
-fn follow(m: &mut [u32], base: usize, slots: u32, ends: usize, slot: u32)
-    requires { ⌜ (base + slotLength * slots ≤ length (now m)) × (ends + lastOffset < length (now m)) ⌝ }
-    ensures { λ _. ⌜ now (m .exit) ≡ followed (now (m .entry)) base slots ends slot ⌝ }
+fn follow(m: &mut [u32], z: words::Sizes, ends: usize, slot: u32)
+    requires { ⌜ (Lent (now m) (sizesOf z)) × (ends + lastOffset < length (now m)) ⌝ }
+    ensures { λ _. ⌜ now (m .exit) ≡ followed (now (m .entry)) (sizesOf z) ends slot ⌝ }
 {
     let last = m[ends + words::LAST_OFFSET];
-    if last < slots {
-        let i = link_address(base, last);
+    if last < z.slots {
+        let i = link_address(z, last);
         m[i] = slot;
     } else {
         m[ends] = slot;
@@ -53,54 +54,54 @@ fn follow(m: &mut [u32], base: usize, slots: u32, ends: usize, slot: u32)
 }
 
 // Whether the queue is empty.
-pub fn is_empty(m: &[u32], slots: u32, ends: usize) -> bool
+pub fn is_empty(m: &[u32], z: words::Sizes, ends: usize) -> bool
     requires { ⌜ ends < length (now m) ⌝ }
-    ensures { λ r. ⌜ r ≡ not (ltb (at (now (m .entry)) ends) slots) ⌝ }
+    ensures { λ r. ⌜ r ≡ not (ltb (at (now (m .entry)) ends) (z .slots)) ⌝ }
 {
-    !(m[ends] < slots)
+    !(m[ends] < z.slots)
 }
 
 // Appends the slots from `first` to `last`, which are linked already.
-fn append_run(m: &mut [u32], base: usize, slots: u32, ends: usize, first: u32, last: u32)
-    requires { ⌜ (base + slotLength * slots ≤ length (now m)) × (ends + lastOffset < length (now m)) ⌝ }
-    ensures { λ _. ⌜ now (m .exit) ≡ appendedRun (now (m .entry)) base slots ends first last ⌝ }
+fn append_run(m: &mut [u32], z: words::Sizes, ends: usize, first: u32, last: u32)
+    requires { ⌜ (Lent (now m) (sizesOf z)) × (ends + lastOffset < length (now m)) ⌝ }
+    ensures { λ _. ⌜ now (m .exit) ≡ appendedRun (now (m .entry)) (sizesOf z) ends first last ⌝ }
 {
-    follow(m, base, slots, ends, first);
+    follow(m, z, ends, first);
     m[ends + words::LAST_OFFSET] = last;
 }
 
 // Appends the slot. Its queue link is not written: it is none of a slot outside every queue.
-pub fn append(m: &mut [u32], base: usize, slots: u32, ends: usize, slot: u32)
-    requires { ⌜ (base + slotLength * slots ≤ length (now m)) × (ends + lastOffset < length (now m)) ⌝ }
-    ensures { λ _. ⌜ now (m .exit) ≡ appended (now (m .entry)) base slots ends slot ⌝ }
+pub fn append(m: &mut [u32], z: words::Sizes, ends: usize, slot: u32)
+    requires { ⌜ (Lent (now m) (sizesOf z)) × (ends + lastOffset < length (now m)) ⌝ }
+    ensures { λ _. ⌜ now (m .exit) ≡ appended (now (m .entry)) (sizesOf z) ends slot ⌝ }
 {
-    append_run(m, base, slots, ends, slot, slot);
+    append_run(m, z, ends, slot, slot);
 }
 
 // Appends the whole queue at `from` to the one at `to`, and leaves `from` empty.
-pub fn append_queue(m: &mut [u32], base: usize, slots: u32, to: usize, from: usize)
-    requires { ⌜ (base + slotLength * slots ≤ length (now m)) × ((to + lastOffset < length (now m)) × (from + lastOffset < length (now m))) ⌝ }
-    ensures { λ _. ⌜ now (m .exit) ≡ joined (now (m .entry)) base slots to from ⌝ }
+pub fn append_queue(m: &mut [u32], z: words::Sizes, to: usize, from: usize)
+    requires { ⌜ (Lent (now m) (sizesOf z)) × ((to + lastOffset < length (now m)) × (from + lastOffset < length (now m))) ⌝ }
+    ensures { λ _. ⌜ now (m .exit) ≡ joined (now (m .entry)) (sizesOf z) to from ⌝ }
 {
     let first = m[from];
-    if first < slots {
+    if first < z.slots {
         let last = m[from + words::LAST_OFFSET];
-        append_run(m, base, slots, to, first, last);
+        append_run(m, z, to, first, last);
         set_ends(m, from, words::NONE, words::NONE);
     }
 }
 
 // Takes the first slot of the queue and answers its number; where the queue is empty, answers what stands there.
-pub fn take_first(m: &mut [u32], base: usize, slots: u32, ends: usize) -> u32
-    requires { ⌜ (base + slotLength * slots ≤ length (now m)) × (ends + lastOffset < length (now m)) ⌝ }
-    ensures { λ r. ⌜ Taken (now (m .entry)) base slots ends r (now (m .exit)) ⌝ }
+pub fn take_first(m: &mut [u32], z: words::Sizes, ends: usize) -> u32
+    requires { ⌜ (Lent (now m) (sizesOf z)) × (ends + lastOffset < length (now m)) ⌝ }
+    ensures { λ r. ⌜ Taken (now (m .entry)) (sizesOf z) ends r (now (m .exit)) ⌝ }
 {
     let first = m[ends];
-    if first < slots {
-        let i = link_address(base, first);
+    if first < z.slots {
+        let i = link_address(z, first);
         let next = m[i];
         m[i] = words::NONE;
-        begin_at(m, slots, ends, next);
+        begin_at(m, z, ends, next);
     }
     first
 }

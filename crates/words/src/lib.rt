@@ -2,11 +2,15 @@
 // 64-bit numbers in two words. Each number of the layout stands here alone: the other crates cite these
 // constants, or make theirs of them.
 ghost use mathlib.Core.Path.{_≡_};
-ghost use Prim.Native.Nat.{_+_, _<_};
+ghost use Prim.Native.Nat.{_+_, _<_, _≤_};
 ghost use lib.ListN.{length};
+ghost use Rattle.model.specs.Word.{wordLimit};
+ghost use Rattle.model.specs.State.{laneCount};
+ghost use Rattle.model.specs.Layout.{contentsLength, laneAddress, slotsBody, slotAddress};
 ghost use Rattle.model.specs.Legal.{sizesFit};
 ghost use Rattle.model.specs.Calls.{sized};
 ghost use Rattle.model.specs.Memory.{wide, wholeOf, low as lowWord, high as highWord};
+ghost use Rattle.words.specs.Lent.{sizesOf, sizesIn, Few};
 
 // no slot, no lane
 pub const NONE: u32 = 4294967295;
@@ -121,6 +125,56 @@ pub fn sizes_fit(cabinets: u32, places: u32, slots: u32) -> bool
         & ((cabinets <= MAX_CABINETS)
             & ((1 <= places)
                 & ((places <= MAX_PLACES) & ((1 <= slots) & ((slots <= MAX_SLOTS) & true)))))
+}
+
+// The sizes of a table, handed on by value.
+pub struct Sizes {
+    pub cabinets: u32,
+    pub places: u32,
+    pub slots: u32,
+}
+
+// The sizes that a memory's contents name.
+pub fn read_sizes(m: &[u32]) -> Sizes
+    requires { ⌜ contentsLength ≤ length (now m) ⌝ }
+    ensures { λ r. ⌜ r ≡ sizesIn (now (m .entry)) ⌝ }
+{
+    Sizes {
+        cabinets: m[CABINETS_AT],
+        places: m[PLACES_AT],
+        slots: m[SLOTS_AT],
+    }
+}
+
+// The number of lanes.
+pub fn lane_count(z: Sizes) -> u32
+    requires { ⌜ Few (sizesOf z) ⌝ }
+    ensures { λ r. ⌜ r ≡ laneCount (sizesOf z) ⌝ }
+{
+    z.cabinets * z.places
+}
+
+// Where the record of a lane begins.
+pub fn lane_address(z: Sizes, lane: u32) -> usize
+    ensures { λ r. ⌜ r ≡ laneAddress (sizesOf z) lane ⌝ }
+{
+    MASKS_AT + index(z.cabinets) + LANE_LENGTH * index(lane)
+}
+
+// Where the slots' records begin.
+pub fn slots_start(z: Sizes) -> usize
+    requires { ⌜ Few (sizesOf z) ⌝ }
+    ensures { λ r. ⌜ r ≡ slotsBody (sizesOf z) ⌝ }
+{
+    lane_address(z, lane_count(z))
+}
+
+// Where the record of a slot begins.
+pub fn slot_address(z: Sizes, slot: u32) -> usize
+    requires { ⌜ Few (sizesOf z) ⌝ }
+    ensures { λ r. ⌜ r ≡ slotAddress (sizesOf z) slot ⌝ }
+{
+    slots_start(z) + SLOT_LENGTH * index(slot)
 }
 
 // ---- numbers

@@ -8,8 +8,8 @@ use Rattle.model.specs.Memory.{wide}
 use Rattle.chains.proofs.code_of.Statement.{statement}
 use Rattle.chains.proofs.code_of.Tie as tie
 
-record-address-requires : tie.Need-record-address-requires
-record-address-requires c κs = search needs
+slot-address-requires : tie.Need-slot-address-requires
+slot-address-requires c κs = search needs
 
 add-i : tie.Need-add-i
 add-i c = search needs
@@ -19,9 +19,9 @@ code-at-requires c κs = search needs
 
 returns : tie.Need-returns
 returns c =
-    let at-record-address : tie.After-record-address = search in
+    let at-slot-address : tie.After-slot-address = search in
     let entry : tie.Start = search in
-    c .code-at .ensures ∙ ap (λ (i : ℕ). wide (now (entry .args .m)) (i + codeAt)) (at-record-address .record-address .ensures)
+    c .code-at .ensures ∙ ap (λ (i : ℕ). wide (now (entry .args .m)) (i + codeAt)) (at-slot-address .slot-address .ensures)
 
 pub code-of-spec : {M : Type 1} → statement M
-code-of-spec = tie.close (tie.spec record-address-requires add-i code-at-requires returns)
+code-of-spec = tie.close (tie.spec slot-address-requires add-i code-at-requires returns)

@@ -5,17 +5,18 @@ use Prim.Native.Nat.{_≤_, _+_}
 use mathlib.Core.Path.{_≡_, refl, sym, _∙_}
 use native.Mathlib.Omega.{arith}
 use Rattle.model.specs.Word.{none}
+use Rattle.words.specs.Lent.{sizesOf}
 use Rattle.chains.specs.Chain.{seek}
 use Rattle.chains.proofs.SeekLaws.{seek-end, seek-none, seek-found, seek-on}
 use Rattle.chains.proofs.find.Statement.{statement}
 use Rattle.chains.proofs.find.Tie as tie
 
 abbrev Inv-loop : tie.InvT-loop
-Inv-loop m base slots head code left₀ prev₀ slot₀ left prev slot =
-    (left ≤ slots + 1) × (seek m base slots code left prev slot ≡ seek m base slots code (slots + 1) none head)
+Inv-loop m z head code left₀ prev₀ slot₀ left prev slot =
+    (left ≤ z .slots + 1) × (seek m (sizesOf z) code left prev slot ≡ seek m (sizesOf z) code (z .slots + 1) none head)
 
 abbrev μ-loop : tie.MeasureT-loop
-μ-loop m base slots head code left₀ prev₀ slot₀ left prev slot = left
+μ-loop m z head code left₀ prev₀ slot₀ left prev slot = left
 
 add-left : tie.Need-add-left Inv-loop μ-loop
 add-left c = omega arith
@@ -35,7 +36,7 @@ returns-2 c =
     let at-if1 : tie.Else1 Inv-loop μ-loop = search in
     let at-loop-test : tie.In-loop Inv-loop μ-loop = search in
     let at-loop : tie.At-loop Inv-loop μ-loop = search in
-    seek-found _ _ _ _ _ _ _ _ (at-loop .loop .inv .1) (at-loop-test .loop-test .taken) (at-if1 .if1 .left)
+    seek-found _ _ _ _ _ _ _ (at-loop .loop .inv .1) (at-loop-test .loop-test .taken) (at-if1 .if1 .left)
     (sym (at-code-of .code-of .ensures) ∙ c .if2 .taken)
 
 chain-link-requires : tie.Need-chain-link-requires Inv-loop μ-loop
@@ -55,7 +56,7 @@ loop-again c =
     let at-loop-test : tie.In-loop Inv-loop μ-loop = search in
     let at-loop : tie.At-loop Inv-loop μ-loop = search in
     let on =
-    seek-on _ _ _ _ _ _ _ _ (at-loop .loop .inv .1) (at-loop-test .loop-test .taken) (at-if1 .if1 .left)
+    seek-on _ _ _ _ _ _ _ (at-loop .loop .inv .1) (at-loop-test .loop-test .taken) (at-if1 .if1 .left)
     (λ q. at-if2 .if2 .left (at-code-of .code-of .ensures ∙ q)) in
     (omega arith, rw (c .chain-link .ensures) on)
 

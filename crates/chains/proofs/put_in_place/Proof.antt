@@ -2,6 +2,7 @@
 use mathlib.Core.Path.{_∙_}
 use lib.ListN.{length-set}
 use borrow.Author.Needs.{needs}
+use Rattle.words.proofs.LentLaws.{lent-set}
 use Rattle.chains.proofs.put_in_place.Statement.{statement}
 use Rattle.chains.proofs.put_in_place.Tie as tie
 
@@ -18,7 +19,7 @@ slice-write-m : tie.Need-slice-write-m
 slice-write-m c = search needs
 
 point-requires : tie.Need-point-requires
-point-requires c κs = search needs
+point-requires c κs = search (needs, lent-set)
 
 same-length : tie.Need-same-length
 same-length c =

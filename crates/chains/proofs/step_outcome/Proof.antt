@@ -20,36 +20,36 @@ returns-2 c =
     let at-if1 : tie.Else1 = search in
     sym (simp (lt-leb _ _ (at-if1 .if1 .left), ne-eqb _ _ (λ q. c .if2 .taken (at-code-of .code-of .ensures ∙ q))))
 
-record-address-requires : tie.Need-record-address-requires
-record-address-requires c κs = search needs
+slot-address-requires : tie.Need-slot-address-requires
+slot-address-requires c κs = search needs
 
-add-t9 : tie.Need-add-t9
-add-t9 c = search needs
+add-deposit : tie.Need-add-deposit
+add-deposit c = search needs
 
-mul-t10 : tie.Need-mul-t10
-mul-t10 c = search needs
+mul-deposit : tie.Need-mul-deposit
+mul-deposit c = search needs
 
-shared-slice-read-t12 : tie.Need-shared-slice-read-t12
-shared-slice-read-t12 c = search needs
+shared-slice-read-deposit : tie.Need-shared-slice-read-deposit
+shared-slice-read-deposit c = search needs
 
-add-t13 : tie.Need-add-t13
-add-t13 c = search needs
+add-material : tie.Need-add-material
+add-material c = search needs
 
-mul-t14 : tie.Need-mul-t14
-mul-t14 c = search needs
+mul-material : tie.Need-mul-material
+mul-material c = search needs
 
-shared-slice-read-t16 : tie.Need-shared-slice-read-t16
-shared-slice-read-t16 c = search needs
+shared-slice-read-material : tie.Need-shared-slice-read-material
+shared-slice-read-material c = search needs
 
 returns-3 : tie.Need-returns-3
 unfolding outcomeOf outcomeAt
 returns-3 c =
-    let at-record-address : tie.After-record-address = search in
+    let at-slot-address : tie.After-slot-address = search in
     let at-if2 : tie.Else2 = search in
     let at-code-of : tie.After-code-of = search in
     let at-if1 : tie.Else1 = search in
     let hit = sym (at-code-of .code-of .ensures) ∙ at-if2 .if2 .left in
-    sym (simp (lt-leb _ _ (at-if1 .if1 .left), eq-eqb _ _ hit, at-record-address .record-address .ensures))
+    sym (simp (lt-leb _ _ (at-if1 .if1 .left), eq-eqb _ _ hit, at-slot-address .slot-address .ensures))
 
 pub step-outcome-spec : {M : Type 1} → statement M
 step-outcome-spec =
@@ -58,11 +58,11 @@ step-outcome-spec =
     returns
     code-of-requires
     returns-2
-    record-address-requires
-    add-t9
-    mul-t10
-    shared-slice-read-t12
-    add-t13
-    mul-t14
-    shared-slice-read-t16
+    slot-address-requires
+    add-deposit
+    mul-deposit
+    shared-slice-read-deposit
+    add-material
+    mul-material
+    shared-slice-read-material
     returns-3)

@@ -5,8 +5,8 @@ use borrow.Author.Needs.{needs}
 use Rattle.chains.proofs.write_product.Statement.{statement}
 use Rattle.chains.proofs.write_product.Tie as tie
 
-record-address-requires : tie.Need-record-address-requires
-record-address-requires c κs = search needs
+slot-address-requires : tie.Need-slot-address-requires
+slot-address-requires c κs = search needs
 
 low-requires : tie.Need-low-requires
 low-requires c κs = search needs
@@ -59,14 +59,14 @@ same-length c = search needs
 returns : tie.Need-returns
 returns c =
     let at-low : tie.After-low = search in
-    let at-record-address : tie.After-record-address = search in
-    rw (c .high .ensures, at-low .low .ensures, at-record-address .record-address .ensures)
+    let at-slot-address : tie.After-slot-address = search in
+    rw (c .high .ensures, at-low .low .ensures, at-slot-address .slot-address .ensures)
 
 pub write-product-spec : {M : Type 1} → statement M
 write-product-spec =
     tie.close
     (tie.spec
-    record-address-requires
+    slot-address-requires
     low-requires
     add-m
     mul-m
