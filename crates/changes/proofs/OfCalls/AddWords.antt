@@ -8,7 +8,7 @@ use lib.ListN.{getD}
 use Rattle.model.specs.Word.{none}
 use Rattle.model.specs.Lists.{isEmpty, first, tail, count}
 use Rattle.model.specs.State.{Sizes, laneCount, State}
-use Rattle.model.specs.Layout.{chainCount, freeAt, headsAt, slotsBody}
+use Rattle.model.specs.Layout.{chainCount, freeAt, headsAt}
 use Rattle.model.specs.Table.{product, chainNumber, chainOf, slotOf, present}
 use Rattle.model.specs.Rules.{add, replace, performed}
 use Rattle.model.specs.Memory.{at}
@@ -51,7 +51,7 @@ module _ (s : State) (m : List ℕ) (shows : Shows m s) (shape : Shape s) where
     filled = filledState s x c d t
 
     lessWords : List ℕ
-    lessWords = lessFirst m (slotsBody z) (z .slots) freeAt
+    lessWords = lessFirst m z freeAt
 
     taken : lessWords ≡ stored less m
     unfolding lessWords
@@ -90,7 +90,7 @@ module _ (s : State) (m : List ℕ) (shows : Shows m s) (shape : Shape s) where
     -- ---- replace: find, take first, write product, put in place, append
 
     abbrev putWords : ℕ → Found → List ℕ
-    putWords n f = putInPlace (filledWords z m n c d t) (slotsBody z) (z .slots) (headsAt + chainNumber c) (f .slot) (f .prev) n
+    putWords n f = putInPlace (filledWords z m n c d t) z (headsAt + chainNumber c) (f .slot) (f .prev) n
 
     module _ (i : ℕ) (within : i < laneCount z) (here : present (s .table) c ≡ true) where
       abbrev old : ℕ

@@ -5,12 +5,12 @@ use mathlib.Core.Path.{_≡_, refl}
 use mathlib.Core.List.{List, [], _∷_, _++_}
 use Rattle.model.specs.Lists.{isEmpty, first, tail}
 use Rattle.model.specs.State.{Sizes, State}
-use Rattle.model.specs.Layout.{freeAt, headsAt, slotsBody}
+use Rattle.model.specs.Layout.{freeAt, headsAt, slotAddress}
 use Rattle.model.specs.Table.{product, chainNumber, slotOf, added, replaced, deleted, reclaimed}
 use Rattle.model.specs.Rules.{add, replace, delete, hand-back, laneOf, performed}
 use Rattle.queues.specs.Queue.{appended, lessFirst}
 use Rattle.chains.specs.declared.Found.{Found}
-use Rattle.chains.specs.Chain.{recordAddress, linkedAtHead, putInPlace, unlinked, productSet, cleared}
+use Rattle.chains.specs.Chain.{linkedAtHead, putInPlace, unlinked, productSet, cleared}
 use Rattle.changes.specs.Queues.{Queue, free, global, lane, next, done, queueOf, withQueue, endsAt}
 use Rattle.changes.proofs.OfChains.ChainStates.{headAdded, chainLess, chainSwapped, withProduct, slotCleared}
 
@@ -19,26 +19,26 @@ use Rattle.changes.proofs.OfChains.ChainStates.{headAdded, chainLess, c
 module _ (z : Sizes) (m : List ℕ) where
   -- the memory after take first of the free queue, which gave slot n, and write product
   abbrev pub filledWords : ℕ → ℕ → ℕ → ℕ → List ℕ
-  filledWords n c d t = productSet (lessFirst m (slotsBody z) (z .slots) freeAt) (recordAddress (slotsBody z) n) c d t
+  filledWords n c d t = productSet (lessFirst m z freeAt) (slotAddress z n) c d t
 
   -- add: and link at the head
   abbrev pub addedWords : ℕ → ℕ → ℕ → ℕ → List ℕ
-  addedWords n c d t = linkedAtHead (filledWords n c d t) (slotsBody z) (headsAt + chainNumber c) n
+  addedWords n c d t = linkedAtHead (filledWords n c d t) z (headsAt + chainNumber c) n
 
   -- replace, where the search found f: and put in place, append the old slot to the lane's next queue
   abbrev pub replacedWords : ℕ → ℕ → ℕ → ℕ → ℕ → Found → List ℕ
   replacedWords i n c d t f =
-      appended (putInPlace (filledWords n c d t) (slotsBody z) (z .slots) (headsAt + chainNumber c) (f .slot) (f .prev) n)
-      (slotsBody z) (z .slots) (endsAt z (lane i next)) (f .slot)
+      appended (putInPlace (filledWords n c d t) z (headsAt + chainNumber c) (f .slot) (f .prev) n)
+      z (endsAt z (lane i next)) (f .slot)
 
   -- delete, where the search found f: unlink, append to the lane's next queue
   abbrev pub deletedWords : ℕ → ℕ → Found → List ℕ
   deletedWords i c f =
-      appended (unlinked m (slotsBody z) (z .slots) (headsAt + chainNumber c) (f .slot) (f .prev)) (slotsBody z) (z .slots) (endsAt z (lane i next)) (f .slot)
+      appended (unlinked m z (headsAt + chainNumber c) (f .slot) (f .prev)) z (endsAt z (lane i next)) (f .slot)
 
   -- hand-back: take first of queue q, which gave slot n, clear slot, append to the free queue
   abbrev pub reclaimedWords : Queue → ℕ → List ℕ
-  reclaimedWords q n = appended (cleared (lessFirst m (slotsBody z) (z .slots) (endsAt z q)) (recordAddress (slotsBody z) n)) (slotsBody z) (z .slots) freeAt n
+  reclaimedWords q n = appended (cleared (lessFirst m z (endsAt z q)) (slotAddress z n)) z freeAt n
 
 -- ---- as changes of the state
 

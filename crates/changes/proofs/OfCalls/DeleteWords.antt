@@ -8,14 +8,14 @@ use lib.ListN.{getD}
 use Rattle.model.specs.Word.{none}
 use Rattle.model.specs.Lists.{isEmpty, first, tail, count}
 use Rattle.model.specs.State.{Sizes, laneCount, State}
-use Rattle.model.specs.Layout.{chainCount, headsAt, slotsBody}
+use Rattle.model.specs.Layout.{chainCount, headsAt, slotAddress}
 use Rattle.model.specs.Table.{chainNumber, chainOf, slotOf, present}
 use Rattle.model.specs.Rules.{delete, hand-back, laneOf, performed}
 use Rattle.model.specs.Memory.{at}
 use Rattle.model.specs.Calls.{stored}
 use Rattle.queues.specs.Queue.{lessFirst}
 use Rattle.chains.specs.declared.Found.{Found}
-use Rattle.chains.specs.Chain.{recordAddress, foundAt, unlinked, cleared}
+use Rattle.chains.specs.Chain.{foundAt, unlinked, cleared}
 use Rattle.laws.specs.Removals.{beforeIn}
 use Rattle.changes.specs.Shows.{Shows, shows-then, stored-then}
 use Rattle.changes.proofs.Shape.{Shape, chained, queued}
@@ -69,7 +69,7 @@ module _ (s : State) (m : List ℕ) (shows : Shows m s) (shape : Shape s) where
         u = chainLess k o s
 
         n : List ℕ
-        n = unlinked m (slotsBody z) (z .slots) (headsAt + k) o p
+        n = unlinked m z (headsAt + k) o p
 
         unlinks : n ≡ stored u m
         unlinks = unlink-slot s m shows shape k o below inChain
@@ -90,10 +90,10 @@ module _ (s : State) (m : List ℕ) (shows : Shows m s) (shape : Shape s) where
     clean = slotCleared n without
 
     withoutWords : List ℕ
-    withoutWords = lessFirst m (slotsBody z) (z .slots) (endsAt z q)
+    withoutWords = lessFirst m z (endsAt z q)
 
     cleanWords : List ℕ
-    cleanWords = cleared withoutWords (recordAddress (slotsBody z) n)
+    cleanWords = cleared withoutWords (slotAddress z n)
 
     shape-without : Shape without
     shape-without = shape-take s shape q named

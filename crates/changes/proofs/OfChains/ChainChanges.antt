@@ -10,7 +10,7 @@ use borrow.Author.Tests.{lt-ltb, le-ltb, ne-eqb}
 use Rattle.model.specs.Word.{none}
 use Rattle.model.specs.Lists.{update, first, count, without, swapped}
 use Rattle.model.specs.State.{Sizes, State}
-use Rattle.model.specs.Layout.{chainCount, chainLinkAt, headsAt, slotsBody}
+use Rattle.model.specs.Layout.{chainCount, chainLinkAt, headsAt}
 use Rattle.model.specs.Table.{linkOf}
 use Rattle.model.specs.Memory.{at, headOf, slotWords}
 use Rattle.model.specs.Calls.{stored}
@@ -33,7 +33,7 @@ module _ (s : State) (m : List ℕ) (shows : Shows m s) where
   none-yet : Writes z m m (value s)
   none-yet = writes-none z m (shows .long) (value s) (shows .image)
 
-  pub link-shown : (o : ℕ) → o < z .slots → at m (linkAddress (slotsBody z) o) ≡ linkOf (s .table) o
+  pub link-shown : (o : ℕ) → o < z .slots → at m (linkAddress z o) ≡ linkOf (s .table) o
   unfolding slotWords
   link-shown o b = shows .image (slot o chainLinkAt) (b, omega arith)
 
@@ -64,14 +64,14 @@ module _ (s : State) (m : List ℕ) (shows : Shows m s) where
     Pointed p =
         ((j : ℕ) → headsWith s c l j ≡ cond (eqb j k) (cond (eqb none p) x (first (getD (s .table .chains) k []))) (first (getD (s .table .chains) j [])))
         → ((j : ℕ) → j < z .slots → chainLinksWith s c l j ≡ cond (eqb j p) x (u j))
-        → pointed n (slotsBody z) (z .slots) (headsAt + k) p x ≡ stored (withChains c l s) m
+        → pointed n z (headsAt + k) p x ≡ stored (withChains c l s) m
 
     pointed-slot : (p : ℕ) → p < z .slots → eqb none p ≡ false → Pointed p
     unfolding pointed
     pointed-slot p b e h g =
         rw (lt-ltb p (z .slots) b)
-        (chains-done c l (set n (linkAddress (slotsBody z) p) x) (put old (slot p chainLinkAt) x)
-        (writes-put z m (shows .long) n old (slot p chainLinkAt) (linkAddress (slotsBody z) p) x refl (b, omega arith) stores)
+        (chains-done c l (set n (linkAddress z p) x) (put old (slot p chainLinkAt) x)
+        (writes-put z m (shows .long) n old (slot p chainLinkAt) (linkAddress z p) x refl (b, omega arith) stores)
         (λ f d. headed-same z (headsWith s c l) new (λ j i. h j ∙ rw e (same-head j)) f d
         ∙ linked-put z chainLinkAt (chainLinksWith s c l) u (value s) p x g f d))
       where
@@ -92,7 +92,7 @@ module _ (s : State) (m : List ℕ) (shows : Shows m s) where
         ∙ put-over new old (head k) x f
         (linked-alike z chainLinkAt (chainLinksWith s c l) u (value s) (λ j i. g j i ∙ rw (ne-eqb j none (λ q. omega (arith, w .few)))) f d)))
 
-    pointed-state : pointed n (slotsBody z) (z .slots) (headsAt + k) (before s w k o below inChain) x ≡ stored (withChains c l s) m
+    pointed-state : pointed n z (headsAt + k) (before s w k o below inChain) x ≡ stored (withChains c l s) m
     pointed-state = before-cases s w k o below inChain Pointed pointed-slot pointed-none heads links
 
   -- ---- unlink, put in place
@@ -108,7 +108,7 @@ module _ (s : State) (m : List ℕ) (shows : Shows m s) where
     inside-o : o < z .slots
     inside-o = old-inside s w k o below inChain
 
-    pub unlink-slot : unlinked m (slotsBody z) (z .slots) (headsAt + k) o (before s w k o below inChain) ≡ stored (chainLess k o s) m
+    pub unlink-slot : unlinked m z (headsAt + k) o (before s w k o below inChain) ≡ stored (chainLess k o s) m
     unfolding slotWords
     unlink-slot =
         rw (link-shown o inside-o)
@@ -123,13 +123,13 @@ module _ (s : State) (m : List ℕ) (shows : Shows m s) where
       abbrev given : ℕ → ℕ
       given j = cond (eqb j n) next (linkOf (s .table) j)
 
-      pub put-in-place : putInPlace m (slotsBody z) (z .slots) (headsAt + k) o (before s w k o below inChain) n ≡ stored (chainSwapped k o n s) m
+      pub put-in-place : putInPlace m z (headsAt + k) o (before s w k o below inChain) n ≡ stored (chainSwapped k o n s) m
       unfolding slotWords
       put-in-place =
           rw (link-shown o inside-o)
-          (pointed-state w k o below inChain (set m (linkAddress (slotsBody z) n) next) given n (update (s .table .chains) k (swapped o n)) kept
+          (pointed-state w k o below inChain (set m (linkAddress z n) next) given n (update (s .table .chains) k (swapped o n)) kept
           (writes-alike (linked chainLinkAt given (value s)) (λ f b. sym (linked-put-one z chainLinkAt given (value s) n next (λ j i. refl) f b))
-          (writes-put z m (shows .long) m (value s) (slot n chainLinkAt) (linkAddress (slotsBody z) n) next refl (inside, omega arith) none-yet))
+          (writes-put z m (shows .long) m (value s) (slot n chainLinkAt) (linkAddress z n) next refl (inside, omega arith) none-yet))
           (heads-swapped s w k o below inChain n inside out kept)
           (links-swapped s w k o below inChain n inside out))
 
@@ -156,7 +156,7 @@ module _ (s : State) (m : List ℕ) (shows : Shows m s) where
 
     -- the words and the fields once o has the link to the old head
     abbrev linkSet : List ℕ
-    linkSet = set m (linkAddress (slotsBody z) o) (headOf (s .table) k)
+    linkSet = set m (linkAddress z o) (headOf (s .table) k)
 
     abbrev linkValue : Field → ℕ
     linkValue = put (value s) (slot o chainLinkAt) (headOf (s .table) k)
@@ -164,13 +164,13 @@ module _ (s : State) (m : List ℕ) (shows : Shows m s) where
     abbrev links : ℕ → ℕ
     links = chainLinksWith s longer (s .table .links)
 
-    pub link-at-head : linkedAtHead m (slotsBody z) (headsAt + k) o ≡ stored (headAdded k o s) m
+    pub link-at-head : linkedAtHead m z (headsAt + k) o ≡ stored (headAdded k o s) m
     unfolding slotWords
     link-at-head =
         rw (head-shown k below)
         (chains-done longer (s .table .links) (set linkSet (headsAt + k) o) (put linkValue (head k) o)
         (writes-put z m (shows .long) linkSet linkValue (head k) (headsAt + k) o refl below
-        (writes-put z m (shows .long) m (value s) (slot o chainLinkAt) (linkAddress (slotsBody z) o) (headOf (s .table) k) refl (inside, omega arith) none-yet))
+        (writes-put z m (shows .long) m (value s) (slot o chainLinkAt) (linkAddress z o) (headOf (s .table) k) refl (inside, omega arith) none-yet))
         (λ f b. headed-put z (headsWith s longer (s .table .links)) (linked chainLinkAt links (value s)) k o (λ j i. heads-added j) f b
         ∙ put-over (linked chainLinkAt links (value s)) linkValue (head k) o f
         (linked-put-one z chainLinkAt links (value s) o (headOf (s .table) k) (λ j i. links-added j) f b)))

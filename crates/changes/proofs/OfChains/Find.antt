@@ -10,7 +10,7 @@ use borrow.Author.Tests.{not-true, eq-eqb}
 use Rattle.model.specs.Word.{none}
 use Rattle.model.specs.Lists.{first, count, from, successor}
 use Rattle.model.specs.State.{Sizes, running, State}
-use Rattle.model.specs.Layout.{codeAt, depositAt, materialAt, headsAt, slotsBody}
+use Rattle.model.specs.Layout.{codeAt, depositAt, materialAt, headsAt, slotAddress}
 use Rattle.model.specs.Table.{product, productAt, chainNumber, chainOf, slotOf, present}
 use Rattle.model.specs.Rules.{outcome}
 use Rattle.model.specs.Memory.{at, walk, slotWords, wholeOf}
@@ -24,7 +24,7 @@ use Rattle.laws.specs.Walks.{linked, walk-back}
 use Rattle.representation.proofs.Addresses.Fields.{slot}
 use Rattle.representation.proofs.Causes.SlotCounts.{present-in}
 use Rattle.representation.proofs.WellFormed.{SlotOrNone}
-use Rattle.chains.specs.Chain.{recordAddress, linkAddress, codeWords, foundAt, seek}
+use Rattle.chains.specs.Chain.{linkAddress, codeWords, foundAt, seek}
 use Rattle.chains.specs.Chained.{beforeCode}
 use Rattle.chains.specs.Outcome.{outcomeAt}
 use Rattle.chains.proofs.SeekLaws.{seek-walk, beforeCode-slotIn}
@@ -37,13 +37,13 @@ module _ (s : State) (m : List ℕ) (shows : Shows m s) where
   abbrev z : Sizes
   z = s .sizes
 
-  pub code-shown : (i : ℕ) → i < z .slots → codeWords m (slotsBody z) i ≡ productAt (s .table .products) i .code
+  pub code-shown : (i : ℕ) → i < z .slots → codeWords m z i ≡ productAt (s .table .products) i .code
   unfolding slotWords
   code-shown i b =
       ap₂ wholeOf (shows .image (slot i codeAt) (b, omega arith)) (ap (at m) past ∙ shows .image (slot i (codeAt + 1)) (b, omega arith))
       ∙ omega arith
     where
-      past : recordAddress (slotsBody z) i + codeAt + 1 ≡ recordAddress (slotsBody z) i + (codeAt + 1)
+      past : slotAddress z i + codeAt + 1 ≡ slotAddress z i + (codeAt + 1)
       past = omega arith
 
   module _ (w : Shape s) (c : ℕ) where
@@ -51,7 +51,7 @@ module _ (s : State) (m : List ℕ) (shows : Shows m s) where
     chain = chainOf (s .table) c
 
     abbrev links : List ℕ
-    links = map (λ (i : ℕ). at m (linkAddress (slotsBody z) i)) (from 0 (z .slots))
+    links = map (λ (i : ℕ). at m (linkAddress z i)) (from 0 (z .slots))
 
     chain-once : (i : ℕ) → count i chain ≤ 1
     chain-once i = omega (arith, count-concat-getD (s .table .chains) (chainNumber c) i, w .once i)
@@ -60,10 +60,10 @@ module _ (s : State) (m : List ℕ) (shows : Shows m s) where
     chain-below i h = w .below i (omega (arith, count-concat-getD (s .table .chains) (chainNumber c) i))
 
     links-length : length links ≡ z .slots
-    links-length = length-map-from (λ (i : ℕ). at m (linkAddress (slotsBody z) i)) 0 (z .slots)
+    links-length = length-map-from (λ (i : ℕ). at m (linkAddress z i)) 0 (z .slots)
 
-    links-at : (i : ℕ) → i < z .slots → getD links i none ≡ at m (linkAddress (slotsBody z) i)
-    links-at i b = getD-map-below (λ (i : ℕ). at m (linkAddress (slotsBody z) i)) (z .slots) i none b
+    links-at : (i : ℕ) → i < z .slots → getD links i none ≡ at m (linkAddress z i)
+    links-at i b = getD-map-below (λ (i : ℕ). at m (linkAddress z i)) (z .slots) i none b
 
     chain-linked : (i : ℕ) → 0 < count i chain → getD links i none ≡ successor chain i none
     chain-linked i h =
@@ -76,10 +76,10 @@ module _ (s : State) (m : List ℕ) (shows : Shows m s) where
         walk-back links chain (z .slots + 1) (omega (arith, links-length, w .few)) (omega (arith, length-at-most (z .slots) chain chain-below chain-once))
         (λ i h. omega (arith, links-length, chain-below i h)) (linked links chain chain-once chain-linked)
 
-    pub find-slot : seek m (slotsBody z) (z .slots) c (z .slots + 1) none (at m (headsAt + chainNumber c))
+    pub find-slot : seek m z c (z .slots + 1) none (at m (headsAt + chainNumber c))
         ≡ foundAt (slotOf (s .table) c) (beforeCode (s .table .products) c chain none)
     find-slot =
-        seek-walk m (slotsBody z) (z .slots) c links (s .table .products) links-length links-at (λ i b. sym (code-shown i b))
+        seek-walk m z c links (s .table .products) links-length links-at (λ i b. sym (code-shown i b))
         (z .slots + 1) none (at m (headsAt + chainNumber c))
         ∙ rw (head-shown s m shows (chainNumber c) (omega arith)) (rw chain-walk)
 
@@ -91,7 +91,7 @@ module _ (s : State) (m : List ℕ) (shows : Shows m s) where
       pub slot-in-chain : 0 < count (slotOf (s .table) c) chain
       slot-in-chain = present-in (s .table) c here
 
-      pub find-present : seek m (slotsBody z) (z .slots) c (z .slots + 1) none (at m (headsAt + chainNumber c))
+      pub find-present : seek m z c (z .slots + 1) none (at m (headsAt + chainNumber c))
           ≡ foundAt (slotOf (s .table) c) (beforeIn (slotOf (s .table) c) chain none)
       find-present = find-slot ∙ ap (foundAt (slotOf (s .table) c)) (beforeCode-slotIn (s .table .products) c chain none found-real)
 
@@ -99,11 +99,11 @@ module _ (s : State) (m : List ℕ) (shows : Shows m s) where
 
   -- what slot i holds
   pub product-shown : (i : ℕ) → i < z .slots → productAt (s .table .products) i
-      ≡ product (codeWords m (slotsBody z) i) (at m (recordAddress (slotsBody z) i + depositAt)) (at m (recordAddress (slotsBody z) i + materialAt))
+      ≡ product (codeWords m z i) (at m (slotAddress z i + depositAt)) (at m (slotAddress z i + materialAt))
   unfolding slotWords
   product-shown i b =
       sym (rw (code-shown i b, shows .image (slot i depositAt) (b, omega arith), shows .image (slot i materialAt) (b, omega arith)))
 
   -- the outcome at a position that is a slot or none
-  pub outcome-shown : Shape s → (c p : ℕ) → SlotOrNone (z .slots) p → outcomeAt m (slotsBody z) (z .slots) c p ≡ outcome (s .table) (running c p)
-  outcome-shown w c p h = outcomeAt-outcome m (slotsBody z) (z .slots) (s .table) (omega (arith, w .few)) product-shown c p h
+  pub outcome-shown : Shape s → (c p : ℕ) → SlotOrNone (z .slots) p → outcomeAt m z c p ≡ outcome (s .table) (running c p)
+  outcome-shown w c p h = outcomeAt-outcome m z (s .table) (omega (arith, w .few)) product-shown c p h

@@ -9,7 +9,7 @@ use lib.Seq.{getD-set-same, getD-set-other}
 use lib.Dec.{eqb}
 use Rattle.model.specs.Word.{none}
 use Rattle.model.specs.State.{Sizes, Product, State}
-use Rattle.model.specs.Layout.{codeAt, depositAt, materialAt, chainLinkAt, slotsBody}
+use Rattle.model.specs.Layout.{codeAt, depositAt, materialAt, chainLinkAt, slotAddress}
 use Rattle.model.specs.Table.{blank, product, productAt, linkOf}
 use Rattle.model.specs.Memory.{slotWords, low, high}
 use Rattle.model.specs.Calls.{stored}
@@ -18,7 +18,7 @@ use Rattle.laws.specs.ListLaws.{getD-set}
 use Rattle.laws.specs.Successors.{successorIn-out}
 use Rattle.representation.proofs.Addresses.Fields.{Field, top, head, end, mask, lane, slot, Inside, value}
 use Rattle.representation.proofs.Addresses.Writes.{Writes, put, writes-none, writes-put, writes-done}
-use Rattle.chains.specs.Chain.{recordAddress, linkAddress, productSet, cleared}
+use Rattle.chains.specs.Chain.{linkAddress, productSet, cleared}
 use Rattle.changes.specs.Shows.{Shows, shows-then, stored-then}
 use Rattle.changes.proofs.Shape.{Shape, chained}
 use Rattle.changes.proofs.Puts.{linked, linked-put-one, headed-same}
@@ -71,7 +71,7 @@ module _ (s : State) (m : List ℕ) (shows : Shows m s) (o : ℕ) (inside : o < 
     value-product (slot j (suc (suc (suc (suc (suc (suc k))))))) b = absurd (omega (arith, b .1))
 
     abbrev base : ℕ
-    base = recordAddress (slotsBody z) o
+    base = slotAddress z o
 
     abbrev lowSet : List ℕ
     lowSet = set m (base + codeAt) (low c)
@@ -82,7 +82,7 @@ module _ (s : State) (m : List ℕ) (shows : Shows m s) (o : ℕ) (inside : o < 
     abbrev depositSet : List ℕ
     depositSet = set codeSet (base + depositAt) d
 
-    pub write-product : productSet m (recordAddress (slotsBody z) o) c d t ≡ stored (withProduct o p s) m
+    pub write-product : productSet m (slotAddress z o) c d t ≡ stored (withProduct o p s) m
     write-product =
         writes-done (withProduct o p s) m (set depositSet (base + materialAt) t) (put depositValue (slot o materialAt) t) (shows .long)
         (writes-put z m (shows .long) depositSet depositValue (slot o materialAt) (base + materialAt) t refl (inside, omega arith)
@@ -104,11 +104,11 @@ module _ (s : State) (m : List ℕ) (shows : Shows m s) (o : ℕ) (inside : o < 
     abbrev l : List ℕ
     l = set (s .table .links) o x
 
-    pub write-link : set m (linkAddress (slotsBody z) o) x ≡ stored (withLink o x s) m
+    pub write-link : set m (linkAddress z o) x ≡ stored (withLink o x s) m
     unfolding slotWords
     write-link =
-        writes-done (withLink o x s) m (set m (linkAddress (slotsBody z) o) x) (put (value s) (slot o chainLinkAt) x) (shows .long)
-        (writes-put z m (shows .long) m (value s) (slot o chainLinkAt) (linkAddress (slotsBody z) o) x refl (inside, omega arith) none-yet)
+        writes-done (withLink o x s) m (set m (linkAddress z o) x) (put (value s) (slot o chainLinkAt) x) (shows .long)
+        (writes-put z m (shows .long) m (value s) (slot o chainLinkAt) (linkAddress z o) x refl (inside, omega arith) none-yet)
         (λ f b. value-withChains s (s .table .chains) l f
         ∙ headed-same z (headsWith s (s .table .chains) l) (linked chainLinkAt (chainLinksWith s (s .table .chains) l) (value s)) (λ j i. refl) f b
         ∙ linked-put-one z chainLinkAt (chainLinksWith s (s .table .chains) l) (value s) o x (λ j i. links-set j) f b)
@@ -116,16 +116,16 @@ module _ (s : State) (m : List ℕ) (shows : Shows m s) (o : ℕ) (inside : o < 
 -- ---- the free values
 
 pub clear-slot : (s : State) (m : List ℕ) → Shows m s → Shape s → (o : ℕ) → o < s .sizes .slots → chained o s ≡ 0
-    → cleared m (recordAddress (slotsBody (s .sizes)) o) ≡ stored (slotCleared o s) m
+    → cleared m (slotAddress (s .sizes) o) ≡ stored (slotCleared o s) m
 clear-slot s m shows w o inside out =
-    stored-then t (slotCleared o s) m n (cleared m (recordAddress (slotsBody (s .sizes)) o)) refl written
+    stored-then t (slotCleared o s) m n (cleared m (slotAddress (s .sizes) o)) refl written
     (write-link t n (shows-then t m n (shows .long) written) o inside (w .links) out none)
   where
     t : State
     t = withProduct o blank s
 
     n : List ℕ
-    n = productSet m (recordAddress (slotsBody (s .sizes)) o) 0 0 0
+    n = productSet m (slotAddress (s .sizes) o) 0 0 0
 
     written : n ≡ stored t m
     written = write-product s m shows o inside (w .products) 0 0 0

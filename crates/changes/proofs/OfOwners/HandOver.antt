@@ -6,7 +6,7 @@ use mathlib.Core.List.{List, [], _++_}
 use native.Mathlib.Omega.{arith}
 use Rattle.model.specs.Lists.{update}
 use Rattle.model.specs.State.{Sizes, laneCount, Queues, Lane, State}
-use Rattle.model.specs.Layout.{slotsBody}
+
 use Rattle.model.specs.Engine.{laneAt, setQueues, atLane, withLanes, withGlobal, taken}
 use Rattle.model.specs.Rules.{withEngine}
 use Rattle.model.specs.Calls.{stored}
@@ -21,7 +21,7 @@ use Rattle.changes.proofs.OfQueues.QueueShapes.{shape-join}
 
 -- the queue at b appended to the one at a
 abbrev joinedAt : Sizes → List ℕ → Queue → Queue → List ℕ
-joinedAt z m a b = joined m (slotsBody z) (z .slots) (endsAt z a) (endsAt z b)
+joinedAt z m a b = joined m z (endsAt z a) (endsAt z b)
 
 global-lane : (p r : Part) (i : ℕ) → global p ≢ lane i r
 global-lane p r i e = let z : _≡_ {A = ℕ} 0 1 = cc in omega arith

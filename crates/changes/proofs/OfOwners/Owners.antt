@@ -10,7 +10,7 @@ use lib.ListN.{set}
 use Rattle.model.specs.Word.{later}
 use Rattle.model.specs.Lists.{update, isEmpty}
 use Rattle.model.specs.State.{Sizes, laneCount, Queues, Lane, State}
-use Rattle.model.specs.Layout.{globalGenerationAt, generationAt, laneAddress, slotsBody}
+use Rattle.model.specs.Layout.{globalGenerationAt, generationAt, laneAddress}
 use Rattle.model.specs.Engine.{freshLane, laneAt, setQueues, withLanes, withGlobal, settled, batched}
 use Rattle.model.specs.Rules.{withEngine, withLane}
 use Rattle.model.specs.Calls.{stored}
@@ -100,7 +100,7 @@ module _ (s : State) (p r : Part) where
 
 -- the words after the queues are joined
 abbrev pub joinedWords : Sizes → List ℕ → Owner → Part → Part → List ℕ
-joinedWords z m o p r = joined m (slotsBody z) (z .slots) (endsAt z (queueBy o p)) (endsAt z (queueBy o r))
+joinedWords z m o p r = joined m z (endsAt z (queueBy o p)) (endsAt z (queueBy o r))
 
 module _ (s : State) (m : List ℕ) (shows : Shows m s) (w : Shape s) (p r : Part) (apart : p ≢ r) (g : ℕ) where
   abbrev z : Sizes

@@ -11,7 +11,7 @@ use borrow.Author.Tests.{lt-ltb, le-ltb, ltb-true, ne-eqb}
 use Rattle.model.specs.Word.{none}
 use Rattle.model.specs.Lists.{isEmpty, concat, first, last, count, successorIn}
 use Rattle.model.specs.State.{Sizes, State}
-use Rattle.model.specs.Layout.{lastOffset, queueLinkAt, slotsBody}
+use Rattle.model.specs.Layout.{lastOffset, queueLinkAt}
 use Rattle.model.specs.Memory.{at, allQueues, slotWords}
 use Rattle.model.specs.Calls.{stored}
 use Rattle.laws.specs.Counts.{count-self}
@@ -74,15 +74,15 @@ module _ (s : State) (m : List ℕ) (shows : Shows m s) (w : Shape s) (q : Queue
   last-inside-slot : ltb (last (queueOf s q)) (z .slots) ≡ true → Inside z (slot (last (queueOf s q)) queueLinkAt)
   last-inside-slot t = (ltb-true (last (queueOf s q)) (z .slots) t, omega arith)
 
-  pub run-writes : (x y : ℕ) → Writes z m (appendedRun m (slotsBody z) (z .slots) (endsAt z q) x y) (put (followedValue x) (lastField q) y)
+  pub run-writes : (x y : ℕ) → Writes z m (appendedRun m z (endsAt z q) x y) (put (followedValue x) (lastField q) y)
   unfolding appendedRun followed
   run-writes x y =
-      writes-put z m (shows .long) (followed m (slotsBody z) (z .slots) (endsAt z q) x) (followedValue x) (lastField q) (endsAt z q + lastOffset) y
+      writes-put z m (shows .long) (followed m z (endsAt z q) x) (followedValue x) (lastField q) (endsAt z q + lastOffset) y
       (last-address z q) (last-inside z q named)
       (rw (last-shown s m shows q named)
-      (writes-if z m (shows .long) (ltb (last (queueOf s q)) (z .slots)) (set m (linkAddress (slotsBody z) (last (queueOf s q))) x) (set m (endsAt z q) x)
+      (writes-if z m (shows .long) (ltb (last (queueOf s q)) (z .slots)) (set m (linkAddress z (last (queueOf s q))) x) (set m (endsAt z q) x)
       (put (value s) (slot (last (queueOf s q)) queueLinkAt) x) (put (value s) (firstField q) x)
-      (λ t. writes-put z m (shows .long) m (value s) (slot (last (queueOf s q)) queueLinkAt) (linkAddress (slotsBody z) (last (queueOf s q))) x refl
+      (λ t. writes-put z m (shows .long) m (value s) (slot (last (queueOf s q)) queueLinkAt) (linkAddress z (last (queueOf s q))) x refl
       (last-inside-slot t) none-yet)
       (λ t. writes-put z m (shows .long) m (value s) (firstField q) (endsAt z q) x (first-address z q) (first-inside z q named) none-yet)))
     where
@@ -113,10 +113,10 @@ module _ (s : State) (m : List ℕ) (shows : Shows m s) (w : Shape s) (q : Queue
   -- ---- append
 
   module _ (o : ℕ) (inside : o < z .slots) (out : queued o s ≡ 0) where
-    pub append-queue : appended m (slotsBody z) (z .slots) (endsAt z q) o ≡ stored (withQueue q (λ xs. xs ++ (o ∷ [])) s) m
+    pub append-queue : appended m z (endsAt z q) o ≡ stored (withQueue q (λ xs. xs ++ (o ∷ [])) s) m
     unfolding first
     append-queue =
-        writes-done (withQueue q (λ xs. xs ++ (o ∷ [])) s) m (appended m (slotsBody z) (z .slots) (endsAt z q) o)
+        writes-done (withQueue q (λ xs. xs ++ (o ∷ [])) s) m (appended m z (endsAt z q) o)
         (put (followedValue o) (lastField q) o) (shows .long)
         (run-writes o o)
         (λ f b. value-withQueue s (λ xs. xs ++ (o ∷ [])) q (w .lanes) named f

@@ -10,7 +10,7 @@ use borrow.Author.Tests.{lt-ltb, le-ltb}
 use Rattle.model.specs.Word.{none}
 use Rattle.model.specs.Lists.{update, isEmpty, first, last, successorIn}
 use Rattle.model.specs.State.{Sizes, State}
-use Rattle.model.specs.Layout.{queueLinkAt, slotsBody}
+use Rattle.model.specs.Layout.{queueLinkAt}
 use Rattle.model.specs.Memory.{allQueues}
 use Rattle.model.specs.Calls.{stored}
 use Rattle.laws.specs.Successors.{first-append, last-append}
@@ -75,7 +75,7 @@ module _ (s : State) (m : List ℕ) (shows : Shows m s) (w : Shape s) (q r : Que
         link-is : (j : ℕ) → j ≢ none → linksWith longer (λ xs. []) r j ≡ cond (eqb j (last (queueOf s q))) y (successorIn (allQueues s) j none)
         link-is j n = links-joined j n ∙ ap (λ (xs : List ℕ). cond (eqb j (last (queueOf s q))) (first xs) (successorIn (allQueues s) j none)) is
 
-    run-joined : endsSet (appendedRun m (slotsBody z) (z .slots) (endsAt z q) y (last (y ∷ ys))) (endsAt z r) none none ≡ stored (joinedState q r s) m
+    run-joined : endsSet (appendedRun m z (endsAt z q) y (last (y ∷ ys))) (endsAt z r) none none ≡ stored (joinedState q r s) m
     unfolding first last
     run-joined =
         writes-done (joinedState q r s) m (endsSet run (endsAt z r) none none) (put (put runValue (firstField r) none) (lastField r) none) (shows .long)
@@ -87,13 +87,13 @@ module _ (s : State) (m : List ℕ) (shows : Shows m s) (w : Shape s) (q r : Que
         (put-over (linked queueLinkAt (linksWith longer (λ xs. []) r) (value longer)) runValue (firstField r) none f (value-longer f b)))
       where
         run : List ℕ
-        run = appendedRun m (slotsBody z) (z .slots) (endsAt z q) y (last (y ∷ ys))
+        run = appendedRun m z (endsAt z q) y (last (y ∷ ys))
 
-  pub join-queues : joined m (slotsBody z) (z .slots) (endsAt z q) (endsAt z r) ≡ stored (joinedState q r s) m
+  pub join-queues : joined m z (endsAt z q) (endsAt z r) ≡ stored (joinedState q r s) m
   unfolding joined first
   join-queues = go (queueOf s r) refl
     where
-      go : (ys : List ℕ) → queueOf s r ≡ ys → joined m (slotsBody z) (z .slots) (endsAt z q) (endsAt z r) ≡ stored (joinedState q r s) m
+      go : (ys : List ℕ) → queueOf s r ≡ ys → joined m z (endsAt z q) (endsAt z r) ≡ stored (joinedState q r s) m
       go [] e =
           rw (ap (λ (x : ℕ). ltb x (z .slots)) (first-shown s m shows r namedR ∙ ap first e) ∙ le-ltb none (z .slots) (few-none s w))
           (sym (stored-shown s m shows)
@@ -102,6 +102,6 @@ module _ (s : State) (m : List ℕ) (shows : Shows m s) (w : Shape s) (q r : Que
           ∙ withQueue-same s r (λ xs. []) (sym e))))
       go (y ∷ ys) e =
           rw (ap (λ (x : ℕ). ltb x (z .slots)) (first-shown s m shows r namedR ∙ ap first e) ∙ lt-ltb y (z .slots) (first-below s w r y ys e))
-          (ap₂ (λ (a b : ℕ). endsSet (appendedRun m (slotsBody z) (z .slots) (endsAt z q) a b) (endsAt z r) none none)
+          (ap₂ (λ (a b : ℕ). endsSet (appendedRun m z (endsAt z q) a b) (endsAt z r) none none)
           (first-shown s m shows r namedR ∙ ap first e) (last-shown s m shows r namedR ∙ ap last e)
           ∙ run-joined y ys e)

@@ -8,7 +8,7 @@ use borrow.Author.Tests.{lt-ltb, le-ltb}
 use Rattle.model.specs.Word.{none}
 use Rattle.model.specs.Lists.{first, last, tail, count, successor}
 use Rattle.model.specs.State.{Sizes, State}
-use Rattle.model.specs.Layout.{lastOffset, queueLinkAt, slotsBody}
+use Rattle.model.specs.Layout.{lastOffset, queueLinkAt}
 use Rattle.model.specs.Memory.{at, allQueues, slotWords}
 use Rattle.model.specs.Calls.{stored}
 use Rattle.laws.specs.Tests.{eqb-self}
@@ -38,7 +38,7 @@ module _ (s : State) (m : List ℕ) (shows : Shows m s) (w : Shape s) (q : Queue
   z = s .sizes
 
   -- a queue's first slot is linked to its second
-  first-link : (x : ℕ) (xs : List ℕ) → queueOf s q ≡ x ∷ xs → at m (linkAddress (slotsBody z) x) ≡ first xs
+  first-link : (x : ℕ) (xs : List ℕ) → queueOf s q ≡ x ∷ xs → at m (linkAddress z x) ≡ first xs
   unfolding slotWords successor
   first-link x xs e =
       shows .image (slot x queueLinkAt) (first-below s w q x xs e, omega arith)
@@ -46,14 +46,14 @@ module _ (s : State) (m : List ℕ) (shows : Shows m s) (w : Shape s) (q : Queue
       ∙ rw (allQueues-at s q) (rw e (rw (eqb-self x)))
 
   abbrev lessLink : ℕ → List ℕ
-  lessLink x = set m (linkAddress (slotsBody z) x) none
+  lessLink x = set m (linkAddress z x) none
 
   lessFirst-cons : (x : ℕ) (xs : List ℕ) → queueOf s q ≡ x ∷ xs
-      → lessFirst m (slotsBody z) (z .slots) (endsAt z q) ≡ begunAt (lessLink x) (z .slots) (endsAt z q) (first xs)
+      → lessFirst m z (endsAt z q) ≡ begunAt (lessLink x) z (endsAt z q) (first xs)
   unfolding lessFirst first
   lessFirst-cons x xs e =
       rw (first-shown s m shows q named)
-      (rw e (rw (lt-ltb x (z .slots) (first-below s w q x xs e)) (ap (begunAt (lessLink x) (z .slots) (endsAt z q)) (first-link x xs e))))
+      (rw e (rw (lt-ltb x (z .slots) (first-below s w q x xs e)) (ap (begunAt (lessLink x) z (endsAt z q)) (first-link x xs e))))
 
   abbrev lessValue : ℕ → Field → ℕ
   lessValue x = put (value s) (slot x queueLinkAt) none
@@ -66,7 +66,7 @@ module _ (s : State) (m : List ℕ) (shows : Shows m s) (w : Shape s) (q : Queue
 
   link-writes : (x : ℕ) (xs : List ℕ) → queueOf s q ≡ x ∷ xs → Writes z m (lessLink x) (lessValue x)
   link-writes x xs e =
-      writes-put z m (shows .long) m (value s) (slot x queueLinkAt) (linkAddress (slotsBody z) x) none refl (first-below s w q x xs e, omega arith)
+      writes-put z m (shows .long) m (value s) (slot x queueLinkAt) (linkAddress z x) none refl (first-below s w q x xs e, omega arith)
       (writes-none z m (shows .long) (value s) (shows .image))
 
   pub first-writes : (n : List ℕ) (v : Field → ℕ) (x : ℕ) → Writes z m n v → Writes z m (set n (endsAt z q) x) (put v (firstField q) x)
@@ -75,7 +75,7 @@ module _ (s : State) (m : List ℕ) (shows : Shows m s) (w : Shape s) (q : Queue
   pub last-writes : (n : List ℕ) (v : Field → ℕ) (x : ℕ) → Writes z m n v → Writes z m (set n (endsAt z q + lastOffset) x) (put v (lastField q) x)
   last-writes n v x p = writes-put z m (shows .long) n v (lastField q) (endsAt z q + lastOffset) x (last-address z q) (last-inside z q named) p
 
-  begun-taken : (x : ℕ) (xs : List ℕ) → queueOf s q ≡ x ∷ xs → begunAt (lessLink x) (z .slots) (endsAt z q) (first xs) ≡ stored (withQueue q tail s) m
+  begun-taken : (x : ℕ) (xs : List ℕ) → queueOf s q ≡ x ∷ xs → begunAt (lessLink x) z (endsAt z q) (first xs) ≡ stored (withQueue q tail s) m
   unfolding begunAt first last tail
   begun-taken x [] e =
       rw (le-ltb none (z .slots) (few-none s w))
@@ -104,11 +104,11 @@ module _ (s : State) (m : List ℕ) (shows : Shows m s) (w : Shape s) (q : Queue
       at-last = rw (last-first q, last-slot x queueLinkAt q) (value-last s q ∙ rw e)
 
   -- an empty queue stays
-  pub take-first : lessFirst m (slotsBody z) (z .slots) (endsAt z q) ≡ stored (withQueue q tail s) m
+  pub take-first : lessFirst m z (endsAt z q) ≡ stored (withQueue q tail s) m
   unfolding lessFirst first tail
   take-first = go (queueOf s q) refl
     where
-      go : (xs : List ℕ) → queueOf s q ≡ xs → lessFirst m (slotsBody z) (z .slots) (endsAt z q) ≡ stored (withQueue q tail s) m
+      go : (xs : List ℕ) → queueOf s q ≡ xs → lessFirst m z (endsAt z q) ≡ stored (withQueue q tail s) m
       go [] e =
           rw (first-shown s m shows q named)
           (rw e (rw (le-ltb none (z .slots) (few-none s w)) (sym (stored-shown s m shows) ∙ ap (λ (t : State). stored t m) (sym (withQueue-same s q tail (rw e))))))
