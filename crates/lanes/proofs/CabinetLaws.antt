@@ -1,36 +1,58 @@
 -- Laws of a cabinet's work: a change of a lane's record is a change of these words, and what is done to the cabinet's part, put back in its place, is done to
 -- the whole memory at the lane's address.
-use Prim.Native.Nat.{ℕ, zero, suc, _+_, _*_, _^_, _<_, _≤_}
+use Prim.Native.Nat.{ℕ, zero, suc, _+_, _*_, _-_, _^_, _<_, _≤_}
 use mathlib.Core.Bool.{Bool, true, false, cond}
 use mathlib.Core.Path.{_≡_, refl, ap, ap₂, sym, _∙_}
 use mathlib.Core.List.{List, [], _∷_, _++_, map}
 use native.Mathlib.Omega.{arith}
+use native.Mathlib.Nat.{suc-mul, mul-le-mul-right}
 use lib.ListN.{length, set, take, drop}
 use lib.Seq.{sets}
 use lib.Bits.{bitOr}
 use lib.Pow.{pow-mono}
 use Rattle.model.specs.Word.{upTo}
 use Rattle.model.specs.Lists.{update, from, mask}
-use Rattle.model.specs.State.{Sizes}
+use Rattle.model.specs.State.{Sizes, laneCount}
 use Rattle.model.specs.Layout.{kinds, countLimit, quiescentAt, snapshotAt, laneLength, laneAddress, onlineBit, snapshotBit}
 use Rattle.model.specs.Memory.{at, flag}
 use Rattle.laws.specs.ListLaws.{map-from-alike}
 use Rattle.laws.specs.Masks.{mask-from-lt, mask-from-suc}
 use Rattle.laws.specs.MaskFlags.{shl-bit}
 use Rattle.laws.specs.Stores.{set-sets, sets-sets, update-sets, getD-part, part-sets}
+use Rattle.words.specs.Lent.{Lent}
 use Rattle.masks.specs.Bits.{width, withBit, withoutBit}
 use Rattle.masks.proofs.BitLaws.{or-withBit}
 use Rattle.lanes.specs.declared.LaneRecord.{LaneRecord}
+use Rattle.lanes.specs.declared.Place.{Place}
 use Rattle.lanes.specs.declared.Change.{Change}
 use Rattle.lanes.specs.declared.Change.the-variants.{Pass, Sample, Drop, Leave}
 use Rattle.lanes.specs.Record.{recordAt, recordWords, recordStored, countedRecord, sampledRecord, droppedRecord, offlineRecord}
 use Rattle.lanes.proofs.RecordLaws.{wordsAt, recordAt-words, recordStored-recordAt}
 use Rattle.lanes.specs.RecordChanges.{Fits, changedRecord, changedAt}
-use Rattle.lanes.specs.Cabinet.{placeAt, cabinetAt, onlineAt, countedAt, sampledAt, droppedAt, offlineAt}
+use Rattle.lanes.specs.Cabinet.{placeAt, cabinetAt, stand, LaneLent, onlineAt, onlineMask, countedAt, sampledAt, droppedAt, offlineAt}
 
 -- the lane of place p of cabinet c stands where the model has it
-pub cabinetAt-lane : (z : Sizes) (c p : ℕ) → cabinetAt (z .cabinets) (z .places) c + placeAt p ≡ laneAddress z (c * z .places + p)
+pub cabinetAt-lane : (z : Sizes) (c p : ℕ) → cabinetAt z c + placeAt p ≡ laneAddress z (c * z .places + p)
 cabinetAt-lane z c p = omega arith
+
+-- the lanes of cabinet c end within all lanes
+pub row-within : (z : Sizes) (c : ℕ) → c < z .cabinets → c * z .places + z .places ≤ laneCount z
+row-within z c h = let e = mul-le-mul-right {m = suc c} {n = z .cabinets} (z .places) (omega arith) in omega (arith, e, suc-mul c (z .places))
+
+-- by the addresses that were worked out
+pub stood : (z : Sizes) (c p a i : ℕ) → a ≡ cabinetAt z c → i ≡ p → record { cabinet = c; place = p; start = a; address = a + placeAt i } ≡ stand z c p
+stood z c p a i ea ei = rw (ea, ei)
+
+-- a lane of a table that is lent
+pub lane-lent : (m : List ℕ) (z : Sizes) (c p : ℕ) → Lent m z → c < z .cabinets → p < z .places → LaneLent m z (stand z c p)
+lane-lent m z c p l hc hp = record {
+  lent = l;
+  cabinet = hc;
+  place = hp;
+  start = refl;
+  address = refl;
+  part = omega (arith, row-within z c hc, l .long);
+}
 
 -- the changes that ask for nothing
 pub fits-sample : Fits Sample
@@ -127,6 +149,30 @@ module _ (m : List ℕ) (a n : ℕ) where
       let inner : (p : ℕ) → a + (0 + placeAt p) ≡ a + placeAt p = λ p. omega arith in
       ap mask
       (map-from-alike (onlineAt part 0) (onlineAt m a) 0 k (λ p x y. ap (flag onlineBit) (getD-part m a n (0 + placeAt p) 0 (omega arith) ∙ ap (at m) (inner p))))
+
+-- ---- by what the code worked out: the part has i places, of which the lane's is j
+
+module _ (m : List ℕ) (z : Sizes) (l : Place) (k : LaneLent m z l) (i j : ℕ) (ei : i ≡ z .places) (ej : j ≡ l .place) where
+  abbrev n : ℕ
+  n = l .start + laneLength * i - l .start
+
+  at-lane : l .start + placeAt j ≡ l .address
+  at-lane = omega (arith, k .address)
+
+  pub lane-record-by : (r : LaneRecord) → r ≡ recordAt (part m (l .start) n) (placeAt j) → r ≡ recordAt m (l .address)
+  lane-record-by r e = e ∙ part-record m (l .start) n j (omega (arith, k .place)) ∙ ap (recordAt m) at-lane
+
+  pub lane-changed-by : (x : Change) (w : List ℕ) → w ≡ changedAt (part m (l .start) n) (placeAt j) x
+      → take (l .start) m ++ (w ++ drop n (drop (l .start) m)) ≡ changedAt m (l .address) x
+  lane-changed-by x w e = part-changed m (l .start) n j (omega (arith, k .place)) x w e ∙ ap (λ (a : ℕ). changedAt m a x) at-lane
+
+-- the part of cabinet c begins at a
+pub online-by : (m : List ℕ) (z : Sizes) (c a i r : ℕ) → a ≡ cabinetAt z c → i ≡ z .places
+    → r ≡ mask (map (onlineAt (part m a (a + laneLength * i - a)) 0) (from 0 i)) → r ≡ onlineMask m z c
+unfolding onlineMask
+online-by m z c a i r ea ei e =
+    e ∙ part-online m a (a + laneLength * i - a) i (omega arith)
+    ∙ ap₂ (λ (b k : ℕ). mask (map (onlineAt m b) (from 0 k))) ea ei
 
 -- ---- a mask built bit by bit
 

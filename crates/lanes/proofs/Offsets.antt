@@ -26,6 +26,3 @@ plus-10 x = omega arith
 
 pub plus-16 : (x : ℕ) → x + 16 ≡ suc (suc (suc (suc (suc (suc (suc (suc (suc (suc (suc (suc (suc (suc (suc (suc x)))))))))))))))
 plus-16 x = omega arith
-
-pub plus-18 : (x : ℕ) → x + 18 ≡ suc (suc (suc (suc (suc (suc (suc (suc (suc (suc (suc (suc (suc (suc (suc (suc (suc (suc x)))))))))))))))))
-plus-18 x = omega arith

@@ -1,31 +1,49 @@
 -- One cabinet's lanes: the part of the lane body that holds their records, one after another (document 01, "The memory"), and the words of a lane's record
 -- after each change.
-use Prim.Native.Nat.{ℕ, _+_, _*_, _≤_}
+use Prim.Native.Nat.{ℕ, _+_, _*_, _<_, _≤_}
 use mathlib.Core.Bool.{Bool}
-use mathlib.Core.List.{List, [], _∷_}
+use mathlib.Core.Path.{_≡_}
+use mathlib.Core.List.{List, [], _∷_, map}
 use lib.ListN.{length, set}
 use lib.Seq.{sets}
 use Rattle.model.specs.Word.{upTo}
-use Rattle.model.specs.Lists.{update}
-use Rattle.model.specs.Layout.{countLimit, masksAt, quiescentAt, snapshotAt, laneLength, onlineBit, snapshotBit}
+use Rattle.model.specs.Lists.{from, mask, update}
+use Rattle.model.specs.State.{Sizes}
+use Rattle.model.specs.Layout.{countLimit, quiescentAt, snapshotAt, laneLength, laneAddress, onlineBit, snapshotBit}
 use Rattle.model.specs.Memory.{at, flag, readCounts}
+use Rattle.words.specs.Lent.{Lent}
 use Rattle.masks.specs.Bits.{withBit, withoutBit}
+use Rattle.lanes.specs.declared.Place.{Place}
 
 -- where the record of place p begins in its cabinet's part
 abbrev pub placeAt : ℕ → ℕ
 placeAt p = laneLength * p
 
--- where the part of cabinet c begins, in a table of so many cabinets with so many places each
-abbrev pub cabinetAt : ℕ → ℕ → ℕ → ℕ
-cabinetAt cabinets places c = masksAt + cabinets + laneLength * (c * places)
+-- where the part of cabinet c begins
+abbrev pub cabinetAt : Sizes → ℕ → ℕ
+cabinetAt z c = laneAddress z (c * z .places)
 
--- the memory holds the part of n lanes from a on
-abbrev pub PartLent : List ℕ → ℕ → ℕ → Type 0
-PartLent m a n = a + laneLength * n ≤ length m
+-- the lane at place p of cabinet c
+abbrev pub stand : Sizes → ℕ → ℕ → Place
+stand z c p = record { cabinet = c; place = p; start = cabinetAt z c; address = cabinetAt z c + placeAt p }
+
+-- a lane of a table that is lent
+pub record LaneLent (m : List ℕ) (z : Sizes) (l : Place) : Type 0 where
+  pub lent : Lent m z
+  pub cabinet : l .cabinet < z .cabinets
+  pub place : l .place < z .places
+  pub start : l .start ≡ cabinetAt z (l .cabinet)
+  pub address : l .address ≡ l .start + placeAt (l .place)
+  -- its cabinet's part
+  pub part : l .start + laneLength * z .places ≤ length m
 
 -- the lane of place p of the part from a on is on
 abbrev pub onlineAt : List ℕ → ℕ → ℕ → Bool
 onlineAt m a p = flag onlineBit (at m (a + placeAt p))
+
+-- the mask of the lanes of cabinet c that are on
+unfoldable pub onlineMask : List ℕ → Sizes → ℕ → ℕ
+onlineMask m z c = mask (map (onlineAt m (cabinetAt z c)) (from 0 (z .places)))
 
 -- ---- the words after a change of the record that begins at a; all others stay
 

@@ -41,6 +41,15 @@ pub struct LaneRecord {
     pub lookup: Lookup,
 }
 
+// Where a lane stands: its cabinet, its place there, where the cabinet's part of the words begins, and where the lane's
+// record does. It is worked out once a call and handed on.
+pub struct Place {
+    pub cabinet: u32,
+    pub place: u32,
+    pub start: usize,
+    pub address: usize,
+}
+
 // The four counts that stand from at on.
 pub fn read_counts(m: &[u32], at: usize) -> [u32; 4]
     requires { ⌜ at + kinds ≤ length (now m) ⌝ }

@@ -6,7 +6,6 @@ use mathlib.Core.List.{List, [], _++_}
 use native.Mathlib.Omega.{arith}
 use Rattle.model.specs.Lists.{update}
 use Rattle.model.specs.State.{Sizes, laneCount, Queues, Lane, State}
-
 use Rattle.model.specs.Engine.{laneAt, setQueues, atLane, withLanes, withGlobal, taken}
 use Rattle.model.specs.Rules.{withEngine}
 use Rattle.model.specs.Calls.{stored}

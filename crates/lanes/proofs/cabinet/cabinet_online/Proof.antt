@@ -1,22 +1,35 @@
 -- The flags are read from the cabinet's part, which are those of its lanes in the whole.
-use Prim.Native.Nat.{_+_, _*_, _-_}
-use mathlib.Core.Path.{_∙_}
 use native.Mathlib.Omega.{arith}
-use denote.Ref.{now}
-use Rattle.model.specs.Layout.{laneLength}
-use Rattle.lanes.proofs.CabinetLaws.{part-online}
+use Rattle.words.specs.Lent.{sizesOf}
+use Rattle.lanes.proofs.CabinetLaws.{row-within, online-by}
 use borrow.Author.Needs.{needs}
 use Rattle.lanes.proofs.cabinet.cabinet_online.Statement.{statement}
 use Rattle.lanes.proofs.cabinet.cabinet_online.Tie as tie
+
+index-requires : tie.Need-index-requires
+index-requires c κs = search needs
+
+cabinet-start-requires : tie.Need-cabinet-start-requires
+cabinet-start-requires c κs = search needs
 
 mul-end : tie.Need-mul-end
 mul-end c = search needs
 
 add-end : tie.Need-add-end
-add-end c = search needs
+add-end c =
+    let at-cabinet-start : tie.After-cabinet-start = search in
+    let entry : tie.Start = search in
+    let s = entry .args in
+    let within = row-within (sizesOf (s .z)) (s .cabinet) (entry .pre .1) in
+    omega (arith, at-cabinet-start .cabinet-start .ensures, within, entry .pre .0 .few .lanes)
 
 mul-online-mask : tie.Need-mul-online-mask
-mul-online-mask c = search needs
+mul-online-mask c =
+    let at-cabinet-start : tie.After-cabinet-start = search in
+    let entry : tie.Start = search in
+    let s = entry .args in
+    let within = row-within (sizesOf (s .z)) (s .cabinet) (entry .pre .1) in
+    omega (arith, at-cabinet-start .cabinet-start .ensures, within, entry .pre .0 .few .lanes)
 
 sub-online-mask : tie.Need-sub-online-mask
 sub-online-mask c = search needs
@@ -25,21 +38,25 @@ part-online-mask-start : tie.Need-part-online-mask-start
 part-online-mask-start c = search needs
 
 part-online-mask-end : tie.Need-part-online-mask-end
-part-online-mask-end c = search needs
+part-online-mask-end c =
+    let at-cabinet-start : tie.After-cabinet-start = search in
+    let entry : tie.Start = search in
+    let s = entry .args in
+    let within = row-within (sizesOf (s .z)) (s .cabinet) (entry .pre .1) in
+    omega (arith, at-cabinet-start .cabinet-start .ensures, within, entry .pre .0 .long)
 
 online-mask-requires : tie.Need-online-mask-requires
 online-mask-requires c κs = search needs
 
 returns : tie.Need-returns
-returns c =
-    let entry : tie.Start = search in
-    let s = entry .args in
-    c .online-mask .ensures ∙ part-online (now (s .m)) (s .start) (s .start + laneLength * s .places - s .start) (s .places) (omega arith)
+returns c = search (needs, online-by)
 
 pub cabinet-online-spec : {M : Type 1} → statement M
 cabinet-online-spec =
     tie.close
     (tie.spec
+    index-requires
+    cabinet-start-requires
     mul-end
     add-end
     mul-online-mask
