@@ -1,5 +1,4 @@
 -- The calls: what each promises, and what the tests that every call makes say.
 pub mod Contract
-pub mod Ways
 pub mod Flags
 pub mod Lanes

@@ -1,21 +1,23 @@
 // What every call starts from on a legal memory: the five words of its answer, a lane's record and flags, the causes of every
-// call of a lane, and where the chains and the slots stand.
+// call of a lane, and where the chains stand.
 pub mod causes;
 
 ghost use mathlib.Core.Path.{_≡_};
 ghost use mathlib.Core.List.{[]};
-ghost use Prim.Native.Nat.{_+_, _/_, _%_, _<_};
+ghost use Prim.Native.Nat.{_+_, _<_};
+ghost use lib.Dec.{leb};
 ghost use Rattle.model.specs.State.{laneCount, isRunning};
-ghost use Rattle.model.specs.Layout.{headsAt, laneAddress, slotsBody};
+ghost use Rattle.model.specs.Layout.{headsAt};
 ghost use Rattle.model.specs.Lists.{first};
 ghost use Rattle.model.specs.Table.{chainNumber, chainOf};
-ghost use Rattle.model.specs.Rules.{refused as refusedWords, accepted as acceptedWords, firstOf, noSuchLane, ofLane, laneOf, wrongCode};
-ghost use Rattle.model.specs.Memory.{at, flag, sizes, state};
+ghost use Rattle.model.specs.Rules.{refused as refusedWords, accepted as acceptedWords, firstOf, ofLane, laneOf, wrongCode};
+ghost use Rattle.model.specs.Memory.{at, flag, state};
 ghost use Rattle.representation.specs.Sound.{Sound};
+ghost use Rattle.words.specs.Lent.{sizesOf, Few};
 ghost use Rattle.masks.specs.Bits.{width};
 ghost use Rattle.access.specs.Contract.{five};
 ghost use Rattle.access.specs.Flags.{withFlag, flagPut};
-ghost use Rattle.access.specs.Lanes.{LaneIn};
+ghost use Rattle.access.specs.Lanes.{laneNamed, Named, LaneIn, placeOf, Standing};
 
 // ---- answers
 
@@ -56,44 +58,43 @@ pub fn accepted(a: u32, b: u32, c: u32, d: u32) -> Answer
 
 // ---- lanes
 
-// The number of lanes.
-pub fn lane_count(m: &[u32]) -> u32
+// A lane by its number: where its record would begin, and the sizes of the table. Worked out once a call and handed on.
+pub struct Lane {
+    pub number: u32,
+    pub address: usize,
+    pub sizes: words::Sizes,
+}
+
+// The lane of a number; whether there is one is not tested.
+pub fn lane_at(m: &[u32], number: u32) -> Lane
     requires { ⌜ Sound (now m) ⌝ }
-    ensures { λ r. ⌜ r ≡ laneCount (sizes (now (m .entry))) ⌝ }
+    ensures { λ r. ⌜ r ≡ laneNamed (now (m .entry)) number ⌝ }
 {
-    m[words::CABINETS_AT] * m[words::PLACES_AT]
+    let sizes = words::read_sizes(m);
+    let address = words::lane_address(sizes, number);
+    Lane {
+        number,
+        address,
+        sizes,
+    }
 }
 
-// Where the record of a lane begins.
-pub fn lane_address(m: &[u32], lane: u32) -> usize
-    requires { ⌜ Sound (now m) ⌝ }
-    ensures { λ r. ⌜ r ≡ laneAddress (sizes (now (m .entry))) lane ⌝ }
+// Where a lane stands: its cabinet and its place there, by quotient and remainder of its number.
+pub fn place_of(lane: Lane) -> lanes::Place
+    requires { ⌜ Standing lane ⌝ }
+    ensures { λ r. ⌜ r ≡ placeOf (sizesOf (lane .sizes)) (lane .number) ⌝ }
 {
-    words::MASKS_AT + words::index(m[words::CABINETS_AT]) + words::LANE_LENGTH * words::index(lane)
-}
-
-// The cabinet of a lane.
-pub fn cabinet_of(m: &[u32], lane: u32) -> u32
-    requires { ⌜ LaneIn (now m) lane ⌝ }
-    ensures { λ r. ⌜ r ≡ lane / sizes (now (m .entry)) .places ⌝ }
-{
-    lane / m[words::PLACES_AT]
-}
-
-// The place of a lane in its cabinet.
-pub fn place_of(m: &[u32], lane: u32) -> u32
-    requires { ⌜ LaneIn (now m) lane ⌝ }
-    ensures { λ r. ⌜ r ≡ lane % sizes (now (m .entry)) .places ⌝ }
-{
-    lane % m[words::PLACES_AT]
+    let z = lane.sizes;
+    let number = lane.number;
+    lanes::cabinet::stand_at(z, number / z.places, number % z.places)
 }
 
 // Bit p of a lane's flags.
-pub fn lane_flag(m: &[u32], lane: u32, p: u32) -> bool
+fn lane_flag(m: &[u32], lane: Lane, p: u32) -> bool
     requires { ⌜ LaneIn (now m) lane × (p < width) ⌝ }
-    ensures { λ r. ⌜ r ≡ flag p (at (now (m .entry)) (laneAddress (sizes (now (m .entry))) lane)) ⌝ }
+    ensures { λ r. ⌜ r ≡ flag p (at (now (m .entry)) (lane .address)) ⌝ }
 {
-    let a = lane_address(m, lane);
+    let a = lane.address;
     masks::test(m[a], p)
 }
 
@@ -109,46 +110,47 @@ pub fn with_flag(flags: u32, p: u32, on: bool) -> u32
 }
 
 // Whether a lane is on.
-pub fn is_online(m: &[u32], lane: u32) -> bool
+pub fn is_online(m: &[u32], lane: Lane) -> bool
     requires { ⌜ LaneIn (now m) lane ⌝ }
-    ensures { λ r. ⌜ r ≡ laneOf (state (now (m .entry))) lane .online ⌝ }
+    ensures { λ r. ⌜ r ≡ laneOf (state (now (m .entry))) (lane .number) .online ⌝ }
 {
     lane_flag(m, lane, words::ONLINE)
 }
 
 // Whether a lane's section is open.
-pub fn is_reading(m: &[u32], lane: u32) -> bool
+pub fn is_reading(m: &[u32], lane: Lane) -> bool
     requires { ⌜ LaneIn (now m) lane ⌝ }
-    ensures { λ r. ⌜ r ≡ laneOf (state (now (m .entry))) lane .reading ⌝ }
+    ensures { λ r. ⌜ r ≡ laneOf (state (now (m .entry))) (lane .number) .reading ⌝ }
 {
     lane_flag(m, lane, words::READING)
 }
 
 // Whether a lane's lookup is running.
-pub fn is_running(m: &[u32], lane: u32) -> bool
+pub fn is_running(m: &[u32], lane: Lane) -> bool
     requires { ⌜ LaneIn (now m) lane ⌝ }
-    ensures { λ r. ⌜ r ≡ isRunning (laneOf (state (now (m .entry))) lane .lookup) ⌝ }
+    ensures { λ r. ⌜ r ≡ isRunning (laneOf (state (now (m .entry))) (lane .number) .lookup) ⌝ }
 {
     lane_flag(m, lane, words::LOOKUP)
 }
 
 // Bit p of a lane's flags becomes `on`. All other words stay.
-pub fn put_flag(m: &mut [u32], lane: u32, p: u32, on: bool)
+pub fn put_flag(m: &mut [u32], lane: Lane, p: u32, on: bool)
     requires { ⌜ LaneIn (now m) lane × (p < width) ⌝ }
-    ensures { λ _. ⌜ now (m .exit) ≡ flagPut (now (m .entry)) (laneAddress (sizes (now (m .entry))) lane) p on ⌝ }
+    ensures { λ _. ⌜ now (m .exit) ≡ flagPut (now (m .entry)) (lane .address) p on ⌝ }
 {
-    let a = lane_address(m, lane);
+    let a = lane.address;
     m[a] = with_flag(m[a], p, on);
 }
 
 // ---- causes
 
 // Whether there is no such lane.
-pub fn is_unknown(m: &[u32], lane: u32) -> bool
-    requires { ⌜ Sound (now m) ⌝ }
-    ensures { λ r. ⌜ r ≡ noSuchLane (state (now (m .entry))) lane .applies ⌝ }
+pub fn is_unknown(lane: Lane) -> bool
+    requires { ⌜ Few (sizesOf (lane .sizes)) ⌝ }
+    ensures { λ r. ⌜ r ≡ leb (laneCount (sizesOf (lane .sizes))) (lane .number) ⌝ }
 {
-    lane >= lane_count(m)
+    let z = lane.sizes;
+    lane.number >= words::lane_count(z)
 }
 
 // Whether a code is out of range.
@@ -159,11 +161,11 @@ pub fn wrong_code(code: u64) -> bool
 }
 
 // The causes of every call of a lane that has to be on: the number of the first that applies, 0 where none does.
-pub fn lane_refusal(m: &[u32], lane: u32) -> u32
-    requires { ⌜ Sound (now m) ⌝ }
-    ensures { λ r. ⌜ r ≡ firstOf (ofLane (state (now (m .entry))) lane []) ⌝ }
+pub fn lane_refusal(m: &[u32], lane: Lane) -> u32
+    requires { ⌜ Named (now m) lane ⌝ }
+    ensures { λ r. ⌜ r ≡ firstOf (ofLane (state (now (m .entry))) (lane .number) []) ⌝ }
 {
-    if is_unknown(m, lane) {
+    if is_unknown(lane) {
         return causes::NO_LANE;
     }
     if !is_online(m, lane) {
@@ -172,7 +174,7 @@ pub fn lane_refusal(m: &[u32], lane: u32) -> u32
     0
 }
 
-// ---- chains and slots
+// ---- chains
 
 // How many chains there are, as codes are counted.
 const CHAINS: u64 = words::CHAIN_COUNT as u64;
@@ -191,14 +193,4 @@ pub fn chain_head(m: &[u32], code: u64) -> u32
 {
     let a = head_address(code);
     m[a]
-}
-
-// Where the slots' records begin.
-pub fn slots_start(m: &[u32]) -> usize
-    requires { ⌜ Sound (now m) ⌝ }
-    ensures { λ r. ⌜ r ≡ slotsBody (sizes (now (m .entry))) ⌝ }
-{
-    words::MASKS_AT
-        + words::index(m[words::CABINETS_AT])
-        + words::LANE_LENGTH * words::index(lane_count(m))
 }

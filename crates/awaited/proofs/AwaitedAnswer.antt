@@ -13,7 +13,7 @@ use Rattle.representation.proofs.Round.{stored-state}
 use Rattle.representation.specs.Sound.{Sound}
 use Rattle.access.specs.declared.Answer.{Answer}
 use Rattle.access.specs.Contract.{five, Does}
-use Rattle.access.specs.Ways.{performs}
+use Rattle.access.proofs.Ways.{performs}
 use Rattle.awaited.specs.Lengths.{retiredLength}
 
 -- the four words as they were counted

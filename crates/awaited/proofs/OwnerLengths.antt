@@ -18,7 +18,7 @@ use Rattle.changes.proofs.Shape.{wellFormed-shape}
 use Rattle.changes.specs.Queues.{Part, next, current, done, Queue, free, global, lane, queueOf, partAt}
 use Rattle.changes.proofs.OfQueues.QueueStates.{queue-le}
 use Rattle.changes.proofs.OfQueues.QueueChanges.{queue-below, queues-once}
-use Rattle.access.specs.Ways.{wellFormed, inRange, long}
+use Rattle.access.proofs.Ways.{wellFormed, inRange, long}
 use Rattle.laws.specs.Loops.{sumBelow, sumBelow-few}
 use Rattle.awaited.specs.Lengths.{ownerLength, laneLengths, retiredLength, LinksAt, QueueAt, OwnerAt}
 

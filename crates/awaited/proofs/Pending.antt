@@ -26,7 +26,7 @@ use Rattle.representation.proofs.FromMemory.Reading.{state-lanes}
 use Rattle.representation.proofs.FromState.Periods.{cabinetMask-runs}
 use Rattle.representation.proofs.FromState.Awaited.{awaited-count, awaited-none, awaited-lowest}
 use Rattle.representation.specs.Sound.{Sound}
-use Rattle.access.specs.Ways.{shown, inRange}
+use Rattle.access.proofs.Ways.{shown, inRange}
 use Rattle.laws.specs.Loops.{sumBelow, sumBelow-alike}
 
 -- ---- bits

@@ -13,7 +13,7 @@ use Rattle.laws.specs.Walks.{walk-stop, walk-on}
 use Rattle.representation.proofs.FromMemory.Reading.{length-slotField, getD-slotField}
 use Rattle.representation.specs.Sound.{Sound}
 use Rattle.changes.specs.Queues.{Part, partAt}
-use Rattle.access.specs.Ways.{long}
+use Rattle.access.proofs.Ways.{long}
 
 module _ (m : List ℕ) where
   -- the slots from i on by the queue links

@@ -11,7 +11,7 @@ use Rattle.model.specs.Engine.{freshLane, setOnline, atLane}
 use Rattle.model.specs.Rules.{isOnline, laneOf}
 use Rattle.model.specs.Memory.{sizes, state}
 use Rattle.laws.specs.ListLaws.{getD-update-same, getD-update-other, length-update}
-use Rattle.access.specs.Ways.{wellFormed}
+use Rattle.access.proofs.Ways.{wellFormed}
 use Rattle.access.specs.Lanes.{LaneIn}
 
 -- the lanes, as if lane i were off

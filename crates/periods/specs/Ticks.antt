@@ -19,7 +19,7 @@ use Rattle.engine.proofs.ClockLaws.{clock-stored, clock-answer}
 use Rattle.periods.specs.declared.Standing.{Standing}
 use Rattle.access.specs.declared.Answer.{Answer}
 use Rattle.access.specs.Contract.{five, Does}
-use Rattle.access.specs.Ways.{performs, passed, shown, wellFormed, inRange}
+use Rattle.access.proofs.Ways.{performs, passed, shown, wellFormed, inRange}
 use Rattle.access.specs.Lanes.{LaneIn, StandsAt, stands-at, lane-known}
 
 -- where lane i stands

@@ -14,7 +14,7 @@ use Rattle.representation.specs.Sound.{Sound}
 use Rattle.changes.proofs.OfLanes.LaneWords.{lane-flags}
 use Rattle.access.specs.declared.Answer.{Answer}
 use Rattle.access.specs.Contract.{five, Does}
-use Rattle.access.specs.Ways.{performs, passed, shown, wellFormed}
+use Rattle.access.proofs.Ways.{performs, passed, shown, wellFormed}
 use Rattle.access.specs.Flags.{withFlag, flagPut, flags-shown, flags-online, flags-reading}
 use Rattle.access.specs.Lanes.{LaneIn, lane-known}
 

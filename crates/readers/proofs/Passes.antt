@@ -19,7 +19,7 @@ use Rattle.representation.specs.Sound.{Sound}
 use Rattle.changes.proofs.OfLanes.LaneCalls.{pass-stored}
 use Rattle.access.specs.declared.Answer.{Answer}
 use Rattle.access.specs.Contract.{five, Does}
-use Rattle.access.specs.Ways.{performs, passed, shown, wellFormed, inRange, long}
+use Rattle.access.proofs.Ways.{performs, passed, shown, wellFormed, inRange, long}
 use Rattle.access.specs.Lanes.{LaneIn, StandsAt, lane-known}
 
 module _ (m : List ℕ) (v : Sound m) (i k : ℕ) where

@@ -23,7 +23,7 @@ use Rattle.changes.proofs.OfLanes.LaneWords.{lookupWords}
 use Rattle.changes.proofs.OfLanes.LaneCalls.{start-stored}
 use Rattle.access.specs.declared.Answer.{Answer}
 use Rattle.access.specs.Contract.{five, Does}
-use Rattle.access.specs.Ways.{performs, passed, shown, wellFormed}
+use Rattle.access.proofs.Ways.{performs, passed, shown, wellFormed}
 use Rattle.access.specs.Flags.{withFlag, word-shown, flags-shown, flags-lookup}
 use Rattle.access.specs.Lanes.{LaneIn, lane-known}
 

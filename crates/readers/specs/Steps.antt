@@ -24,7 +24,7 @@ use Rattle.changes.proofs.OfLanes.LaneWords.{lookupWords}
 use Rattle.changes.proofs.OfLanes.LaneCalls.{step-stored, step-going-stored}
 use Rattle.access.specs.declared.Answer.{Answer}
 use Rattle.access.specs.Contract.{five, Does}
-use Rattle.access.specs.Ways.{performs, passed, shown, wellFormed}
+use Rattle.access.proofs.Ways.{performs, passed, shown, wellFormed}
 use Rattle.access.specs.Lanes.{lane-known}
 use Rattle.access.specs.Flags.{withFlag, flags-shown, flags-lookup}
 use Rattle.readers.specs.Lookups.{Looking, lookupStored, lookupStored-from, lookup-shown}

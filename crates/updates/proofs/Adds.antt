@@ -20,7 +20,7 @@ use Rattle.changes.specs.Search.{searchWords}
 use Rattle.changes.proofs.OfCalls.UpdateWords.{add-stored, replace-stored}
 use Rattle.access.specs.declared.Answer.{Answer}
 use Rattle.access.specs.Contract.{five, Does}
-use Rattle.access.specs.Ways.{performs, passed, shown, wellFormed, long}
+use Rattle.access.proofs.Ways.{performs, passed, shown, wellFormed, long}
 use Rattle.updates.specs.UpdateStores.{FirstIn, Filled}
 use Rattle.updates.proofs.Shown.{found-slot, found-below, queue-first, first-in}
 

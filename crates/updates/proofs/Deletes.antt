@@ -19,7 +19,7 @@ use Rattle.changes.specs.Search.{searchWords}
 use Rattle.changes.proofs.OfCalls.UpdateWords.{delete-stored}
 use Rattle.access.specs.declared.Answer.{Answer}
 use Rattle.access.specs.Contract.{five, Does}
-use Rattle.access.specs.Ways.{performs, passed, shown, wellFormed, long}
+use Rattle.access.proofs.Ways.{performs, passed, shown, wellFormed, long}
 use Rattle.updates.proofs.Shown.{found-slot, found-below}
 
 module _ (m : List ℕ) (v : Sound m) (i c x : ℕ) (e : x ≡ refusal (state m) (delete i c)) (h : x ≤ 0) where

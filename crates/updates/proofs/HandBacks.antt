@@ -21,7 +21,7 @@ use Rattle.changes.proofs.OfCalls.CallSteps.{reclaimedWords}
 use Rattle.changes.proofs.OfCalls.UpdateWords.{hand-back-lane-stored, hand-back-global-stored}
 use Rattle.access.specs.declared.Answer.{Answer}
 use Rattle.access.specs.Contract.{five, Does}
-use Rattle.access.specs.Ways.{performs, passed, shown, wellFormed, long}
+use Rattle.access.proofs.Ways.{performs, passed, shown, wellFormed, long}
 use Rattle.access.specs.Lanes.{LaneIn, lane-known}
 use Rattle.updates.specs.UpdateStores.{FirstIn, handedFrom, Reclaimed}
 use Rattle.updates.proofs.Shown.{queue-shown, queue-first, ends-inside, first-in}

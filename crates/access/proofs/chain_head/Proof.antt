@@ -1,7 +1,7 @@
 -- The head stands in a legal memory, which is longer than its bodies, and holds the first slot of the chain.
 use native.Mathlib.Omega.{arith}
-use Rattle.access.specs.Ways.{long}
-use Rattle.access.specs.Lanes.{head-by}
+use Rattle.access.proofs.Ways.{long}
+use Rattle.access.proofs.LaneLaws.{head-by}
 use borrow.Author.Needs.{needs}
 use Rattle.access.proofs.chain_head.Statement.{statement}
 use Rattle.access.proofs.chain_head.Tie as tie

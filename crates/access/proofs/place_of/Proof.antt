@@ -1,22 +1,20 @@
--- The remainder by the lanes of a cabinet, of which a legal memory has at least one.
-use native.Mathlib.Omega.{arith}
-use Rattle.access.specs.Ways.{inRange, long}
+-- The cabinet is one of the table's, since the lane is.
+use Rattle.access.proofs.LaneLaws.{cabinet-of}
 use borrow.Author.Needs.{needs}
 use Rattle.access.proofs.place_of.Statement.{statement}
 use Rattle.access.proofs.place_of.Tie as tie
 
-shared-slice-read-result : tie.Need-shared-slice-read-result
-shared-slice-read-result c =
-    let entry : tie.Start = search in
-    omega (arith, long _ (entry .pre .sound))
+div-stand-at : tie.Need-div-stand-at
+div-stand-at c = search needs
 
-rem-result : tie.Need-rem-result
-rem-result c =
-    let entry : tie.Start = search in
-    omega (arith, inRange _ (entry .pre .sound) .somePlaces)
+rem-stand-at : tie.Need-rem-stand-at
+rem-stand-at c = search needs
+
+stand-at-requires : tie.Need-stand-at-requires
+stand-at-requires c κs = search (needs, cabinet-of)
 
 returns : tie.Need-returns
 returns c = search needs
 
 pub place-of-spec : {M : Type 1} → statement M
-place-of-spec = tie.close (tie.spec shared-slice-read-result rem-result returns)
+place-of-spec = tie.close (tie.spec div-stand-at rem-stand-at stand-at-requires returns)

@@ -1,5 +1,5 @@
 -- Each arm of `with_flag` is a clause of `withFlag`.
-use Rattle.access.specs.Flags.{put-by, cleared-by}
+use Rattle.access.proofs.FlagLaws.{put-by, cleared-by}
 use borrow.Author.Needs.{needs}
 use Rattle.access.proofs.with_flag.Statement.{statement}
 use Rattle.access.proofs.with_flag.Tie as tie

@@ -1,6 +1,6 @@
 -- Each of the four words is counted by one function, and no word of the memory is written.
 use native.Mathlib.Omega.{arith}
-use Rattle.access.specs.Ways.{inRange, long}
+use Rattle.access.proofs.Ways.{inRange, long}
 use Rattle.awaited.proofs.OwnerLengths.{free-at}
 use Rattle.awaited.proofs.AwaitedAnswer.{answered}
 use borrow.Author.Needs.{needs}

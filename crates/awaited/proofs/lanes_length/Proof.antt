@@ -7,7 +7,7 @@ use denote.Ref.{now}
 use Rattle.model.specs.State.{laneCount}
 use Rattle.model.specs.Layout.{maxSlots, queuesAt, laneAddress}
 use Rattle.model.specs.Memory.{sizes}
-use Rattle.access.specs.Ways.{inRange}
+use Rattle.access.proofs.Ways.{inRange}
 use Rattle.laws.specs.Loops.{Summed, summed-start, summed-on, summed-done}
 use Rattle.awaited.specs.Lengths.{ownerLength, laneLengths}
 use Rattle.awaited.proofs.OwnerLengths.{ownerQueues, lane-at, owner-few, lanes-shown}

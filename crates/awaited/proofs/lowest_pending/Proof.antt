@@ -1,7 +1,7 @@
 -- A law for each way out.
 use mathlib.Core.Path.{_∙_}
 use native.Mathlib.Omega.{arith}
-use Rattle.access.specs.Ways.{long}
+use Rattle.access.proofs.Ways.{long}
 use Rattle.awaited.proofs.Pending.{none-shown, cabinet-below, lowest-few, lowest-shown}
 use borrow.Author.Needs.{needs}
 use Rattle.awaited.proofs.lowest_pending.Statement.{statement}

@@ -6,7 +6,7 @@ use native.Mathlib.Omega.{arith}
 use Rattle.model.specs.Memory.{sizes}
 use denote.Ref.{now}
 use Rattle.masks.specs.Bits.{width}
-use Rattle.access.specs.Ways.{inRange, long}
+use Rattle.access.proofs.Ways.{inRange, long}
 use Rattle.laws.specs.Loops.{Summed, summed-start, summed-on, summed-done}
 use Rattle.awaited.proofs.Pending.{pendingOf, pending-few, count-shown}
 use borrow.Author.Needs.{needs}

@@ -3,7 +3,7 @@
 use Prim.Native.Nat.{_-_}
 use native.Mathlib.Omega.{arith}
 use Rattle.model.specs.Memory.{sizes}
-use Rattle.access.specs.Ways.{inRange, long}
+use Rattle.access.proofs.Ways.{inRange, long}
 use Rattle.awaited.specs.Lengths.{Counted, counted-start, counted-on, counted-done, link-inside}
 use borrow.Author.Needs.{needs}
 use Rattle.awaited.proofs.queue_length.Statement.{statement}

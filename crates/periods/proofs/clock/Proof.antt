@@ -1,6 +1,6 @@
 -- `clock`: a law for each way out.
 use native.Mathlib.Omega.{arith}
-use Rattle.access.specs.Ways.{refuses, long}
+use Rattle.access.proofs.Ways.{refuses, long}
 use Rattle.access.specs.Lanes.{lane-in}
 use Rattle.periods.specs.Ticks.{clock-refusal, clock-done}
 use borrow.Author.Needs.{needs}

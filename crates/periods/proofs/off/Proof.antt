@@ -1,5 +1,5 @@
 -- `off`: a law for each way out.
-use Rattle.access.specs.Ways.{refuses}
+use Rattle.access.proofs.Ways.{refuses}
 use Rattle.periods.specs.Ticks.{off-lane, off-done}
 use borrow.Author.Needs.{needs}
 use Rattle.periods.proofs.off.Statement.{statement}

@@ -1,6 +1,6 @@
 -- Each part is read where a legal memory has it.
 use native.Mathlib.Omega.{arith}
-use Rattle.access.specs.Ways.{long}
+use Rattle.access.proofs.Ways.{long}
 use Rattle.periods.specs.Ticks.{standing-parts}
 use borrow.Author.Needs.{needs}
 use Rattle.periods.proofs.stands_at.Statement.{statement}

@@ -2,7 +2,7 @@
 use mathlib.Core.Path.{_∙_}
 use native.Mathlib.Omega.{arith}
 use denote.Ref.{now}
-use Rattle.access.specs.Ways.{inRange, long}
+use Rattle.access.proofs.Ways.{inRange, long}
 use Rattle.readers.specs.Steps.{ended-by}
 use borrow.Author.Needs.{needs}
 use Rattle.readers.proofs.end_lookup.Statement.{statement}

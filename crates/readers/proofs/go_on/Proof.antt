@@ -1,6 +1,6 @@
 -- A lookup that goes on stands on a slot (`position-by`), whose chain link is the next position.
 use native.Mathlib.Omega.{arith}
-use Rattle.access.specs.Ways.{inRange, long}
+use Rattle.access.proofs.Ways.{inRange, long}
 use Rattle.readers.specs.Steps.{position-by, moved-by}
 use borrow.Author.Needs.{needs}
 use Rattle.readers.proofs.go_on.Statement.{statement}

@@ -1,7 +1,7 @@
 -- The code reads what `lookup-shown` says of a running lookup, and `outcome-by` makes its outcome the model's.
 use mathlib.Core.Path.{_∙_}
 use native.Mathlib.Omega.{arith}
-use Rattle.access.specs.Ways.{inRange, long}
+use Rattle.access.proofs.Ways.{inRange, long}
 use Rattle.readers.specs.Lookups.{outcome-by}
 use borrow.Author.Needs.{needs}
 use Rattle.readers.proofs.lane_outcome.Statement.{statement}

@@ -1,7 +1,7 @@
 -- A refused pass changes no word; else one count of the lane's record goes up, in its cabinet's part of the words (`pass-done`).
 use mathlib.Core.Path.{_∙_}
 use native.Mathlib.Omega.{arith}
-use Rattle.access.specs.Ways.{refuses, long}
+use Rattle.access.proofs.Ways.{refuses, long}
 use Rattle.access.specs.Lanes.{stands-at}
 use Rattle.readers.proofs.Passes.{pass-lane, cabinet-known, change-lent, pass-done}
 use borrow.Author.Needs.{needs}

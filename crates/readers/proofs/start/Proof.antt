@@ -1,6 +1,6 @@
 -- A refused start changes no word; else the stores are the words of a lookup at the head of its chain (`start-done`).
 use native.Mathlib.Omega.{arith}
-use Rattle.access.specs.Ways.{refuses, inRange, long}
+use Rattle.access.proofs.Ways.{refuses, inRange, long}
 use Rattle.readers.specs.Lookups.{start-lane, start-done}
 use borrow.Author.Needs.{needs}
 use Rattle.readers.proofs.start.Statement.{statement}

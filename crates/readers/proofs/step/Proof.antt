@@ -1,6 +1,6 @@
 -- A refused step changes no word; else the lookup goes on (`step-going`) or is put to rest (`step-ended`).
 use mathlib.Core.Path.{sym, _∙_}
-use Rattle.access.specs.Ways.{refuses}
+use Rattle.access.proofs.Ways.{refuses}
 use Rattle.readers.specs.Steps.{looking, is-going, step-going, step-ended}
 use borrow.Author.Needs.{needs}
 use Rattle.readers.proofs.step.Statement.{statement}

@@ -1,6 +1,6 @@
 -- A memory that the legality check refuses is left as it is, with cause 3; any other is legal, and its elements are words.
 use native.Mathlib.Omega.{arith}
-use Rattle.access.specs.Ways.{illegal, sound}
+use Rattle.access.proofs.Ways.{illegal, sound}
 use borrow.Author.Needs.{needs}
 use Rattle.table.proofs.make_op.Statement.{statement}
 use Rattle.table.proofs.make_op.Tie as tie

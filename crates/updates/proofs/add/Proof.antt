@@ -1,6 +1,6 @@
 -- A refused add changes no word; else a free slot is filled and linked at the head (`add-done`).
 use native.Mathlib.Omega.{arith}
-use Rattle.access.specs.Ways.{refuses, long}
+use Rattle.access.proofs.Ways.{refuses, long}
 use Rattle.updates.proofs.Adds.{add-first, add-reach, add-done}
 use borrow.Author.Needs.{needs}
 use Rattle.updates.proofs.add.Statement.{statement}

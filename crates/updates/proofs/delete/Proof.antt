@@ -1,6 +1,6 @@
 -- A refused delete changes no word; else the slot is unlinked and waits (`delete-done`).
 use native.Mathlib.Omega.{arith}
-use Rattle.access.specs.Ways.{refuses, long}
+use Rattle.access.proofs.Ways.{refuses, long}
 use Rattle.updates.proofs.Deletes.{delete-reach, delete-done}
 use borrow.Author.Needs.{needs}
 use Rattle.updates.proofs.delete.Statement.{statement}

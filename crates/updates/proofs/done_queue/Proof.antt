@@ -1,6 +1,6 @@
 -- The global queue where the lane's is empty, else the lane's.
 use native.Mathlib.Omega.{arith}
-use Rattle.access.specs.Ways.{inRange, long}
+use Rattle.access.proofs.Ways.{inRange, long}
 use Rattle.updates.proofs.HandBacks.{lane-empty, lane-some}
 use borrow.Author.Needs.{needs}
 use Rattle.updates.proofs.done_queue.Statement.{statement}

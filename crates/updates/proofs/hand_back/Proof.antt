@@ -1,6 +1,6 @@
 -- A refused hand-back changes no word; else the first slot of the queue is cleared and free (`hand-back-done`).
 use native.Mathlib.Omega.{arith}
-use Rattle.access.specs.Ways.{refuses, long}
+use Rattle.access.proofs.Ways.{refuses, long}
 use Rattle.updates.proofs.HandBacks.{hand-back-lane, hand-back-first, hand-back-done}
 use borrow.Author.Needs.{needs}
 use Rattle.updates.proofs.hand_back.Statement.{statement}

@@ -1,6 +1,6 @@
 -- The next queue's ends are the first of the lane's queues.
 use native.Mathlib.Omega.{arith}
-use Rattle.access.specs.Ways.{inRange}
+use Rattle.access.proofs.Ways.{inRange}
 use borrow.Author.Needs.{needs}
 use Rattle.updates.proofs.next_queue.Statement.{statement}
 use Rattle.updates.proofs.next_queue.Tie as tie

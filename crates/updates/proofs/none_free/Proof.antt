@@ -2,7 +2,7 @@
 use mathlib.Core.Path.{_∙_}
 use native.Mathlib.Omega.{arith}
 use Rattle.changes.specs.Queues.{free}
-use Rattle.access.specs.Ways.{long}
+use Rattle.access.proofs.Ways.{long}
 use Rattle.updates.proofs.Shown.{queue-shown}
 use Rattle.updates.proofs.none_free.Statement.{statement}
 use Rattle.updates.proofs.none_free.Tie as tie

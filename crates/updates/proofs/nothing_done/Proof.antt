@@ -1,6 +1,6 @@
 -- `done_queue` is the global one where the lane's is empty, so it is empty where both are.
 use native.Mathlib.Omega.{arith}
-use Rattle.access.specs.Ways.{long}
+use Rattle.access.proofs.Ways.{long}
 use Rattle.updates.proofs.HandBacks.{done-inside, none-done}
 use borrow.Author.Needs.{needs}
 use Rattle.updates.proofs.nothing_done.Statement.{statement}

@@ -1,6 +1,6 @@
 -- A refused replace changes no word; else a filled slot takes the old one's place, and the old one waits (`replace-done`).
 use native.Mathlib.Omega.{arith}
-use Rattle.access.specs.Ways.{refuses, long}
+use Rattle.access.proofs.Ways.{refuses, long}
 use Rattle.updates.proofs.Adds.{replace-first, replace-reach, replace-done}
 use borrow.Author.Needs.{needs}
 use Rattle.updates.proofs.replace.Statement.{statement}

@@ -1,7 +1,7 @@
 -- The slots' records are in the memory.
 use mathlib.Core.Path.{_∙_}
 use native.Mathlib.Omega.{arith}
-use Rattle.access.specs.Ways.{inRange, long}
+use Rattle.access.proofs.Ways.{inRange, long}
 use Rattle.updates.proofs.Shown.{search-by}
 use borrow.Author.Needs.{needs}
 use Rattle.updates.proofs.search.Statement.{statement}
