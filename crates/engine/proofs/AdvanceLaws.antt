@@ -7,19 +7,18 @@ use mathlib.Core.List.{List}
 use Rattle.model.specs.Word.{later}
 use Rattle.model.specs.Lists.{isEmpty}
 use Rattle.model.specs.State.{Sizes, Queues, Engine, State}
-use Rattle.model.specs.Layout.{slotsBody}
 use Rattle.model.specs.Engine.{settled, ready, target, batched}
 use Rattle.model.specs.Rules.{withEngine}
 use Rattle.model.specs.Calls.{stored}
 use Rattle.changes.specs.Shows.{Shows, stored-shown, shows-then, stored-then}
 use Rattle.changes.proofs.Shape.{Shape}
-use Rattle.changes.specs.Queues.{next, current, done, endsAt}
-use Rattle.changes.proofs.OfOwners.Owners.{Owner, Known, queueBy, queuesBy, generationBy, withQueues}
+use Rattle.changes.specs.Queues.{next, current, done}
+use Rattle.changes.proofs.OfOwners.Owners.{Owner, Known, queuesBy, withQueues}
 use Rattle.changes.proofs.OfOwners.Owners.{withQueues-same, settle-stored, batch-stored}
 use Rattle.engine.proofs.PeriodLaws.{current-shown, requested-stored}
 use Rattle.engine.specs.Advance.{advancedWords}
 use Rattle.engine.proofs.AdvanceSteps.{advancedBy, state-set, settledQueues, settledState, batchedState, askedEngine, begunState, advanced-steps, shape-settled, shape-batched}
-use Rattle.engine.proofs.AdvanceTests.{settledFor, begunFor, movedFor, askedFor, filled, settled-tests, begun-tests, generation-shown, filled-shown, target-shown}
+use Rattle.engine.proofs.AdvanceTests.{wordsBy, settledFor, begunFor, movedFor, askedFor, filled, settled-tests, begun-tests, generation-shown, filled-shown, target-shown}
 
 module _ (s : State) (m : List ℕ) (shows : Shows m s) (w : Shape s) (o : Owner) (known : Known (s .sizes) o) where
   abbrev z : Sizes
@@ -81,7 +80,7 @@ module _ (s : State) (m : List ℕ) (shows : Shows m s) (w : Shape s) (o : Owner
 
 module _ (s : State) (m : List ℕ) (shows : Shows m s) (w : Shape s) (o : Owner) (known : Known (s .sizes) o) where
   pub advanced-stored :
-      advancedWords m (s .sizes .cabinets) (s .sizes .places) (slotsBody (s .sizes)) (s .sizes .slots) (endsAt (s .sizes) (queueBy o next)) (generationBy (s .sizes) o)
+      advancedWords m (s .sizes) (wordsBy (s .sizes) o)
       ≡ stored (withEngine s (advancedBy o (s .engine))) m
   unfolding advancedWords
   advanced-stored =

@@ -9,7 +9,7 @@ use lib.Dec.{eqb, ltb}
 use Rattle.model.specs.Word.{up, later}
 use Rattle.model.specs.Lists.{isEmpty}
 use Rattle.model.specs.State.{Sizes, Queues, Engine, State}
-use Rattle.model.specs.Layout.{freeAt, generationAt, globalGenerationAt, currentGenerationAt, slotsBody}
+use Rattle.model.specs.Layout.{freeAt, generationAt, globalGenerationAt, currentGenerationAt}
 use Rattle.model.specs.Engine.{runs, target}
 use Rattle.model.specs.Memory.{at, laneWords}
 use Rattle.laws.specs.Tests.{not-not}
@@ -19,25 +19,30 @@ use Rattle.changes.proofs.Shape.{Shape}
 use Rattle.changes.specs.Queues.{Part, next, current, done, partOf, queueOf, endsAt}
 use Rattle.changes.proofs.OfQueues.QueueChanges.{empty-shown}
 use Rattle.changes.proofs.OfOwners.Owners.{named-by, Owner, allLanes, oneLane, Known, queueBy, queuesBy, generationBy, joinedWords}
+use Rattle.engine.specs.declared.OwnerWords.{OwnerWords}
 use Rattle.engine.specs.Period.{requestedWords}
 use Rattle.engine.proofs.PeriodLaws.{current-shown, mask-shown, mask-runs}
 use Rattle.engine.specs.Advance.{targetWord, settledWords, batchedWords, begunWords}
 
 -- ---- the words at the owner's addresses
 
+-- where the owner's words stand
+abbrev pub wordsBy : Sizes → Owner → OwnerWords
+wordsBy z o = record { ends = endsAt z (queueBy o next); generation = generationBy z o }
+
 module _ (z : Sizes) (m : List ℕ) (o : Owner) where
   abbrev pub settledFor : List ℕ
-  settledFor = settledWords m (slotsBody z) (z .slots) (endsAt z (queueBy o next)) (generationBy z o)
+  settledFor = settledWords m z (wordsBy z o)
 
   abbrev pub begunFor : List ℕ
-  begunFor = begunWords m (z .cabinets) (z .places) (slotsBody z) (z .slots) (endsAt z (queueBy o next)) (generationBy z o)
+  begunFor = begunWords m z (wordsBy z o)
 
   -- part r moved to part p, with generation g
   abbrev pub movedFor : Part → Part → ℕ → List ℕ
   movedFor p r g = set (joinedWords z m o p r) (generationBy z o) g
 
   abbrev pub askedFor : ℕ → List ℕ
-  askedFor g = requestedWords (movedFor current next g) (z .cabinets) (z .places) g
+  askedFor g = requestedWords (movedFor current next g) z g
 
   -- part p of its queues is not empty
   abbrev pub filled : Part → Bool

@@ -7,7 +7,7 @@ use native.Mathlib.Omega.{arith}
 use native.Mathlib.Nat.{mod-lt, div-add-mod'}
 use lib.Dec.{eqb}
 use Rattle.model.specs.State.{Sizes, State}
-use Rattle.model.specs.Layout.{currentGenerationAt, largestGenerationAt, cabinetMaskAt, slotsBody}
+use Rattle.model.specs.Layout.{currentGenerationAt, largestGenerationAt, cabinetMaskAt}
 use Rattle.model.specs.Engine.{runs}
 use Rattle.model.specs.Rules.{clock, accepted, clockAnswer, causes, refusal, performed, result}
 use Rattle.model.specs.Memory.{at}
@@ -18,9 +18,8 @@ use Rattle.representation.proofs.FromState.Standing.{fit}
 use Rattle.representation.proofs.WellFormed.{WellFormed}
 use Rattle.changes.specs.Shows.{Shows, shows-then}
 use Rattle.changes.proofs.Shape.{LaneAtEach}
-use Rattle.engine.specs.Release.{TableLent}
+use Rattle.lanes.specs.Cabinet.{stand}
 use Rattle.engine.proofs.PeriodLaws.{current-shown, largest-shown, mask-shown, mask-runs}
-use Rattle.engine.proofs.Lends.{table-lent-shown}
 use Rattle.engine.specs.Clock.{clockWords}
 use Rattle.engine.proofs.ClockSteps.{clock-steps, shape-clock}
 
@@ -41,7 +40,7 @@ module _ (s : State) (m : List ℕ) (shows : Shows m s) (w : WellFormed s) (c p 
   z = s .sizes
 
   module _ (i : ℕ) (e : i ≡ c * z .places + p) where
-    pub clock-stored : clockWords m (z .cabinets) (z .places) (slotsBody z) (z .slots) c p ≡ stored (performed s (clock i)) m
+    pub clock-stored : clockWords m z (stand z c p) ≡ stored (performed s (clock i)) m
     clock-stored = clock-steps s m shows w c p inCabinets inPlaces ∙ ap (λ (j : ℕ). stored (performed s (clock j)) m) (sym e)
 
     -- the answer, from the words n after the call

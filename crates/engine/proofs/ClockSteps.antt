@@ -5,7 +5,7 @@ use mathlib.Core.Path.{_≡_, refl, ap, sym, _∙_}
 use mathlib.Core.List.{List}
 use native.Mathlib.Omega.{arith}
 use Rattle.model.specs.State.{Sizes, laneCount, Engine, State}
-use Rattle.model.specs.Layout.{globalQueuesAt, globalGenerationAt, generationAt, queuesAt, slotsBody}
+use Rattle.model.specs.Layout.{generationAt, queuesAt}
 use Rattle.model.specs.Engine.{laneAt, released, advancedLane, advancedGlobal, quiesced, sampled, clocked}
 use Rattle.model.specs.Rules.{clock, withEngine, withLane, performed}
 use Rattle.model.specs.Calls.{stored}
@@ -15,16 +15,18 @@ use Rattle.representation.proofs.WellFormed.{WellFormed}
 use Rattle.changes.specs.Shows.{Shows, stored-shown, shows-then, stored-then}
 use Rattle.changes.proofs.Shape.{Shape, wellFormed-shape}
 use Rattle.changes.proofs.OfOwners.Owners.{allLanes, oneLane}
+use Rattle.lanes.specs.declared.Place.{Place}
+use Rattle.lanes.specs.Cabinet.{stand}
 use Rattle.lanes.proofs.CabinetLaws.{cabinetAt-lane}
 use Rattle.engine.specs.Release.{releasedWords}
 use Rattle.engine.proofs.ReleaseLaws.{released-stored, shape-released}
-use Rattle.engine.specs.Advance.{advancedWords}
+use Rattle.engine.specs.Advance.{ofLane, ofAll, advancedWords}
 use Rattle.engine.proofs.AdvanceSteps.{shape-advanced}
 use Rattle.engine.proofs.AdvanceLaws.{advanced-stored}
 use Rattle.lanes.specs.Record.{recordAt, movedOn}
 use Rattle.engine.proofs.CompareLaws.{moved-quiesced}
 use Rattle.engine.proofs.SampleLaws.{within-lanes, sample-stored, shape-sampled}
-use Rattle.engine.specs.Clock.{comparedWords, sampleWords, laneAdvanced, clockWords}
+use Rattle.engine.specs.Clock.{comparedWords, sampleWords, clockWords}
 
 module _ (s : State) (m : List ℕ) (shows : Shows m s) (w : WellFormed s) (c p : ℕ) (inCabinets : c < s .sizes .cabinets) (inPlaces : p < s .sizes .places) where
   abbrev z : Sizes
@@ -33,8 +35,8 @@ module _ (s : State) (m : List ℕ) (shows : Shows m s) (w : WellFormed s) (c p 
   abbrev k : ℕ
   k = c * z .places + p
 
-  abbrev base : ℕ
-  base = slotsBody z
+  abbrev l : Place
+  l = stand z c p
 
   shape : Shape s
   shape = wellFormed-shape s w
@@ -51,12 +53,12 @@ module _ (s : State) (m : List ℕ) (shows : Shows m s) (w : WellFormed s) (c p 
   e₁ = comparedBy (quiesced (laneAt (s .engine) k))
 
   abbrev m₁ : List ℕ
-  m₁ = comparedWords m (z .cabinets) (z .places) c p
+  m₁ = comparedWords m z l
 
   step₁ : m₁ ≡ stored (withEngine s e₁) m
   unfolding comparedWords
   step₁ =
-      ap (λ (d : Bool). cond d (releasedWords m (z .cabinets) (z .places) c p) m)
+      ap (λ (d : Bool). cond d (releasedWords m z l) m)
       (ap (λ (a : ℕ). movedOn (recordAt m a)) (cabinetAt-lane z c p) ∙ moved-quiesced s m shows k known (w .fits k))
       ∙ go (quiesced (laneAt (s .engine) k))
     where
@@ -66,7 +68,7 @@ module _ (s : State) (m : List ℕ) (shows : Shows m s) (w : WellFormed s) (c p 
       fewP : z .places ≤ width
       fewP = omega (arith, fit s w .fewPlaces)
 
-      go : (b : Bool) → cond b (releasedWords m (z .cabinets) (z .places) c p) m ≡ stored (withEngine s (comparedBy b)) m
+      go : (b : Bool) → cond b (releasedWords m z l) m ≡ stored (withEngine s (comparedBy b)) m
       go true = released-stored s m shows (w .lanes) c p inCabinets inPlaces fewC fewP
       go false = sym (stored-shown s m shows)
 
@@ -83,12 +85,12 @@ module _ (s : State) (m : List ℕ) (shows : Shows m s) (w : WellFormed s) (c p 
   e₂ = advancedLane k e₁
 
   abbrev m₂ : List ℕ
-  m₂ = laneAdvanced m₁ (z .cabinets) (z .places) base (z .slots) c p
+  m₂ = advancedWords m₁ z (ofLane l)
 
   step₂ : m₂ ≡ stored (withEngine s e₂) m
   step₂ =
       stored-then (withEngine s e₁) (withEngine s e₂) m m₁ m₂ refl step₁
-      (ap (λ (a : ℕ). advancedWords m₁ (z .cabinets) (z .places) base (z .slots) (a + queuesAt) (a + generationAt)) (cabinetAt-lane z c p)
+      (ap (λ (a : ℕ). advancedWords m₁ z (record { ends = a + queuesAt; generation = a + generationAt })) (cabinetAt-lane z c p)
       ∙ advanced-stored (withEngine s e₁) m₁ (shows-then (withEngine s e₁) m m₁ (shows .long) step₁) shape₁ (oneLane k) known)
 
   shape₂ : Shape (withEngine s e₂)
@@ -100,7 +102,7 @@ module _ (s : State) (m : List ℕ) (shows : Shows m s) (w : WellFormed s) (c p 
   e₃ = advancedGlobal e₂
 
   abbrev m₃ : List ℕ
-  m₃ = advancedWords m₂ (z .cabinets) (z .places) base (z .slots) globalQueuesAt globalGenerationAt
+  m₃ = advancedWords m₂ z ofAll
 
   step₃ : m₃ ≡ stored (withEngine s e₃) m
   step₃ =
@@ -112,10 +114,10 @@ module _ (s : State) (m : List ℕ) (shows : Shows m s) (w : WellFormed s) (c p 
 
   -- ---- copy
 
-  pub clock-steps : clockWords m (z .cabinets) (z .places) base (z .slots) c p ≡ stored (performed s (clock k)) m
+  pub clock-steps : clockWords m z l ≡ stored (performed s (clock k)) m
   unfolding clockWords performed clocked
   clock-steps =
-      stored-then (withEngine s e₃) (withLane (withEngine s e₃) k sampled) m m₃ (sampleWords m₃ (z .cabinets) (z .places) c p) refl step₃
+      stored-then (withEngine s e₃) (withLane (withEngine s e₃) k sampled) m m₃ (sampleWords m₃ l) refl step₃
       (sample-stored (withEngine s e₃) m₃ (shows-then (withEngine s e₃) m m₃ (shows .long) step₃) (shape₃ .lanes) c p inCabinets inPlaces)
 
   pub shape-clock : Shape (performed s (clock k))

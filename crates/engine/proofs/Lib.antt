@@ -19,8 +19,6 @@ pub mod AdvanceLaws
 pub mod OffWords
 pub mod OffSteps
 pub mod OffLaws
--- what a memory that shows a state holds
-pub mod Lends
 -- the clock of a lane
 pub mod ClockWords
 pub mod CompareLaws

@@ -5,8 +5,7 @@ use mathlib.Core.List.{List}
 use native.Mathlib.Omega.{arith}
 use native.Mathlib.Nat.{mul-le-mul-right}
 use native.Mathlib.Decide.{decLt}
-use Rattle.model.specs.State.{laneCount, State}
-use Rattle.model.specs.Layout.{globalQueuesAt, globalGenerationAt, slotsBody}
+use Rattle.model.specs.State.{Sizes, laneCount, State}
 use Rattle.model.specs.Engine.{released, advancedGlobal, wentOff}
 use Rattle.model.specs.Rules.{off, causes, refusal, withEngine, performed}
 use Rattle.model.specs.Calls.{stored}
@@ -14,41 +13,42 @@ use Rattle.representation.proofs.Causes.Passed.{clear, within}
 use Rattle.representation.proofs.WellFormed.{WellFormed}
 use Rattle.representation.proofs.FromState.Standing.{fit}
 use Rattle.lanes.specs.declared.Change.the-variants.{Leave}
+use Rattle.lanes.specs.declared.Place.{Place}
 use Rattle.lanes.specs.RecordChanges.{changedAt}
-use Rattle.lanes.proofs.CabinetLaws.{cabinetAt-lane}
+use Rattle.lanes.specs.Cabinet.{stand}
+use Rattle.lanes.proofs.CabinetLaws.{cabinetAt-lane, row-within}
 use Rattle.changes.specs.Shows.{Shows, shows-then, stored-then}
 use Rattle.changes.proofs.Shape.{wellFormed-shape}
 use Rattle.changes.proofs.OfOwners.Owners.{allLanes}
-use Rattle.engine.proofs.PeriodWords.{row-within}
 use Rattle.engine.specs.Release.{releasedWords}
 use Rattle.engine.proofs.ReleaseLaws.{released-stored, shape-released}
-use Rattle.engine.specs.Advance.{advancedWords}
+use Rattle.engine.specs.Advance.{ofAll, advancedWords}
 use Rattle.engine.proofs.AdvanceLaws.{advanced-stored}
 use Rattle.engine.specs.Off.{handedWords, offWords}
 use Rattle.engine.proofs.OffSteps.{gone, leftWords, left-stored, shape-left}
 
 module _ (s : State) (m : List ℕ) (shows : Shows m s) (w : WellFormed s) (c p : ℕ) (inCabinets : c < s .sizes .cabinets) (inPlaces : p < s .sizes .places) where
-  abbrev C : ℕ
-  C = s .sizes .cabinets
+  abbrev z : Sizes
+  z = s .sizes
 
-  abbrev P : ℕ
-  P = s .sizes .places
+  abbrev l : Place
+  l = stand z c p
 
   abbrev lane-number : ℕ
-  lane-number = c * P + p
+  lane-number = c * z .places + p
 
   lane-within : lane-number < laneCount (s .sizes)
-  lane-within = omega (arith, row-within c C P inCabinets)
+  lane-within = omega (arith, row-within c (z .cabinets) (z .places) inCabinets)
 
   -- the global queues advance
   abbrev advancedAll : List ℕ → List ℕ
-  advancedAll n = advancedWords n C P (slotsBody (s .sizes)) (s .sizes .slots) globalQueuesAt globalGenerationAt
+  advancedAll n = advancedWords n z ofAll
 
   -- the steps, for the lane whose record begins at a
   abbrev stepsAt : ℕ → List ℕ
-  stepsAt a = advancedAll (releasedWords (handedWords (changedAt m a Leave) (slotsBody (s .sizes)) (s .sizes .slots) a) C P c p)
+  stepsAt a = advancedAll (releasedWords (handedWords (changedAt m a Leave) z a) z l)
 
-  pub off-stored : offWords m C P (slotsBody (s .sizes)) (s .sizes .slots) c p ≡ stored (performed s (off lane-number)) m
+  pub off-stored : offWords m z l ≡ stored (performed s (off lane-number)) m
   unfolding offWords performed wentOff
   off-stored =
       let x = wellFormed-shape s w in
@@ -60,7 +60,7 @@ module _ (s : State) (m : List ℕ) (shows : Shows m s) (w : WellFormed s) (c p 
       let y = shape-left s x lane-number lane-within m shows in
       -- released
       let u = withEngine t (released lane-number (t .engine)) in
-      let k = releasedWords n C P c p in
+      let k = releasedWords n z l in
       let r =
       released-stored t n (shows-then t m n (shows .long) q) (y .lanes) c p inCabinets inPlaces (omega (arith, f .fewCabinets)) (omega (arith, f .fewPlaces)) in
       let v = stored-then t u m n k refl q r in

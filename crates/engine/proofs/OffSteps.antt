@@ -7,7 +7,7 @@ use native.Mathlib.Omega.{arith}
 use lib.ListN.{set}
 use Rattle.model.specs.Lists.{update}
 use Rattle.model.specs.State.{Sizes, laneCount, isRunning, isHeld, Queues, Lane, State}
-use Rattle.model.specs.Layout.{flagsAt, generationAt, laneAddress, slotsBody, onlineBit}
+use Rattle.model.specs.Layout.{flagsAt, generationAt, laneAddress, onlineBit}
 use Rattle.model.specs.Engine.{freshLane, laneAt, setOnline, withLanes, withGlobal, atLane, taken, emptied}
 use Rattle.model.specs.Rules.{withEngine, withLane}
 use Rattle.model.specs.Memory.{at, flags, laneWords}
@@ -61,7 +61,7 @@ module _ (s : State) (m : List ℕ) (shows : Shows m s) (w : Shape s) (i : ℕ) 
   abbrev handed : State
   handed = withLane (handedOver i s) i (atGeneration 0)
 
-  handed-stored : handedWords m (slotsBody (s .sizes)) (s .sizes .slots) (laneAddress (s .sizes) i) ≡ stored handed m
+  handed-stored : handedWords m (s .sizes) (laneAddress (s .sizes) i) ≡ stored handed m
   unfolding handedWords
   handed-stored =
       let u = handedOver i s in
@@ -95,7 +95,7 @@ module _ (s : State) (w : Shape s) (i : ℕ) (within : i < laneCount (s .sizes))
 
   module _ (m : List ℕ) (shows : Shows m s) where
     abbrev pub leftWords : List ℕ
-    leftWords = handedWords (changedAt m (laneAddress (s .sizes) i) Leave) (slotsBody (s .sizes)) (s .sizes .slots) (laneAddress (s .sizes) i)
+    leftWords = handedWords (changedAt m (laneAddress (s .sizes) i) Leave) (s .sizes) (laneAddress (s .sizes) i)
 
     marked-shows : Shows (changedAt m (laneAddress (s .sizes) i) Leave) (withLane s i (setOnline false))
     marked-shows = shows-then (withLane s i (setOnline false)) m (changedAt m (laneAddress (s .sizes) i) Leave) (shows .long) (marked-stored s m shows w i within)

@@ -10,7 +10,7 @@ use lib.Dec.{eqb}
 use Rattle.model.specs.Word.{up, later}
 use Rattle.model.specs.Lists.{concat, from}
 use Rattle.model.specs.Lists.{mask as maskOf}
-use Rattle.model.specs.State.{laneCount, Engine, State}
+use Rattle.model.specs.State.{Sizes, laneCount, Engine, State}
 use Rattle.model.specs.Layout.{currentGenerationAt, largestGenerationAt, cabinetMaskAt}
 use Rattle.model.specs.Engine.{freshLane, laneAt, withCurrent, withLargest, isPending, runs, started, ended, requested}
 use Rattle.model.specs.Rules.{withEngine}
@@ -72,26 +72,23 @@ module _ (s : State) (m : List ℕ) (shows : Shows m s) where
   mask-shown = shows .image (top cabinetMaskAt) (omega arith)
 
 module _ (s : State) (m : List ℕ) (shows : Shows m s) (each : LaneAtEach s) where
-  abbrev C : ℕ
-  C = s .sizes .cabinets
+  abbrev z : Sizes
+  z = s .sizes
 
-  abbrev P : ℕ
-  P = s .sizes .places
-
-  ended-by : (b : Bool) (g : ℕ) → cond b (set m currentGenerationAt g) (startedWords (set m currentGenerationAt g) C P)
+  ended-by : (b : Bool) (g : ℕ) → cond b (set m currentGenerationAt g) (startedWords (set m currentGenerationAt g) z)
       ≡ stored (withEngine s (cond b (withCurrent g (s .engine)) (started (withCurrent g (s .engine))))) m
   ended-by true g = write-current s m shows g
   ended-by false g =
-      stored-then u (withEngine u (started (u .engine))) m (set m currentGenerationAt g) (startedWords (set m currentGenerationAt g) C P) refl (write-current s m shows g)
+      stored-then u (withEngine u (started (u .engine))) m (set m currentGenerationAt g) (startedWords (set m currentGenerationAt g) z) refl (write-current s m shows g)
       (started-stored u (set m currentGenerationAt g) (shows-then u m (set m currentGenerationAt g) (shows .long) (write-current s m shows g)) each)
     where
       u : State
       u = withEngine s (withCurrent g (s .engine))
 
-  pub ended-stored : endedWords m C P ≡ stored (withEngine s (ended (s .engine))) m
+  pub ended-stored : endedWords m z ≡ stored (withEngine s (ended (s .engine))) m
   unfolding ended endedWords
   ended-stored =
-      ap₂ (λ (x y : ℕ). cond (later (up x) y) (set m currentGenerationAt (up x)) (startedWords (set m currentGenerationAt (up x)) C P)) (current-shown s m shows) (largest-shown s m shows)
+      ap₂ (λ (x y : ℕ). cond (later (up x) y) (set m currentGenerationAt (up x)) (startedWords (set m currentGenerationAt (up x)) z)) (current-shown s m shows) (largest-shown s m shows)
       ∙ ended-by (later (up (s .engine .current)) (s .engine .largest)) (up (s .engine .current))
 
   -- the largest requested, raised to g
@@ -107,19 +104,19 @@ module _ (s : State) (m : List ℕ) (shows : Shows m s) (each : LaneAtEach s) wh
   raised-stored g =
       ap (λ (x : ℕ). cond (later g x) (set m largestGenerationAt g) m) (largest-shown s m shows) ∙ raised-by (later g (s .engine .largest)) g
 
-  requested-by : (b : Bool) (g : ℕ) → cond (not b) (startedWords (raisedWords m g) C P) (raisedWords m g) ≡ stored (withEngine s (cond b (raised g) (started (raised g)))) m
+  requested-by : (b : Bool) (g : ℕ) → cond (not b) (startedWords (raisedWords m g) z) (raisedWords m g) ≡ stored (withEngine s (cond b (raised g) (started (raised g)))) m
   requested-by true g = raised-stored g
   requested-by false g =
-      stored-then u (withEngine u (started (u .engine))) m (raisedWords m g) (startedWords (raisedWords m g) C P) refl (raised-stored g)
+      stored-then u (withEngine u (started (u .engine))) m (raisedWords m g) (startedWords (raisedWords m g) z) refl (raised-stored g)
       (started-stored u (raisedWords m g) (shows-then u m (raisedWords m g) (shows .long) (raised-stored g)) each)
     where
       u : State
       u = withEngine s (raised g)
 
-  pub requested-stored : (g : ℕ) → requestedWords m C P g ≡ stored (withEngine s (requested g (s .engine))) m
+  pub requested-stored : (g : ℕ) → requestedWords m z g ≡ stored (withEngine s (requested g (s .engine))) m
   unfolding requested requestedWords
   requested-stored g =
-      ap (λ (d : Bool). cond d (startedWords (raisedWords m g) C P) (raisedWords m g)) (ap (λ (w : ℕ). eqb w 0) (mask-shown s m shows) ∙ mask-runs s each)
+      ap (λ (d : Bool). cond d (startedWords (raisedWords m g) z) (raisedWords m g)) (ap (λ (w : ℕ). eqb w 0) (mask-shown s m shows) ∙ mask-runs s each)
       ∙ requested-by (runs (s .engine)) g
 
 -- ---- the shape stays

@@ -28,9 +28,8 @@ use Rattle.lanes.specs.Record.{recordAt, droppedRecord}
 use Rattle.lanes.proofs.RecordLaws.{recordOf-dropped}
 use Rattle.lanes.specs.RecordChanges.{changedAt}
 use Rattle.lanes.specs.Cabinet.{droppedAt}
-use Rattle.lanes.proofs.CabinetLaws.{changed-dropped}
+use Rattle.lanes.proofs.CabinetLaws.{row-within, changed-dropped}
 use Rattle.engine.specs.Period.{endedWords}
-use Rattle.engine.proofs.PeriodWords.{row-within}
 use Rattle.engine.proofs.PeriodLaws.{mask-shown, mask-runs, ended-stored}
 use Rattle.engine.specs.Release.{overWords}
 
@@ -85,12 +84,12 @@ other-row k c n q p d h g e =
 
 -- if no lane is awaited any more, the period ends
 pub over-stored : (s : State) (m : List ℕ) → Shows m s → LaneAtEach s
-    → overWords m (s .sizes .cabinets) (s .sizes .places) ≡ stored (withEngine s (cond (not (runs (s .engine))) (ended (s .engine)) (s .engine))) m
+    → overWords m (s .sizes) ≡ stored (withEngine s (cond (not (runs (s .engine))) (ended (s .engine)) (s .engine))) m
 unfolding overWords
 over-stored s m shows each =
-    ap (λ (d : Bool). cond d (endedWords m (s .sizes .cabinets) (s .sizes .places)) m) (ap (λ (w : ℕ). eqb w 0) (mask-shown s m shows) ∙ mask-runs s each)
+    ap (λ (d : Bool). cond d (endedWords m (s .sizes)) m) (ap (λ (w : ℕ). eqb w 0) (mask-shown s m shows) ∙ mask-runs s each)
     ∙ go (not (runs (s .engine)))
   where
-    go : (b : Bool) → cond b (endedWords m (s .sizes .cabinets) (s .sizes .places)) m ≡ stored (withEngine s (cond b (ended (s .engine)) (s .engine))) m
+    go : (b : Bool) → cond b (endedWords m (s .sizes)) m ≡ stored (withEngine s (cond b (ended (s .engine)) (s .engine))) m
     go true = ended-stored s m shows each
     go false = sym (stored-shown s m shows)

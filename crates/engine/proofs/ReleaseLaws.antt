@@ -17,11 +17,12 @@ use Rattle.changes.specs.Shows.{Shows, shows-then, stored-then}
 use Rattle.changes.proofs.Shape.{LaneAtEach, Shape}
 use Rattle.changes.proofs.OfLanes.EngineWords.{shape-engine}
 use Rattle.lanes.specs.declared.Change.the-variants.{Drop}
+use Rattle.lanes.specs.declared.Place.{Place}
 use Rattle.lanes.specs.RecordChanges.{changedAt}
-use Rattle.lanes.proofs.CabinetLaws.{cabinetAt-lane}
-use Rattle.engine.proofs.PeriodWords.{row-within}
+use Rattle.lanes.specs.Cabinet.{stand}
+use Rattle.lanes.proofs.CabinetLaws.{cabinetAt-lane, row-within}
 use Rattle.engine.proofs.PeriodLaws.{shape-ended}
-use Rattle.engine.specs.Release.{laneIn, passedWords, releasedWords}
+use Rattle.engine.specs.Release.{passedWords, releasedWords}
 use Rattle.engine.proofs.ReleaseBits.{unsampled, dropped-stored, unawaited}
 use Rattle.engine.proofs.ReleaseStores.{passedEngine, passed-stored}
 
@@ -35,8 +36,11 @@ module _ (s : State) (m : List ℕ) (shows : Shows m s) (each : LaneAtEach s) (c
   abbrev u : State
   u = withLane s lane-number unsampled
 
+  abbrev l : Place
+  l = stand (s .sizes) c p
+
   abbrev dropped : List ℕ
-  dropped = changedAt m (laneIn (s .sizes .cabinets) (s .sizes .places) c p) Drop
+  dropped = changedAt m (l .address) Drop
 
   lane-within : lane-number < laneCount (s .sizes)
   lane-within = omega (arith, row-within c (s .sizes .cabinets) (s .sizes .places) inCabinets)
@@ -50,10 +54,10 @@ module _ (s : State) (m : List ℕ) (shows : Shows m s) (each : LaneAtEach s) (c
   same-bit : laneAt (u .engine) lane-number .pending ≡ laneAt (s .engine) lane-number .pending
   same-bit = ap (λ (l : Lane). l .pending) (getD-update-same freshLane (s .engine .lanes) lane-number unsampled (omega (arith, each, lane-within)))
 
-  pub released-stored : releasedWords m (s .sizes .cabinets) (s .sizes .places) c p ≡ stored (withEngine s (released lane-number (s .engine))) m
+  pub released-stored : releasedWords m (s .sizes) l ≡ stored (withEngine s (released lane-number (s .engine))) m
   unfolding releasedWords released
   released-stored =
-      stored-then u (withEngine u (passedEngine u dropped (shows-then u m dropped (shows .long) first-stored) each-u c p inCabinets inPlaces fewCabinets fewPlaces (laneAt (u .engine) lane-number .pending))) m dropped (passedWords dropped (s .sizes .cabinets) (s .sizes .places) c p) refl first-stored
+      stored-then u (withEngine u (passedEngine u dropped (shows-then u m dropped (shows .long) first-stored) each-u c p inCabinets inPlaces fewCabinets fewPlaces (laneAt (u .engine) lane-number .pending))) m dropped (passedWords dropped (s .sizes) l) refl first-stored
       (passed-stored u dropped (shows-then u m dropped (shows .long) first-stored) each-u c p inCabinets inPlaces fewCabinets fewPlaces)
       ∙ ap₂ (λ (b : Bool) (x : List Lane). stored (withEngine s (cond (b && not (runs (withLanes x (s .engine)))) (ended (withLanes x (s .engine))) (withLanes x (s .engine)))) m) same-bit
       (update-update (s .engine .lanes) lane-number unsampled unawaited)

@@ -22,7 +22,7 @@ use Rattle.representation.proofs.Addresses.Fields.{mask, lane}
 use Rattle.changes.specs.Shows.{Shows}
 use Rattle.changes.proofs.Shape.{LaneAtEach}
 use Rattle.changes.proofs.OfLanes.EngineWords.{withPending}
-use Rattle.engine.proofs.PeriodWords.{row-within}
+use Rattle.lanes.proofs.CabinetLaws.{row-within}
 use Rattle.engine.proofs.ReleaseBits.{unawaited, other-row}
 
 module _ (s : State) (m : List ℕ) (shows : Shows m s) (each : LaneAtEach s) (c p : ℕ) (inCabinets : c < s .sizes .cabinets) (inPlaces : p < s .sizes .places)

@@ -26,6 +26,7 @@ use Rattle.laws.specs.Updates.{update-same}
 use Rattle.changes.specs.Shows.{Shows, stored-shown, shows-then, stored-then}
 use Rattle.changes.proofs.Shape.{LaneAtEach}
 use Rattle.changes.proofs.OfLanes.EngineWords.{withPending, maskedValue, value-withPending}
+use Rattle.lanes.specs.Cabinet.{stand}
 use Rattle.engine.proofs.PeriodLaws.{mask-shown}
 use Rattle.engine.specs.Release.{overWords, clearedBy, clearedWords, passedWords}
 use Rattle.engine.proofs.ReleaseBits.{unawaited, words-unawaited, queues-unawaited, over-stored}
@@ -114,14 +115,14 @@ module _ (s : State) (m : List ℕ) (shows : Shows m s) (each : LaneAtEach s) (c
   abbrev pub passedEngine : Bool → Engine
   passedEngine b = cond (b && not (runs (t .engine))) (ended (t .engine)) (t .engine)
 
-  pub passed-stored : passedWords m (z .cabinets) (z .places) c p ≡ stored (withEngine s (passedEngine (laneAt (s .engine) i .pending))) m
+  pub passed-stored : passedWords m z (stand z c p) ≡ stored (withEngine s (passedEngine (laneAt (s .engine) i .pending))) m
   unfolding passedWords
-  passed-stored = ap (λ (d : Bool). cond d (overWords (clearedWords m c p) (z .cabinets) (z .places)) m) shown ∙ go (laneAt (s .engine) i .pending) refl
+  passed-stored = ap (λ (d : Bool). cond d (overWords (clearedWords m c p) z) m) shown ∙ go (laneAt (s .engine) i .pending) refl
     where
       go : (b : Bool) → laneAt (s .engine) i .pending ≡ b
-          → cond b (overWords (clearedWords m c p) (z .cabinets) (z .places)) m ≡ stored (withEngine s (passedEngine b)) m
+          → cond b (overWords (clearedWords m c p) z) m ≡ stored (withEngine s (passedEngine b)) m
       go true e =
-          stored-then t (withEngine t (passedEngine true)) m (clearedWords m c p) (overWords (clearedWords m c p) (z .cabinets) (z .places)) refl (cleared-stored e)
+          stored-then t (withEngine t (passedEngine true)) m (clearedWords m c p) (overWords (clearedWords m c p) z) refl (cleared-stored e)
           (over-stored t (clearedWords m c p) (shows-then t m (clearedWords m c p) (shows .long) (cleared-stored e)) each-t)
       go false e =
           sym (stored-shown s m shows)

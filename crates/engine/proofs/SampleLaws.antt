@@ -26,9 +26,8 @@ use Rattle.lanes.specs.declared.Change.the-variants.{Sample}
 use Rattle.lanes.specs.Record.{recordAt, isHolding, sampledRecord}
 use Rattle.lanes.specs.RecordChanges.{changedAt}
 use Rattle.lanes.proofs.RecordLaws.{recordOf-sampled}
-use Rattle.lanes.specs.Cabinet.{sampledAt}
-use Rattle.lanes.proofs.CabinetLaws.{cabinetAt-lane, changed-sampled}
-use Rattle.engine.proofs.PeriodWords.{row-within}
+use Rattle.lanes.specs.Cabinet.{stand, sampledAt}
+use Rattle.lanes.proofs.CabinetLaws.{cabinetAt-lane, row-within, changed-sampled}
 use Rattle.engine.specs.Clock.{sampleWords}
 use Rattle.engine.proofs.CompareLaws.{held-shown, counts-shown}
 
@@ -83,7 +82,7 @@ module _ (s : State) (m : List ℕ) (shows : Shows m s) (each : LaneAtEach s) (c
   pub within-lanes : i < laneCount z
   within-lanes = omega (arith, row-within c (z .cabinets) (z .places) inCabinets)
 
-  pub sample-stored : sampleWords m (z .cabinets) (z .places) c p ≡ stored (withLane s i sampled) m
+  pub sample-stored : sampleWords m (stand z c p) ≡ stored (withLane s i sampled) m
   unfolding sampleWords recordAt
   sample-stored =
       ap (λ (x : ℕ). cond (flag p (at m (masksAt + c)) && not (isHolding (recordAt m x))) (changedAt m x Sample) m) (cabinetAt-lane z c p)

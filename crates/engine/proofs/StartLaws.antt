@@ -24,10 +24,10 @@ use Rattle.representation.proofs.Addresses.Writes.{Image, by-fields}
 use Rattle.changes.specs.Shows.{Shows}
 use Rattle.changes.proofs.Shape.{LaneAtEach, Shape}
 use Rattle.changes.proofs.OfLanes.EngineWords.{shape-engine, withPending, maskedValue, value-withPending}
-use Rattle.lanes.specs.Cabinet.{cabinetAt, onlineAt}
-use Rattle.lanes.proofs.CabinetLaws.{cabinetAt-lane}
-use Rattle.engine.specs.Period.{onlineWord, someOnline, masksSet, waitingFor, startedWords}
-use Rattle.engine.proofs.PeriodWords.{row-within, masksSet-else, masksSet-there, length-masksSet, length-startedWords}
+use Rattle.lanes.specs.Cabinet.{cabinetAt, onlineAt, onlineMask}
+use Rattle.lanes.proofs.CabinetLaws.{cabinetAt-lane, row-within}
+use Rattle.engine.specs.Period.{someOnline, masksSet, waitingFor, startedWords}
+use Rattle.engine.proofs.PeriodWords.{masksSet-else, masksSet-there, length-masksSet, length-startedWords}
 
 -- ---- begin period
 
@@ -71,36 +71,36 @@ module _ (s : State) (m : List ℕ) (shows : Shows m s) (each : LaneAtEach s) wh
   pending-started : (i : ℕ) → i < laneCount z → laneAt (t .engine) i .pending ≡ laneAt (s .engine) i .online
   pending-started i h = ap (λ (l : Lane). l .pending) (getD-map freshLane freshLane awaiting (s .engine .lanes) i (omega (arith, each)))
 
-  mask-started : (c : ℕ) → c < z .cabinets → onlineWord m (z .cabinets) (z .places) c ≡ laneMask t c
-  unfolding onlineWord
-  mask-started c h = ap maskOf (map-from-alike (onlineAt m (cabinetAt (z .cabinets) (z .places) c)) (pendingAt t c) 0 (z .places) go)
+  mask-started : (c : ℕ) → c < z .cabinets → onlineMask m z c ≡ laneMask t c
+  unfolding onlineMask
+  mask-started c h = ap maskOf (map-from-alike (onlineAt m (cabinetAt z c)) (pendingAt t c) 0 (z .places) go)
     where
-      go : (p : ℕ) → 0 ≤ p → p < 0 + z .places → onlineAt m (cabinetAt (z .cabinets) (z .places) c) p ≡ pendingAt t c p
+      go : (p : ℕ) → 0 ≤ p → p < 0 + z .places → onlineAt m (cabinetAt z c) p ≡ pendingAt t c p
       go p a b =
           let k : c * z .places + p < laneCount z = omega (arith, row-within c (z .cabinets) (z .places) h) in
           ap (λ (a : ℕ). flag onlineBit (at m a)) (cabinetAt-lane z c p) ∙ online-shown (c * z .places + p) k ∙ sym (pending-started (c * z .places + p) k)
 
-  cabinet-started : waitingFor m (z .cabinets) (z .places) (z .cabinets) ≡ cabinetMask t
+  cabinet-started : waitingFor m z (z .cabinets) ≡ cabinetMask t
   unfolding waitingFor
   cabinet-started =
       ap maskOf
-      (map-from-alike (someOnline m (z .cabinets) (z .places)) (λ (c : ℕ). isNotZero (laneMask t c)) 0 (z .cabinets) (λ c a b. ap isNotZero (mask-started c (omega arith)))
+      (map-from-alike (someOnline m z) (λ (c : ℕ). isNotZero (laneMask t c)) 0 (z .cabinets) (λ c a b. ap isNotZero (mask-started c (omega arith)))
       ∙ sym (map-map-from isNotZero (laneMask t) 0 (z .cabinets)))
 
   -- all words but the masks stay
-  kept : (a : ℕ) → a ≢ cabinetMaskAt → ((k : ℕ) → k < z .cabinets → a ≡ masksAt + k → ⊥) → at (startedWords m (z .cabinets) (z .places)) a ≡ at m a
+  kept : (a : ℕ) → a ≢ cabinetMaskAt → ((k : ℕ) → k < z .cabinets → a ≡ masksAt + k → ⊥) → at (startedWords m z) a ≡ at m a
   unfolding startedWords
   kept a n h =
-      getD-set-other (masksSet m (z .cabinets) (z .places) (z .cabinets)) cabinetMaskAt a (waitingFor m (z .cabinets) (z .places) (z .cabinets)) 0 n
-      ∙ masksSet-else m (z .cabinets) (z .places) (z .cabinets) a h
+      getD-set-other (masksSet m z (z .cabinets)) cabinetMaskAt a (waitingFor m z (z .cabinets)) 0 n
+      ∙ masksSet-else m z (z .cabinets) a h
 
-  image-started : Image z (startedWords m (z .cabinets) (z .places)) (maskedValue s ls)
+  image-started : Image z (startedWords m z) (maskedValue s ls)
   unfolding startedWords
   image-started (top k) b =
       elim (decide k cabinetMaskAt) [
         | same e q u ↦
-            ap (at (startedWords m (z .cabinets) (z .places))) e
-            ∙ getD-set-same (masksSet m (z .cabinets) (z .places) (z .cabinets)) cabinetMaskAt (waitingFor m (z .cabinets) (z .places) (z .cabinets)) 0 (omega (arith, shows .long, length-masksSet m (z .cabinets) (z .places) (z .cabinets)))
+            ap (at (startedWords m z)) e
+            ∙ getD-set-same (masksSet m z (z .cabinets)) cabinetMaskAt (waitingFor m z (z .cabinets)) 0 (omega (arith, shows .long, length-masksSet m z (z .cabinets)))
             ∙ cabinet-started
             ∙ sym (ap (λ (d : Bool). cond d (cabinetMask t) (value s (top k))) q)
         | other e q u ↦
@@ -111,15 +111,15 @@ module _ (s : State) (m : List ℕ) (shows : Shows m s) (each : LaneAtEach s) wh
   image-started (head k) b = kept (headsAt + k) (λ e. omega arith) (λ j p e. omega arith) ∙ shows .image (head k) b
   image-started (end k) b = kept (freeAt + k) (λ e. omega arith) (λ j p e. omega arith) ∙ shows .image (end k) b
   image-started (mask c) b =
-      getD-set-other (masksSet m (z .cabinets) (z .places) (z .cabinets)) cabinetMaskAt (masksAt + c) (waitingFor m (z .cabinets) (z .places) (z .cabinets)) 0 (λ e. omega arith)
-      ∙ masksSet-there m (z .cabinets) (z .places) (z .cabinets) c b (omega (arith, shows .long))
+      getD-set-other (masksSet m z (z .cabinets)) cabinetMaskAt (masksAt + c) (waitingFor m z (z .cabinets)) 0 (λ e. omega arith)
+      ∙ masksSet-there m z (z .cabinets) c b (omega (arith, shows .long))
       ∙ mask-started c b
   image-started (lane i k) b = kept (laneAddress z i + k) (λ e. omega arith) (λ j p e. omega arith) ∙ shows .image (lane i k) b
   image-started (slot i k) b = kept (slotAddress z i + k) (λ e. omega arith) (λ j p e. omega arith) ∙ shows .image (slot i k) b
 
-  pub started-stored : startedWords m (z .cabinets) (z .places) ≡ stored (withEngine s (started (s .engine))) m
+  pub started-stored : startedWords m z ≡ stored (withEngine s (started (s .engine))) m
   unfolding started
   started-stored =
-      by-fields t m (startedWords m (z .cabinets) (z .places)) (shows .long) (length-startedWords m (z .cabinets) (z .places))
+      by-fields t m (startedWords m z) (shows .long) (length-startedWords m z)
       (λ f b. image-started f b ∙ sym (value-withPending s ls (words-awaiting (s .engine .lanes)) (queues-awaiting (s .engine .lanes)) f))
       (λ a h. kept a (λ e. omega arith) (λ j p e. omega arith))

@@ -1,53 +1,32 @@
 // A lane goes off (document 01, "Generations and passes"): it is marked off, its queues go to the global ones, it
-// drops its snapshot and its bit, and the global queues advance. The slots' records stand from `base` on.
+// drops its snapshot and its bit, and the global queues advance.
 ghost use mathlib.Core.Path.{_≡_};
-ghost use Rattle.engine.specs.Release.{TableLent};
-ghost use Rattle.engine.specs.Off.{HandLent, handedWords, offWords};
+ghost use Rattle.words.specs.Lent.{sizesOf};
+ghost use Rattle.lanes.specs.Cabinet.{LaneLent};
+ghost use Rattle.engine.specs.Off.{handedWords, offWords};
 
-// The current queue of the lane whose record begins at a, then its next, go to the end of the global next queue, and
-// its done queue to the end of the global done queue. Its generation is at rest.
-fn hand_over(m: &mut [u32], base: usize, slots: u32, a: usize)
-    requires { ⌜ HandLent (now m) base slots a ⌝ }
-    ensures { λ _. ⌜ now (m .exit) ≡ handedWords (now (m .entry)) base slots a ⌝ }
+// The current queue of a lane, then its next, go to the end of the global next queue, and its done queue to the end of
+// the global done queue. Its generation is at rest.
+fn hand_over(m: &mut [u32], z: words::Sizes, lane: lanes::Place)
+    requires { ⌜ LaneLent (now m) (sizesOf z) lane ⌝ }
+    ensures { λ _. ⌜ now (m .exit) ≡ handedWords (now (m .entry)) (sizesOf z) (lane .address) ⌝ }
 {
     let next = words::GLOBAL_QUEUES_AT;
     let done = words::GLOBAL_QUEUES_AT + words::DONE_OFFSET;
-    let ends = a + words::QUEUES_AT;
-    queues::append_queue(m, base, slots, next, ends + words::CURRENT_OFFSET);
-    queues::append_queue(m, base, slots, next, ends);
-    queues::append_queue(m, base, slots, done, ends + words::DONE_OFFSET);
-    m[a + words::GENERATION_AT] = 0;
+    let ends = lane.address + words::QUEUES_AT;
+    queues::append_queue(m, z, next, ends + words::CURRENT_OFFSET);
+    queues::append_queue(m, z, next, ends);
+    queues::append_queue(m, z, done, ends + words::DONE_OFFSET);
+    m[lane.address + words::GENERATION_AT] = 0;
 }
 
-// The lane at a place of a cabinet goes off.
-pub fn off(
-    m: &mut [u32],
-    cabinets: usize,
-    places: usize,
-    base: usize,
-    slots: u32,
-    cabinet: u32,
-    place: u32,
-)
-    requires { ⌜ TableLent (now m) cabinets places base slots cabinet place ⌝ }
-    ensures { λ _. ⌜ now (m .exit) ≡ offWords (now (m .entry)) cabinets places base slots cabinet place ⌝ }
+// A lane goes off.
+pub fn off(m: &mut [u32], z: words::Sizes, lane: lanes::Place)
+    requires { ⌜ LaneLent (now m) (sizesOf z) lane ⌝ }
+    ensures { λ _. ⌜ now (m .exit) ≡ offWords (now (m .entry)) (sizesOf z) lane ⌝ }
 {
-    let start = lanes::cabinet::cabinet_start(cabinets, places, cabinet as usize);
-    lanes::cabinet::change_lane(m, start, places, place as usize, lanes::Change::Leave);
-    hand_over(
-        m,
-        base,
-        slots,
-        start + words::LANE_LENGTH * (place as usize),
-    );
-    crate::period::release(m, cabinets, places, cabinet, place);
-    crate::advance::advance(
-        m,
-        cabinets,
-        places,
-        base,
-        slots,
-        words::GLOBAL_QUEUES_AT,
-        words::GLOBAL_GENERATION_AT,
-    );
+    lanes::cabinet::change_lane(m, z, lane, lanes::Change::Leave);
+    hand_over(m, z, lane);
+    crate::period::release(m, z, lane);
+    crate::advance::advance_global(m, z);
 }

@@ -12,7 +12,7 @@ use lib.Bits.{bitOr}
 use lib.Pow.{pow-mono}
 use Rattle.model.specs.Word.{upTo}
 use Rattle.model.specs.Lists.{update, from, mask}
-use Rattle.model.specs.State.{Sizes, laneCount}
+use Rattle.model.specs.State.{Sizes}
 use Rattle.model.specs.Layout.{kinds, countLimit, quiescentAt, snapshotAt, laneLength, laneAddress, onlineBit, snapshotBit}
 use Rattle.model.specs.Memory.{at, flag}
 use Rattle.laws.specs.ListLaws.{map-from-alike}
@@ -35,9 +35,9 @@ use Rattle.lanes.specs.Cabinet.{placeAt, cabinetAt, stand, LaneLent, onl
 pub cabinetAt-lane : (z : Sizes) (c p : ℕ) → cabinetAt z c + placeAt p ≡ laneAddress z (c * z .places + p)
 cabinetAt-lane z c p = omega arith
 
--- the lanes of cabinet c end within all lanes
-pub row-within : (z : Sizes) (c : ℕ) → c < z .cabinets → c * z .places + z .places ≤ laneCount z
-row-within z c h = let e = mul-le-mul-right {m = suc c} {n = z .cabinets} (z .places) (omega arith) in omega (arith, e, suc-mul c (z .places))
+-- row c of n rows, of k each, ends within all
+pub row-within : (c n k : ℕ) → c < n → c * k + k ≤ n * k
+row-within c n k h = let e = mul-le-mul-right {m = suc c} {n = n} k (omega arith) in omega (arith, e, suc-mul c k)
 
 -- by the addresses that were worked out
 pub stood : (z : Sizes) (c p a i : ℕ) → a ≡ cabinetAt z c → i ≡ p → record { cabinet = c; place = p; start = a; address = a + placeAt i } ≡ stand z c p
@@ -51,7 +51,7 @@ lane-lent m z c p l hc hp = record {
   place = hp;
   start = refl;
   address = refl;
-  part = omega (arith, row-within z c hc, l .long);
+  part = omega (arith, row-within c (z .cabinets) (z .places) hc, l .long);
 }
 
 -- the changes that ask for nothing

@@ -1,6 +1,6 @@
--- `engine::advance::advance`: the queue is settled, then a batch begins.
-use borrow.Author.Needs.{needs}
+-- The owner's current queue is settled, then a batch begins.
 use Rattle.engine.proofs.AdvanceWords.{advanced-by}
+use borrow.Author.Needs.{needs}
 use Rattle.engine.proofs.advance.advance.Statement.{statement}
 use Rattle.engine.proofs.advance.advance.Tie as tie
 
@@ -17,10 +17,4 @@ returns : tie.Need-returns
 returns c = search (needs, advanced-by)
 
 pub advance-spec : {M : Type 1} → statement M
-advance-spec =
-    tie.close
-    (tie.spec
-    settle-requires
-    begin-batch-requires
-    same-length
-    returns)
+advance-spec = tie.close (tie.spec settle-requires begin-batch-requires same-length returns)

@@ -1,10 +1,10 @@
--- `engine::advance::batch`: the queues are joined, then the generation is stored.
+-- Next is appended to current, which is empty, and the generation is stored.
 use Prim.Native.Nat.{ℕ}
 use mathlib.Core.Path.{ap}
 use mathlib.Core.List.{List}
 use lib.ListN.{set}
-use borrow.Author.Needs.{needs}
 use Rattle.engine.specs.Advance.{batchedWords}
+use borrow.Author.Needs.{needs}
 use Rattle.engine.proofs.advance.batch.Statement.{statement}
 use Rattle.engine.proofs.advance.batch.Tie as tie
 
@@ -28,7 +28,7 @@ unfolding batchedWords
 returns c =
     let at-append-queue : tie.After-append-queue = search in
     let entry : tie.Start = search in
-    ap (λ (l : List ℕ). set l (entry .args .generation) (entry .args .g)) (at-append-queue .append-queue .ensures)
+    ap (λ (w : List ℕ). set w (entry .args .owner .generation) (entry .args .g)) (at-append-queue .append-queue .ensures)
 
 pub batch-spec : {M : Type 1} → statement M
 batch-spec =

@@ -1,6 +1,6 @@
--- `engine::advance::begin_batch`: its tests are those of `begunWords`.
-use borrow.Author.Needs.{needs}
+-- The tests are those of `begunWords`.
 use Rattle.engine.proofs.AdvanceWords.{begun-busy, begun-begins, begun-idle}
+use borrow.Author.Needs.{needs}
 use Rattle.engine.proofs.advance.begin_batch.Statement.{statement}
 use Rattle.engine.proofs.advance.begin_batch.Tie as tie
 

@@ -1,4 +1,4 @@
--- `engine::advance::finish`: the queues are joined, then the generation is stored.
+-- Current is appended to done, and the generation goes to rest.
 use Prim.Native.Nat.{ℕ}
 use mathlib.Core.Path.{ap}
 use mathlib.Core.List.{List}
@@ -29,7 +29,7 @@ returns : tie.Need-returns
 returns c =
     let at-append-queue : tie.After-append-queue = search in
     let entry : tie.Start = search in
-    ap (λ (l : List ℕ). set l (entry .args .generation) 0) (at-append-queue .append-queue .ensures)
+    ap (λ (w : List ℕ). set w (entry .args .owner .generation) 0) (at-append-queue .append-queue .ensures)
 
 pub finish-spec : {M : Type 1} → statement M
 finish-spec =

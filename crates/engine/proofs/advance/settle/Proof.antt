@@ -1,6 +1,6 @@
--- `engine::advance::settle`: its tests are those of `settledWords`.
-use borrow.Author.Needs.{needs}
+-- The tests are those of `settledWords`.
 use Rattle.engine.proofs.AdvanceWords.{settled-finished, settled-waits, settled-empty}
+use borrow.Author.Needs.{needs}
 use Rattle.engine.proofs.advance.settle.Statement.{statement}
 use Rattle.engine.proofs.advance.settle.Tie as tie
 

@@ -1,15 +1,11 @@
 -- The test is that of `comparedWords`.
-use Rattle.engine.proofs.PeriodWords.{cabinet-part}
 use Rattle.engine.proofs.ClockWords.{compared-moved, compared-rests}
 use borrow.Author.Needs.{needs}
 use Rattle.engine.proofs.clock.compare.Statement.{statement}
 use Rattle.engine.proofs.clock.compare.Tie as tie
 
-cabinet-start-requires : tie.Need-cabinet-start-requires
-cabinet-start-requires c κs = search needs
-
 lane-record-requires : tie.Need-lane-record-requires
-lane-record-requires c κs = search (needs, cabinet-part)
+lane-record-requires c κs = search needs
 
 moved-on-requires : tie.Need-moved-on-requires
 moved-on-requires c κs = search needs
@@ -33,7 +29,6 @@ pub compare-spec : {M : Type 1} → statement M
 compare-spec =
     tie.close
     (tie.spec
-    cabinet-start-requires
     lane-record-requires
     moved-on-requires
     release-requires

@@ -1,15 +1,14 @@
 -- The two tests are those of `unsampledIn`.
-use Rattle.engine.proofs.PeriodWords.{cabinet-part}
 use Rattle.engine.proofs.ClockWords.{unsampled-by}
 use borrow.Author.Needs.{needs}
 use Rattle.engine.proofs.clock.is_unsampled.Statement.{statement}
 use Rattle.engine.proofs.clock.is_unsampled.Tie as tie
 
-cabinet-start-requires : tie.Need-cabinet-start-requires
-cabinet-start-requires c κs = search needs
-
 lane-record-requires : tie.Need-lane-record-requires
-lane-record-requires c κs = search (needs, cabinet-part)
+lane-record-requires c κs = search needs
+
+index-requires : tie.Need-index-requires
+index-requires c κs = search needs
 
 add-test : tie.Need-add-test
 add-test c = search needs
@@ -33,8 +32,8 @@ pub is-unsampled-spec : {M : Type 1} → statement M
 is-unsampled-spec =
     tie.close
     (tie.spec
-    cabinet-start-requires
     lane-record-requires
+    index-requires
     add-test
     mul-test
     shared-slice-read-test

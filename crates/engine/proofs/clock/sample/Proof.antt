@@ -1,6 +1,5 @@
 -- The test is that of `sampleWords`.
 use Rattle.lanes.proofs.CabinetLaws.{fits-sample}
-use Rattle.engine.proofs.ReleaseWords.{change-lent}
 use Rattle.engine.proofs.ClockWords.{sample-copies, sample-rests}
 use borrow.Author.Needs.{needs}
 use Rattle.engine.proofs.clock.sample.Statement.{statement}
@@ -9,14 +8,8 @@ use Rattle.engine.proofs.clock.sample.Tie as tie
 is-unsampled-requires : tie.Need-is-unsampled-requires
 is-unsampled-requires c κs = search needs
 
-cabinet-start-requires : tie.Need-cabinet-start-requires
-cabinet-start-requires c κs = search needs
-
 change-lane-requires : tie.Need-change-lane-requires
-change-lane-requires c κs =
-    let at-cabinet-start : tie.After-cabinet-start = search in
-    let entry : tie.Start = search in
-    change-lent _ _ _ _ _ (entry .pre) _ (at-cabinet-start .cabinet-start .ensures) _ fits-sample
+change-lane-requires c κs = search (needs, fits-sample)
 
 same-length : tie.Need-same-length
 same-length c = search needs
@@ -35,7 +28,6 @@ sample-spec =
     tie.close
     (tie.spec
     is-unsampled-requires
-    cabinet-start-requires
     change-lane-requires
     same-length
     returns

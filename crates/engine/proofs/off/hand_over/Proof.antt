@@ -1,4 +1,4 @@
--- `engine::off::hand_over`: the queues are joined, then the generation is stored.
+-- Three queues are appended, in the order of `handedWords`, and the generation goes to rest.
 use Prim.Native.Nat.{_+_}
 use mathlib.Core.Path.{_∙_}
 use lib.ListN.{length-set}
@@ -44,7 +44,7 @@ same-length c =
     let at-append-queue2 : tie.After-append-queue2 = search in
     let at-append-queue : tie.After-append-queue = search in
     let entry : tie.Start = search in
-    length-set (at-append-queue3 .append-queue3 .last .0) (entry .args .a + generationAt) 0
+    length-set (at-append-queue3 .append-queue3 .last .0) (entry .args .lane .address + generationAt) 0
     ∙ at-append-queue3 .append-queue3 .kept .0 ∙ at-append-queue2 .append-queue2 .kept .0 ∙ at-append-queue .append-queue .kept .0
 
 returns : tie.Need-returns

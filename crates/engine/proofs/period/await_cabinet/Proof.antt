@@ -1,4 +1,4 @@
--- The cabinet's mask is stored, and its bit is set where that mask is not 0.
+-- The lane mask becomes that of the lanes that are on, and its cabinet is awaited if that is not 0.
 use Prim.Native.Nat.{ℕ}
 use mathlib.Core.Bool.{cond}
 use mathlib.Core.Path.{ap, sym}
@@ -6,16 +6,17 @@ use denote.Ref.{now}
 use borrow.Author.Tests.{ne-eqb}
 use Rattle.model.specs.Memory.{isNotZero}
 use Rattle.masks.specs.Bits.{withBit}
-use Rattle.engine.proofs.PeriodWords.{cabinet-part, awaited}
+use Rattle.words.specs.Lent.{sizesOf}
+use Rattle.engine.proofs.PeriodWords.{awaited}
 use borrow.Author.Needs.{needs}
 use Rattle.engine.proofs.period.await_cabinet.Statement.{statement}
 use Rattle.engine.proofs.period.await_cabinet.Tie as tie
 
-cabinet-start-requires : tie.Need-cabinet-start-requires
-cabinet-start-requires c κs = search needs
-
 cabinet-online-requires : tie.Need-cabinet-online-requires
-cabinet-online-requires c κs = search (needs, cabinet-part)
+cabinet-online-requires c κs = search needs
+
+index-requires : tie.Need-index-requires
+index-requires c κs = search needs
 
 add-m : tie.Need-add-m
 add-m c = search needs
@@ -31,11 +32,11 @@ same-length c = search needs
 
 returns : tie.Need-returns
 returns c =
+    let at-index : tie.After-index = search in
     let at-cabinet-online : tie.After-cabinet-online = search in
-    let at-cabinet-start : tie.After-cabinet-start = search in
     let entry : tie.Start = search in
     let s = entry .args in
-    awaited (now (s .m)) (s .cabinets) (s .places) (s .cabinet) (s .waiting) _ _ (s .waiting) (at-cabinet-start .cabinet-start .ensures) (at-cabinet-online .cabinet-online .ensures)
+    awaited (now (s .m)) (sizesOf (s .z)) (s .cabinet) (s .waiting) _ _ (s .waiting) (at-index .index .ensures) (at-cabinet-online .cabinet-online .ensures)
     (sym (ap (λ (y : ℕ). cond (isNotZero y) (withBit (s .cabinet) (s .waiting)) (s .waiting)) (c .if1 .taken)))
 
 set-bit-requires : tie.Need-set-bit-requires
@@ -51,8 +52,8 @@ pub await-cabinet-spec : {M : Type 1} → statement M
 await-cabinet-spec =
     tie.close
     (tie.spec
-    cabinet-start-requires
     cabinet-online-requires
+    index-requires
     add-m
     mul-m
     slice-write-m

@@ -1,10 +1,13 @@
--- The test is that of `clearedWords`, and each arm stores what that says.
-use Rattle.engine.proofs.ReleaseWords.{cleared-last, cleared-more}
+-- The two stores are those of `clearedWords`.
 use native.Mathlib.Omega.{arith}
 use lib.ListN.{length-set}
+use Rattle.engine.proofs.ReleaseWords.{cleared-last, cleared-more}
 use borrow.Author.Needs.{needs}
 use Rattle.engine.proofs.period.clear_pending.Statement.{statement}
 use Rattle.engine.proofs.period.clear_pending.Tie as tie
+
+index-requires : tie.Need-index-requires
+index-requires c κs = search needs
 
 add-i : tie.Need-add-i
 add-i c = search needs
@@ -49,6 +52,7 @@ pub clear-pending-spec : {M : Type 1} → statement M
 clear-pending-spec =
     tie.close
     (tie.spec
+    index-requires
     add-i
     mul-clear-bit
     slice-read-clear-bit

@@ -1,6 +1,6 @@
--- `engine::period::end_if_over`: its test is that of `overWords`.
-use borrow.Author.Needs.{needs}
+-- The test is that of `overWords`.
 use Rattle.engine.proofs.ReleaseWords.{over-ends, over-goes}
+use borrow.Author.Needs.{needs}
 use Rattle.engine.proofs.period.end_if_over.Statement.{statement}
 use Rattle.engine.proofs.period.end_if_over.Tie as tie
 

@@ -1,10 +1,8 @@
--- `engine::period::end_period`: its test is that of `endedWords`, and each way out stores what that says.
-use mathlib.Core.Path.{ap, _∙_}
-use lib.ListN.{length, set, length-set}
-use denote.Ref.{now}
+-- The test is that of `endedWords`.
+use mathlib.Core.Path.{_∙_}
+use lib.ListN.{length-set}
+use Rattle.engine.proofs.PeriodWords.{ended-rests, ended-goes}
 use borrow.Author.Needs.{needs}
-use Rattle.model.specs.Layout.{currentGenerationAt}
-use Rattle.engine.proofs.PeriodWords.{length-startedWords, ended-rests, ended-goes}
 use Rattle.engine.proofs.period.end_period.Statement.{statement}
 use Rattle.engine.proofs.period.end_period.Tie as tie
 
@@ -35,11 +33,7 @@ start-period-requires c κs = search needs
 same-length-2 : tie.Need-same-length-2
 same-length-2 c =
     let at-start-period : tie.After-start-period = search in
-    let at-up : tie.After-up = search in
-    let entry : tie.Start = search in
-    let s = entry .args in
-    let g = at-up .up .result in
-    ap length (at-start-period .start-period .ensures) ∙ length-startedWords (set (now (s .m)) currentGenerationAt g) (s .cabinets) (s .places) ∙ length-set (now (s .m)) currentGenerationAt g
+    at-start-period .start-period .kept .0 ∙ simp length-set
 
 returns-2 : tie.Need-returns-2
 returns-2 c = search (needs, ended-goes)

@@ -4,6 +4,9 @@ use borrow.Author.Needs.{needs}
 use Rattle.engine.proofs.period.pass_period.Statement.{statement}
 use Rattle.engine.proofs.period.pass_period.Tie as tie
 
+index-requires : tie.Need-index-requires
+index-requires c κs = search needs
+
 add-test : tie.Need-add-test
 add-test c = search needs
 
@@ -35,6 +38,7 @@ pub pass-period-spec : {M : Type 1} → statement M
 pass-period-spec =
     tie.close
     (tie.spec
+    index-requires
     add-test
     mul-test
     slice-read-test

@@ -1,6 +1,6 @@
--- `engine::period::request`: its test is that of `requestedWords`, and each way out leaves what that says.
-use borrow.Author.Needs.{needs}
+-- The test is that of `requestedWords`.
 use Rattle.engine.proofs.PeriodWords.{requested-goes, requested-rests}
+use borrow.Author.Needs.{needs}
 use Rattle.engine.proofs.period.request.Statement.{statement}
 use Rattle.engine.proofs.period.request.Tie as tie
 

@@ -1,6 +1,5 @@
 -- The flags are read from the cabinet's part, which are those of its lanes in the whole.
 use native.Mathlib.Omega.{arith}
-use Rattle.words.specs.Lent.{sizesOf}
 use Rattle.lanes.proofs.CabinetLaws.{row-within, online-by}
 use borrow.Author.Needs.{needs}
 use Rattle.lanes.proofs.cabinet.cabinet_online.Statement.{statement}
@@ -20,7 +19,7 @@ add-end c =
     let at-cabinet-start : tie.After-cabinet-start = search in
     let entry : tie.Start = search in
     let s = entry .args in
-    let within = row-within (sizesOf (s .z)) (s .cabinet) (entry .pre .1) in
+    let within = row-within (s .cabinet) (s .z .cabinets) (s .z .places) (entry .pre .1) in
     omega (arith, at-cabinet-start .cabinet-start .ensures, within, entry .pre .0 .few .lanes)
 
 mul-online-mask : tie.Need-mul-online-mask
@@ -28,7 +27,7 @@ mul-online-mask c =
     let at-cabinet-start : tie.After-cabinet-start = search in
     let entry : tie.Start = search in
     let s = entry .args in
-    let within = row-within (sizesOf (s .z)) (s .cabinet) (entry .pre .1) in
+    let within = row-within (s .cabinet) (s .z .cabinets) (s .z .places) (entry .pre .1) in
     omega (arith, at-cabinet-start .cabinet-start .ensures, within, entry .pre .0 .few .lanes)
 
 sub-online-mask : tie.Need-sub-online-mask
@@ -42,7 +41,7 @@ part-online-mask-end c =
     let at-cabinet-start : tie.After-cabinet-start = search in
     let entry : tie.Start = search in
     let s = entry .args in
-    let within = row-within (sizesOf (s .z)) (s .cabinet) (entry .pre .1) in
+    let within = row-within (s .cabinet) (s .z .cabinets) (s .z .places) (entry .pre .1) in
     omega (arith, at-cabinet-start .cabinet-start .ensures, within, entry .pre .0 .long)
 
 online-mask-requires : tie.Need-online-mask-requires

@@ -1,6 +1,5 @@
 -- No product wraps: the lanes before a cabinet are fewer than all.
 use native.Mathlib.Omega.{arith}
-use Rattle.words.specs.Lent.{sizesOf}
 use Rattle.lanes.proofs.CabinetLaws.{row-within}
 use borrow.Author.Needs.{needs}
 use Rattle.lanes.proofs.cabinet.cabinet_start.Statement.{statement}
@@ -10,7 +9,7 @@ mul-lane-address : tie.Need-mul-lane-address
 mul-lane-address c =
     let entry : tie.Start = search in
     let s = entry .args in
-    omega (arith, row-within (sizesOf (s .z)) (s .cabinet) (entry .pre .1), entry .pre .0 .lanes)
+    omega (arith, row-within (s .cabinet) (s .z .cabinets) (s .z .places) (entry .pre .1), entry .pre .0 .lanes)
 
 lane-address-requires : tie.Need-lane-address-requires
 lane-address-requires c κs = search needs

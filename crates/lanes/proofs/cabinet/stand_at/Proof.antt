@@ -1,6 +1,5 @@
 -- The two addresses are those of `stand`, and no sum wraps: the lane's cabinet lies within all lanes.
 use native.Mathlib.Omega.{arith}
-use Rattle.words.specs.Lent.{sizesOf}
 use Rattle.lanes.proofs.CabinetLaws.{row-within, stood}
 use borrow.Author.Needs.{needs}
 use Rattle.lanes.proofs.cabinet.stand_at.Statement.{statement}
@@ -20,7 +19,7 @@ add-address c =
     let at-cabinet-start : tie.After-cabinet-start = search in
     let entry : tie.Start = search in
     let s = entry .args in
-    omega (arith, at-cabinet-start .cabinet-start .ensures, row-within (sizesOf (s .z)) (s .cabinet) (entry .pre .1), entry .pre .0 .lanes)
+    omega (arith, at-cabinet-start .cabinet-start .ensures, row-within (s .cabinet) (s .z .cabinets) (s .z .places) (entry .pre .1), entry .pre .0 .lanes)
 
 returns : tie.Need-returns
 returns c = search (needs, stood)
