@@ -58,7 +58,8 @@ named-by m i a z ez ea = rw (ea, ez)
 -- ---- what the tests of a lane say
 
 module _ (m : List ℕ) (l : Lane) (k : Named m l) where
-  count-is : laneCount (sizesOf (l .sizes)) ≡ laneCount (sizes m)
+  -- as many lanes as the memory has
+  pub count-is : laneCount (sizesOf (l .sizes)) ≡ laneCount (sizes m)
   count-is = ap (λ (z : code-sizes.Sizes). laneCount (sizesOf z)) (k .sizes)
 
   -- the number of lanes, compared
@@ -96,6 +97,11 @@ cabinet-of l k = div-lt-iff-lt-mul {k = l .sizes .places} {x = l .number} {y = l
 -- cabinet × places + place is the lane's number
 pub lane-of : (z : Sizes) (i : ℕ) → i / z .places * z .places + i % z .places ≡ i
 lane-of z i = div-add-mod' i (z .places)
+
+-- of a legal memory
+pub cabinet-known : (m : List ℕ) (l : Lane) → LaneIn m l → l .number / sizes m .places < sizes m .cabinets
+cabinet-known m l k =
+    subst (λ (z : code-sizes.Sizes). l .number / z .places < z .cabinets) (k .named .sizes) (cabinet-of l (standing m l k))
 
 -- what the engine asks for
 pub place-lent : (m : List ℕ) (l : Lane) (p : Place) → LaneIn m l → p ≡ placeOf (sizesOf (l .sizes)) (l .number) → LaneLent m (sizesOf (l .sizes)) p

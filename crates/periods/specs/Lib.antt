@@ -1,3 +1,3 @@
--- The ways out of clock and off.
+-- What the contracts of clock and off cite.
 pub mod Others
 pub mod Ticks

@@ -9,60 +9,33 @@ ghost use Rattle.model.specs.Rules.{isOnline, refusal, off as goingOff, clock a
 ghost use Rattle.model.specs.Layout.{cabinetMaskAt};
 ghost use Rattle.model.specs.Memory.{sizes, state};
 ghost use Rattle.model.specs.Calls.{on-state};
-ghost use Rattle.representation.specs.Sound.{Sound};
 ghost use Rattle.access.specs.Contract.{Does};
-ghost use Rattle.access.specs.Lanes.{LaneIn};
+ghost use Rattle.access.specs.Lanes.{Named, LaneIn};
 ghost use Rattle.periods.specs.Others.{others};
-ghost use Rattle.periods.specs.Ticks.{standingOf, takenOff, tickWords, periodWord};
+ghost use Rattle.periods.specs.Ticks.{takenOff, tickWords, periodWord};
 use access::causes;
-
-// ---- a lane in its table
-
-// The sizes of the table, where its slots' records begin, and a lane's cabinet and place.
-pub struct Standing {
-    pub cabinets: usize,
-    pub places: usize,
-    pub base: usize,
-    pub slots: u32,
-    pub cabinet: u32,
-    pub place: u32,
-}
-
-// Where a lane stands.
-fn stands_at(m: &[u32], lane: u32) -> Standing
-    requires { ⌜ LaneIn (now m) lane ⌝ }
-    ensures { λ r. ⌜ r ≡ standingOf (now (m .entry)) lane ⌝ }
-{
-    let slots = m[words::SLOTS_AT];
-    Standing {
-        cabinets: words::index(m[words::CABINETS_AT]),
-        places: words::index(m[words::PLACES_AT]),
-        base: access::slots_start(m),
-        slots,
-        cabinet: access::cabinet_of(m, lane),
-        place: access::place_of(m, lane),
-    }
-}
 
 // ---- off
 
 // Whether lane i is on, and is not `lane`.
-fn is_other_online(m: &[u32], lane: u32, i: u32) -> bool
+fn is_other_online(m: &[u32], lane: access::Lane, i: u32) -> bool
     requires { ⌜ (LaneIn (now m) lane) × (i < laneCount (sizes (now m))) ⌝ }
-    ensures { λ r. ⌜ r ≡ isOnline (getD (others (state (now (m .entry))) lane) i freshLane) ⌝ }
+    ensures { λ r. ⌜ r ≡ isOnline (getD (others (state (now (m .entry))) (lane .number)) i freshLane) ⌝ }
 {
-    if i == lane {
+    if i == lane.number {
         return false;
     }
-    access::is_online(m, i)
+    let other = access::lane_at(m, i);
+    access::is_online(m, other)
 }
 
 // Whether a lane other than `lane` is on.
-fn another_online(m: &[u32], lane: u32) -> bool
+fn another_online(m: &[u32], lane: access::Lane) -> bool
     requires { ⌜ LaneIn (now m) lane ⌝ }
-    ensures { λ r. ⌜ r ≡ any isOnline (others (state (now (m .entry))) lane) ⌝ }
+    ensures { λ r. ⌜ r ≡ any isOnline (others (state (now (m .entry))) (lane .number)) ⌝ }
 {
-    let n = access::lane_count(m);
+    let z = lane.sizes;
+    let n = words::lane_count(z);
     let mut i: u32 = 0;
     while i < n {
         if is_other_online(m, lane, i) {
@@ -74,9 +47,9 @@ fn another_online(m: &[u32], lane: u32) -> bool
 }
 
 // The number of the cause that refuses it, 0 where none does.
-fn off_refusal(m: &[u32], lane: u32) -> u32
-    requires { ⌜ Sound (now m) ⌝ }
-    ensures { λ r. ⌜ r ≡ refusal (state (now (m .entry))) (goingOff lane) ⌝ }
+fn off_refusal(m: &[u32], lane: access::Lane) -> u32
+    requires { ⌜ Named (now m) lane ⌝ }
+    ensures { λ r. ⌜ r ≡ refusal (state (now (m .entry))) (goingOff (lane .number)) ⌝ }
 {
     let n = access::lane_refusal(m, lane);
     if n > 0 {
@@ -92,18 +65,19 @@ fn off_refusal(m: &[u32], lane: u32) -> u32
 }
 
 // The words after a lane went off.
-fn take_off(m: &mut [u32], lane: u32)
+fn take_off(m: &mut [u32], lane: access::Lane)
     requires { ⌜ LaneIn (now m) lane ⌝ }
-    ensures { λ _. ⌜ now (m .exit) ≡ takenOff (now (m .entry)) lane ⌝ }
+    ensures { λ _. ⌜ now (m .exit) ≡ takenOff (now (m .entry)) (lane .number) ⌝ }
 {
-    let s = stands_at(m, lane);
-    engine::off::off(m, s.cabinets, s.places, s.base, s.slots, s.cabinet, s.place);
+    let z = lane.sizes;
+    let place = access::place_of(lane);
+    engine::off::off(m, z, place);
 }
 
 // A lane goes off.
-pub fn off(m: &mut [u32], lane: u32) -> access::Answer
-    requires { ⌜ Sound (now m) ⌝ }
-    ensures { λ r. ⌜ Does (on-state (goingOff lane)) (now (m .entry)) r (now (m .exit)) ⌝ }
+pub fn off(m: &mut [u32], lane: access::Lane) -> access::Answer
+    requires { ⌜ Named (now m) lane ⌝ }
+    ensures { λ r. ⌜ Does (on-state (goingOff (lane .number))) (now (m .entry)) r (now (m .exit)) ⌝ }
 {
     let n = off_refusal(m, lane);
     if n > 0 {
@@ -116,12 +90,13 @@ pub fn off(m: &mut [u32], lane: u32) -> access::Answer
 // ---- clock
 
 // The words after the clock of a lane.
-fn tick(m: &mut [u32], lane: u32)
+fn tick(m: &mut [u32], lane: access::Lane)
     requires { ⌜ LaneIn (now m) lane ⌝ }
-    ensures { λ _. ⌜ now (m .exit) ≡ tickWords (now (m .entry)) lane ⌝ }
+    ensures { λ _. ⌜ now (m .exit) ≡ tickWords (now (m .entry)) (lane .number) ⌝ }
 {
-    let s = stands_at(m, lane);
-    engine::clock::clock(m, s.cabinets, s.places, s.base, s.slots, s.cabinet, s.place);
+    let z = lane.sizes;
+    let place = access::place_of(lane);
+    engine::clock::clock(m, z, place);
 }
 
 // 1 if a grace period runs, else 0.
@@ -133,9 +108,9 @@ fn is_period(m: &[u32]) -> u32
 }
 
 // The clock of a lane: grace periods are driven on.
-pub fn clock(m: &mut [u32], lane: u32) -> access::Answer
-    requires { ⌜ Sound (now m) ⌝ }
-    ensures { λ r. ⌜ Does (on-state (clocking lane)) (now (m .entry)) r (now (m .exit)) ⌝ }
+pub fn clock(m: &mut [u32], lane: access::Lane) -> access::Answer
+    requires { ⌜ Named (now m) lane ⌝ }
+    ensures { λ r. ⌜ Does (on-state (clocking (lane .number))) (now (m .entry)) r (now (m .exit)) ⌝ }
 {
     let n = access::lane_refusal(m, lane);
     if n > 0 {

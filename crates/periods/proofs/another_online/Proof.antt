@@ -1,4 +1,4 @@
--- `another_online`. The loop's invariant: the lanes from i on decide. The measure is the lanes that are left.
+-- The loop's invariant: the lanes from i on decide. The measure is the lanes that are left.
 use Prim.Native.Nat.{_-_, _≤_}
 use mathlib.Core.Path.{_≡_, refl, sym, _∙_}
 use native.Mathlib.Omega.{arith}
@@ -8,13 +8,16 @@ use Rattle.model.specs.Rules.{isOnline}
 use Rattle.model.specs.Engine.{freshLane}
 use Rattle.model.specs.Memory.{state}
 use Rattle.laws.specs.Loops.{any-found, any-next, any-none}
-use Rattle.periods.specs.Others.{others, others-length}
+use Rattle.access.proofs.LaneLaws.{count-is}
+use Rattle.periods.specs.Others.{others}
+use Rattle.periods.proofs.OtherLanes.{others-length}
 use borrow.Author.Needs.{needs}
 use Rattle.periods.proofs.another_online.Statement.{statement}
 use Rattle.periods.proofs.another_online.Tie as tie
 
 abbrev Inv-loop : tie.InvT-loop
-Inv-loop m lane n i₀ i = (i ≤ n) × (any isOnline (drop i (others (state m) lane)) ≡ any isOnline (others (state m) lane))
+Inv-loop m lane n i₀ i =
+    (i ≤ n) × (any isOnline (drop i (others (state m) (lane .number))) ≡ any isOnline (others (state m) (lane .number)))
 
 abbrev μ-loop : tie.MeasureT-loop
 μ-loop m lane n i₀ i = n - i
@@ -26,7 +29,11 @@ loop-holds : tie.Need-loop-holds Inv-loop μ-loop
 loop-holds c = (omega arith, refl)
 
 is-other-online-requires : tie.Need-is-other-online-requires Inv-loop μ-loop
-is-other-online-requires c κs = search needs
+is-other-online-requires c κs =
+    let at-loop-test : tie.In-loop Inv-loop μ-loop = search in
+    let at-lane-count : tie.After-lane-count Inv-loop μ-loop = search in
+    let entry : tie.Start Inv-loop μ-loop = search in
+    (entry .pre, omega (arith, at-loop-test .loop-test .taken, at-lane-count .lane-count .ensures, count-is _ _ (entry .pre .named)))
 
 returns : tie.Need-returns Inv-loop μ-loop
 returns c =

@@ -1,8 +1,7 @@
--- `clock`: a law for each way out.
-use native.Mathlib.Omega.{arith}
-use Rattle.access.proofs.Ways.{refuses, long}
-use Rattle.access.specs.Lanes.{lane-in}
-use Rattle.periods.specs.Ticks.{clock-refusal, clock-done}
+-- A law for each way out.
+use Rattle.access.proofs.Ways.{refuses}
+use Rattle.access.proofs.LaneLaws.{lane-in}
+use Rattle.periods.proofs.TickLaws.{clock-refusal, clock-done}
 use borrow.Author.Needs.{needs}
 use Rattle.periods.proofs.clock.Statement.{statement}
 use Rattle.periods.proofs.clock.Tie as tie
@@ -23,22 +22,13 @@ tick-requires : tie.Need-tick-requires
 tick-requires c κs = search (needs, lane-in)
 
 is-period-requires : tie.Need-is-period-requires
-is-period-requires c κs =
-    let at-tick : tie.After-tick = search in
-    let entry : tie.Start = search in
-    omega (arith, long _ (entry .pre), (at-tick .tick .kept .0))
+is-period-requires c κs = search needs
 
 slice-read-current : tie.Need-slice-read-current
-slice-read-current c =
-    let at-tick : tie.After-tick = search in
-    let entry : tie.Start = search in
-    omega (arith, long _ (entry .pre), (at-tick .tick .kept .0))
+slice-read-current c = search needs
 
 slice-read-largest : tie.Need-slice-read-largest
-slice-read-largest c =
-    let at-tick : tie.After-tick = search in
-    let entry : tie.Start = search in
-    omega (arith, long _ (entry .pre), (at-tick .tick .kept .0))
+slice-read-largest c = search needs
 
 accepted-requires : tie.Need-accepted-requires
 accepted-requires c κs = search needs
@@ -47,13 +37,7 @@ same-length-2 : tie.Need-same-length-2
 same-length-2 c = search needs
 
 returns-2 : tie.Need-returns-2
-returns-2 c =
-    let at-is-period : tie.After-is-period = search in
-    let at-tick : tie.After-tick = search in
-    let at-if1 : tie.Else1 = search in
-    let at-lane-refusal : tie.After-lane-refusal = search in
-    let entry : tie.Start = search in
-    clock-done _ (entry .pre) (entry .args .lane) _ (at-if1 .if1 .left) _ _ _ (clock-refusal _ _ _ (at-lane-refusal .lane-refusal .ensures)) (at-tick .tick .ensures) (at-is-period .is-period .ensures) (c .accepted .ensures)
+returns-2 c = search (needs, clock-done)
 
 pub clock-spec : {M : Type 1} → statement M
 clock-spec =

@@ -1,6 +1,6 @@
 -- `off`: a law for each way out.
 use Rattle.access.proofs.Ways.{refuses}
-use Rattle.periods.specs.Ticks.{off-lane, off-done}
+use Rattle.periods.proofs.TickLaws.{off-lane, off-done}
 use borrow.Author.Needs.{needs}
 use Rattle.periods.proofs.off.Statement.{statement}
 use Rattle.periods.proofs.off.Tie as tie

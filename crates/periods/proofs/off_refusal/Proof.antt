@@ -1,7 +1,7 @@
 -- The tests of `off_refusal` are the causes of its call, in their order.
 use Rattle.model.specs.Rules.{causes}
 use Rattle.access.proofs.Refusals.{refusals}
-use Rattle.access.specs.Lanes.{lane-in}
+use Rattle.access.proofs.LaneLaws.{lane-in}
 use borrow.Author.Needs.{needs}
 use Rattle.periods.proofs.off_refusal.Statement.{statement}
 use Rattle.periods.proofs.off_refusal.Tie as tie

@@ -1,0 +1,3 @@
+-- The ways out of clock and off.
+pub mod OtherLanes
+pub mod TickLaws
