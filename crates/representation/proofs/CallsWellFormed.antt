@@ -3,5 +3,6 @@ pub mod EngineFields
 pub mod Tables
 pub mod TableGifts
 pub mod NextLanes
+pub mod NextTables
 pub mod Next
 pub mod Fresh

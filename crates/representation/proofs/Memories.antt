@@ -12,7 +12,7 @@ use Rattle.model.specs.Memory.{Words, sizes, words, state}
 use Rattle.model.specs.Legal.{legal}
 use Rattle.model.specs.Calls.{Call, set-up, on-state, sized, stored, refusalOf, replyOf, leftOf, reply, left, leftAll}
 use Rattle.representation.specs.Sound.{Sound}
-use Rattle.representation.proofs.Causes.Passed.{sizes-performed, sizes-next}
+use Rattle.representation.proofs.CallsWellFormed.Next.{sizes-performed, sizes-next}
 use Rattle.representation.proofs.Addresses.Writes.{length-words}
 use Rattle.representation.proofs.Round.{ready, legal-wellFormed, words-state, state-words, Agree, legal-past, one-to-one}
 use Rattle.representation.proofs.MemoryCalls.{reply-illegal, left-illegal, refusal-legal, reply-legal, left-legal, next-legal, next-words, left-setUp, setUp-legal, setUp-words}

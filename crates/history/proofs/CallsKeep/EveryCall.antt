@@ -13,9 +13,10 @@ use Rattle.model.specs.Calls.{Call, set-up, on-state}
 use Rattle.model.specs.Ledger.{Entry, Search, Ledger, entryOf, isAnswer, fed, fedCall}
 use Rattle.model.specs.Ledger.{entryMade, entryStruck, slotOut, slotBack, sectionOpened, sectionEnded, searchNoted, searchAnswered}
 use Rattle.laws.specs.Tests.{clash, cond-cases, eqb-self}
-use Rattle.representation.proofs.Causes.Passed.{call-cases, status}
+use Rattle.representation.proofs.Causes.Passed.{call-cases}
 use Rattle.representation.proofs.Causes.Accepted.{accepts}
 use Rattle.representation.proofs.WellFormed.{WellFormed}
+use Rattle.representation.proofs.CallsWellFormed.Next.{status}
 use Rattle.history.proofs.Ties.Invariant.{Invariant}
 use Rattle.history.proofs.CallsKeep.Respects.{Keeps}
 use Rattle.history.proofs.CallsKeep.Unseen.{keeps-same, keeps-pass, keeps-on, keeps-clock, keeps-off}

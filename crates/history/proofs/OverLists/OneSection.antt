@@ -9,8 +9,9 @@ use Rattle.model.specs.Rules.{Op, begin, Answer, firstOf, causes, result, answe
 use Rattle.model.specs.Calls.{Call, set-up, on-state, left}
 use Rattle.model.specs.Ledger.{Section, Ledger, Event, sectionOf, sectionOpened, fedCall, ledger, events}
 use Rattle.laws.specs.Tests.{clash}
-use Rattle.representation.proofs.Causes.Passed.{call-cases, status}
+use Rattle.representation.proofs.Causes.Passed.{call-cases}
 use Rattle.representation.proofs.Causes.Accepted.{accepts}
+use Rattle.representation.proofs.CallsWellFormed.Next.{status}
 use Rattle.history.proofs.Ties.Invariant.{Invariant}
 use Rattle.history.proofs.CallsKeep.EveryCall.{Changed, fed-cases, fedCall-accepted, fedCall-refused}
 use Rattle.history.proofs.OverLists.Instants.{ledger-snoc}
