@@ -16,6 +16,7 @@ use Rattle.representation.proofs.Discipline.Frame.{ended-cases}
 use Rattle.representation.proofs.Discipline.Requests.{raised}
 use Rattle.representation.proofs.Discipline.Ages.{none as noneA, old, now, soon, Strict, Clean, Disciplined, level-anew, strict-anew}
 use Rattle.representation.proofs.Discipline.GenerationsKept.{own-released, tidy-clocked, tidy-wentOff}
+use Rattle.representation.proofs.ExtraWords.{extra-off}
 use Rattle.representation.proofs.WellFormed.{LaneFits, SnapshotFits, Generations}
 
 -- ---- lanes through the engine
@@ -25,7 +26,7 @@ module _ (n : ℕ) where
   Fits e = (i : ℕ) → LaneFits n (laneAt e i)
 
   awaiting-fits : (l : Lane) → LaneFits n l → LaneFits n (awaiting l)
-  awaiting-fits l f = record { counts = f .counts; lookup = f .lookup; snapshot = held-on (l .snapshot) (f .snapshot); off = λ o. let u = f .off o in record { reading = u .reading; pending = o; queues = u .queues } }
+  awaiting-fits l f = record { counts = f .counts; lookup = f .lookup; snapshot = held-on (l .snapshot) (f .snapshot); off = λ o. let u = f .off o in record { reading = u .reading; pending = o; queues = u .queues }; extra = f .extra }
     where
       lit : l .pending ≡ true → (b : Bool) → l .online ≡ b → l .online ≡ true
       lit p true q = q
@@ -40,7 +41,7 @@ module _ (n : ℕ) where
   fits-started e f = map-cases freshLane (λ (i : ℕ) (l : Lane). LaneFits n l) (e .lanes) awaiting f (λ i b. awaiting-fits (laneAt e i) (f i))
 
   released-fits : (l : Lane) → LaneFits n l → LaneFits n (setPending false unheld l)
-  released-fits l f = record { counts = f .counts; lookup = f .lookup; snapshot = tt; off = λ o. let u = f .off o in record { reading = u .reading; pending = refl; queues = u .queues } }
+  released-fits l f = record { counts = f .counts; lookup = f .lookup; snapshot = tt; off = λ o. let u = f .off o in record { reading = u .reading; pending = refl; queues = u .queues }; extra = f .extra }
 
   fits-at : (i : ℕ) (g : Lane → Lane) (e : Engine) → LaneFits n (g (laneAt e i)) → Fits e → Fits (atLane i g e)
   fits-at i g e k f = update-cases freshLane (λ (j : ℕ) (l : Lane). LaneFits n l) (e .lanes) i g f k
@@ -57,8 +58,8 @@ module _ (n : ℕ) where
   unfolding requested
   fits-requested g e f = cond-cases Fits (runs e) (λ r. f) (λ r. fits-started (withLargest (raised g e) e) f)
 
-  queued-fits : (q : Queues) (l : Lane) → l .online ≡ true → LaneFits n l → LaneFits n (setQueues q l)
-  queued-fits q l o f = record { counts = f .counts; lookup = f .lookup; snapshot = f .snapshot; off = λ x. clash o x }
+  pub queued-fits : (q : Queues) (l : Lane) → l .online ≡ true → LaneFits n l → LaneFits n (setQueues q l)
+  queued-fits q l o f = record { counts = f .counts; lookup = f .lookup; snapshot = f .snapshot; off = λ x. clash o x; extra = f .extra }
 
   fits-advancedLane : (i : ℕ) (e : Engine) → laneAt e i .online ≡ true → Fits e → Fits (advancedLane i e)
   unfolding advancedLane
@@ -79,7 +80,7 @@ module _ (n : ℕ) where
   sampled-fits : (l : Lane) → LaneFits n l → LaneFits n (sampled l)
   unfolding sampled
   sampled-fits l f = cond-cases (LaneFits n) (l .pending && not (isHeld (l .snapshot)))
-      (λ r. record { counts = f .counts; lookup = f .lookup; snapshot = (refl, f .counts); off = λ o. clash (and-true (l .pending) (not (isHeld (l .snapshot))) r .0) (f .off o .pending) })
+      (λ r. record { counts = f .counts; lookup = f .lookup; snapshot = (refl, f .counts); off = λ o. clash (and-true (l .pending) (not (isHeld (l .snapshot))) r .0) (f .off o .pending); extra = f .extra })
       (λ r. f)
 
   pub fits-clocked : (i : ℕ) (e : Engine) → laneAt e i .online ≡ true → Fits e → Fits (clocked i e)
@@ -109,7 +110,7 @@ module _ (n : ℕ) where
       d = withGlobal (taken (e .global) (laneAt e i .queues)) e
 
       gone : LaneFits n (setPending false unheld (emptied (laneAt e i)))
-      gone = let g = f i in record { counts = g .counts; lookup = g .lookup; snapshot = tt; off = λ o. record { reading = r; pending = refl; queues = refl } }
+      gone = let g = f i in record { counts = g .counts; lookup = g .lookup; snapshot = tt; off = λ o. record { reading = r; pending = refl; queues = refl }; extra = extra-off (laneAt e i) (g .extra) }
 
   empty-off : (e : Engine) → Fits e → (i : ℕ) → laneAt e i .online ≡ false → isEmpty (laneAt e i .queues .current) ≡ true
   unfolding isEmpty

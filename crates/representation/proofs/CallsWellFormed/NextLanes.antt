@@ -18,6 +18,7 @@ use Rattle.laws.specs.ListLaws.{length-update, update-cases}
 use Rattle.laws.specs.Sums.{sum, sum-update-same}
 use Rattle.representation.proofs.Discipline.Frame.{inQueues, inLane, queued, Frame, frame-clocked, frame-wentOff}
 use Rattle.representation.proofs.Causes.SlotCounts.{inTable}
+use Rattle.representation.proofs.ExtraWords.{extra-on}
 use Rattle.representation.proofs.WellFormed.{WellFormed, LaneFits, TableFits, LookupFits, Generations, standing}
 use Rattle.representation.proofs.FromState.Standing.{head-range, chainLink-range}
 use Rattle.representation.proofs.CallsWellFormed.EngineFields.{Fits, fits-clocked, fits-wentOff, generations-at, generations-clocked, generations-wentOff}
@@ -80,14 +81,14 @@ module _ (s : State) (w : WellFormed s) where
 
   pub well-begin : (i : ℕ) → laneOf s i .online ≡ true → WellFormed (withLane s i (setReading true))
   well-begin i o = at-lane i (setReading true) (λ l. refl) (λ l. refl)
-      (let f = w .fits i in record { counts = f .counts; lookup = reading-fits (laneOf s i .lookup) _ (f .lookup); snapshot = f .snapshot; off = λ x. clash o x })
+      (let f = w .fits i in record { counts = f .counts; lookup = reading-fits (laneOf s i .lookup) _ (f .lookup); snapshot = f .snapshot; off = λ x. clash o x; extra = f .extra })
 
   pub well-end : (i : ℕ) → isRunning (laneOf s i .lookup) ≡ false → WellFormed (withLane s i (setReading false))
   well-end i h = at-lane i (setReading false) (λ l. refl) (λ l. refl)
-      (let f = w .fits i in record { counts = f .counts; lookup = idle-fits (laneOf s i .lookup) false h; snapshot = f .snapshot; off = λ x. let u = f .off x in record { reading = refl; pending = u .pending; queues = u .queues } })
+      (let f = w .fits i in record { counts = f .counts; lookup = idle-fits (laneOf s i .lookup) false h; snapshot = f .snapshot; off = λ x. let u = f .off x in record { reading = refl; pending = u .pending; queues = u .queues }; extra = f .extra })
 
   looks : (i : ℕ) (k : Lookup) → LookupFits n (laneOf s i .reading) k → LaneFits n (setLookup k (laneOf s i))
-  looks i k h = let f = w .fits i in record { counts = f .counts; lookup = h; snapshot = f .snapshot; off = λ x. let u = f .off x in record { reading = u .reading; pending = u .pending; queues = u .queues } }
+  looks i k h = let f = w .fits i in record { counts = f .counts; lookup = h; snapshot = f .snapshot; off = λ x. let u = f .off x in record { reading = u .reading; pending = u .pending; queues = u .queues }; extra = f .extra }
 
   pub well-start : (i c : ℕ) → laneOf s i .reading ≡ true → c ≤ maxCode → WellFormed (withLane s i (setLookup (running c (first (chainOf t c)))))
   well-start i c r h = at-lane i (setLookup (running c (first (chainOf t c)))) (λ l. refl) (λ l. refl) (looks i _ (r, h, head-range s w (c % chainCount)))
@@ -113,10 +114,11 @@ module _ (s : State) (w : WellFormed s) where
         lookup = f .lookup;
         snapshot = f .snapshot;
         off = λ x. let u = f .off x in record { reading = u .reading; pending = u .pending; queues = u .queues };
+        extra = f .extra;
       })
 
   pub well-on : (i : ℕ) → WellFormed (withLane s i (setOnline true))
-  well-on i = at-lane i (setOnline true) (λ l. refl) (λ l. refl) (let f = w .fits i in record { counts = f .counts; lookup = f .lookup; snapshot = f .snapshot; off = λ x. clash refl x })
+  well-on i = at-lane i (setOnline true) (λ l. refl) (λ l. refl) (let f = w .fits i in record { counts = f .counts; lookup = f .lookup; snapshot = f .snapshot; off = λ x. clash refl x; extra = extra-on (laneOf s i) (f .extra) })
 
   -- ---- the engine anew
 

@@ -13,14 +13,14 @@ use Rattle.model.specs.State.{Lane, Engine, Product, Table, State, laneCount}
 use Rattle.model.specs.Engine.{freshLane}
 use Rattle.model.specs.Table.{slotOf, present, linkOf, added, replaced, deleted, reclaimed}
 use Rattle.model.specs.Rules.{laneOf, with, retired, handedBack, lessHandedBack, fromGlobal, lessDone, reclaiming}
-use Rattle.laws.specs.Tests.{clash, cond-cases, same-or}
+use Rattle.laws.specs.Tests.{cond-cases, same-or}
 use Rattle.laws.specs.ListLaws.{length-update, update-cases}
 use Rattle.laws.specs.Counts.{mark, mark-self, mark-other}
 use Rattle.representation.proofs.Discipline.Frame.{queued}
 use Rattle.representation.proofs.Causes.SlotCounts.{inTable, in-added, in-replaced, in-deleted, in-reclaimed, in-retired, in-handed}
 use Rattle.representation.proofs.WellFormed.{WellFormed, LaneFits, TableFits, ProductFits, Generations}
 use Rattle.representation.proofs.FromState.Standing.{fit, at-most-one, table-once, table-below}
-use Rattle.representation.proofs.CallsWellFormed.EngineFields.{Fits, generations-at, generations-global}
+use Rattle.representation.proofs.CallsWellFormed.EngineFields.{Fits, queued-fits, generations-at, generations-global}
 use Rattle.representation.proofs.CallsWellFormed.Tables.{deleted-fits, reclaimed-fits}
 use Rattle.representation.proofs.CallsWellFormed.TableGifts.{added-fits, replaced-fits}
 use Rattle.representation.proofs.CallsWellFormed.NextLanes.{anew, in-lanes}
@@ -51,8 +51,7 @@ module _ (s : State) (w : WellFormed s) where
       → ((x : ℕ) → inTable x u + mark x o ≡ inTable x t) → u .links ≡ set (t .links) o (linkOf t o) → WellFormed (with s (retired s i o) u)
   well-retire i o u b lit h same l = anew s w (retired s i o) u (record {
     size = length-update (e .lanes) i _;
-    fits = update-cases freshLane (λ (j : ℕ) (l : Lane). LaneFits n l) (e .lanes) i _ (w .fits)
-        (let f = w .fits i in record { counts = f .counts; lookup = f .lookup; snapshot = f .snapshot; off = λ x. clash lit x });
+    fits = update-cases freshLane (λ (j : ℕ) (l : Lane). LaneFits n l) (e .lanes) i _ (w .fits) (queued-fits n _ (laneOf s i) lit (w .fits i));
     table = h;
     same = λ x. omega (arith, same x, in-retired s i (in-lanes s w i b) x o);
     unlinked = λ x q. rw l (kept x q (same-or x o));
@@ -85,7 +84,7 @@ module _ (s : State) (w : WellFormed s) where
     size = cond-cases (λ (f : Engine). length (f .lanes) ≡ length (e .lanes)) (fromGlobal s i) (λ r. refl) (λ r. length-update (e .lanes) i _);
     fits = cond-cases (Fits n) (fromGlobal s i) (λ r. w .fits)
         (λ r. update-cases freshLane (λ (j : ℕ) (l : Lane). LaneFits n l) (e .lanes) i reclaiming (w .fits)
-        (let f = w .fits i in record { counts = f .counts; lookup = f .lookup; snapshot = f .snapshot; off = λ x. clash o x }));
+        (queued-fits n _ (laneOf s i) o (w .fits i)));
     table = reclaimed-fits n t (w .table) (fit s w .fewSlots) (table-once s w) (table-below s w) k
         (omega (arith, at-most-one s w k, handed-out k, mark-self k)) inside;
     same = λ x. omega (arith, in-reclaimed t (w .table .chains) x k, handed-out x);

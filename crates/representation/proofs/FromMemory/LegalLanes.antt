@@ -94,4 +94,5 @@ module _ (m : List ℕ) (l : Legal m) (word : WordsTo (total (sizes m)) m) where
     lookup = lookup-fits i;
     snapshot = snapshot-fits i;
     off = off-of i;
+    extra = f .extra i;
   }

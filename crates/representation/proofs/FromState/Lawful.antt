@@ -120,6 +120,7 @@ module _ (e : Engine) (t : Table) (m : List ℕ) (w : WellFormed (sized e t m)) 
     largest = largest-fits e (periodRuns m) runs-is (w .generations .word) (w .generations .largest);
     lanesNear = λ i. lane-near e (periodRuns m) (laneAt e i) runs-is (w .generations .word) (w .generations .largest) (w .generations .lanes i);
     globalNear = global-near e (w .generations .word) (w .generations .global);
+    extra = λ i. w .fits i .extra;
   }
 
   lawful-sized : legal m ≡ true

@@ -9,9 +9,10 @@ use Rattle.model.specs.Lists.{first, from, concatMap}
 use Rattle.model.specs.State.{Sizes, laneCount, Lookup, idle, running, Snapshot, unheld, held, Lane, Engine, Table, isHeld, isRunning}
 use Rattle.model.specs.Layout.{kinds, currentOffset, doneOffset, onlineBit, readingBit, lookupBit, snapshotBit, quiescentAt, snapshotAt, generationAt, queuesAt, lookupAt, positionAt, laneLength, laneAddress}
 use Rattle.model.specs.Engine.{laneAt, freshLane}
-use Rattle.model.specs.Memory.{at, sizes, wholeOf, low, high, flag, flags, lookupCode, lookupPosition, snapshotCount, laneWords, laneQueues, maskWord, readQueues, readLane, readLookup, readCounts, readSnapshot}
-use Rattle.laws.specs.ListLaws.{map-from-getD}
+use Rattle.model.specs.Memory.{at, sizes, wholeOf, low, high, flag, flags, lookupCode, lookupPosition, snapshotCount, laneWords, laneWord, laneQueues, maskWord, readQueues, readLane, readLookup, readCounts, readSnapshot}
+use Rattle.laws.specs.ListLaws.{map-from-getD, map-from-alike}
 use Rattle.laws.specs.Masks.{flag-mask}
+use Rattle.representation.proofs.ExtraWords.{extraAt, extraCount, extraWords, lane-path}
 use Rattle.representation.proofs.WellFormed.{WellFormed, SnapshotFits}
 use Rattle.representation.proofs.Addresses.Fields.{mask, lane, value}
 use Rattle.representation.proofs.Addresses.Writes.{Image}
@@ -106,17 +107,18 @@ module _ (e : Engine) (t : Table) (m : List ℕ) where
       pending-is =
           ap (flag (i % z .places)) (holds (mask (i / z .places)) (cabinet-below (sized e t m) (fit (sized e t m) w .somePlaces) i b)) ∙ flag-laneMask (sized e t m) (fit (sized e t m) w .somePlaces) i
 
+      extra-are : extraWords (readLane m i) ≡ extraWords l
+      unfolding readLane laneWords from
+      extra-are = map-from-alike (laneWord m i) (λ (k : ℕ). getD (laneWords l) k 0) extraAt extraCount (λ k u v. word k (omega arith) (a + k) refl)
+
       lane-is : readLane m i ≡ l
       unfolding readLane
-      lane-is = λ j. record {
-        online = flag-is onlineBit j;
-        reading = flag-is readingBit j;
-        lookup = (ap (readLookup m (a + lookupAt)) (flag-is lookupBit) ∙ lookup-is (l .lookup) refl) j;
-        quiescent = counts-are j;
-        snapshot = (ap (readSnapshot m (a + snapshotAt)) (flag-is snapshotBit) ∙ snapshot-is (l .snapshot) refl (w .fits i .snapshot)) j;
-        pending = pending-is j;
-        queues = queues-are j;
-      }
+      lane-is =
+          lane-path (flag-is onlineBit) (flag-is readingBit)
+          (ap (readLookup m (a + lookupAt)) (flag-is lookupBit) ∙ lookup-is (l .lookup) refl)
+          counts-are
+          (ap (readSnapshot m (a + snapshotAt)) (flag-is snapshotBit) ∙ snapshot-is (l .snapshot) refl (w .fits i .snapshot))
+          pending-is queues-are extra-are
 
     pub lanes-are : map (readLane m) (from 0 (laneCount z)) ≡ e .lanes
     lanes-are = map-from-getD (readLane m) freshLane (e .lanes) (laneCount z) (w .lanes) lane-is

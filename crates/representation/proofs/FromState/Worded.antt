@@ -20,7 +20,8 @@ use Rattle.laws.specs.ListLaws.{getD-right}
 use Rattle.laws.specs.Elements.{Each, each-getD}
 use Rattle.laws.specs.Masks.{mask-lt, mask-from-lt}
 use Rattle.representation.proofs.Discipline.Ages.{none as noneA, old, now, soon, Level, rests, goes, Strict, Clean}
-use Rattle.representation.proofs.WellFormed.{Word, WellFormed, LookupFits, SnapshotFits, SlotOrNone}
+use Rattle.representation.proofs.ExtraWords.{Word, extra-words}
+use Rattle.representation.proofs.WellFormed.{WellFormed, LookupFits, SnapshotFits, SlotOrNone}
 use Rattle.representation.proofs.Addresses.Fields.{Field, top, head, end, mask as maskF, lane, slot, Inside, value, place, topWords, endWords}
 use Rattle.representation.proofs.Addresses.Writes.{length-words, words-field}
 use Rattle.representation.proofs.FromState.Standing.{fit, head-range, chainLink-range, queueLink-range, position-range, free-ends, global-ends, lane-ends}
@@ -119,7 +120,7 @@ module _ (s : State) (w : WellFormed s) where
       & slot-word _ (r .current .first) & slot-word _ (r .current .last)
       & slot-word _ (r .done .first) & slot-word _ (r .done .last)
       & k .low & k .high & slot-word _ (position-range s w i)
-      & tt
+      & extra-words l (f .extra)
 
   slot-words : (x : ℕ) → Each Word (slotWords s x)
   unfolding slotWords

@@ -14,6 +14,7 @@ use Rattle.model.specs.Table.{chainNumber}
 use Rattle.model.specs.Rules.{wrongCode, wrongProduct}
 use Rattle.model.specs.Memory.{at, wide, sizes, laneWord, slotWord, maskWord, state, contents, allQueues, flag, isNotZero}
 use Rattle.model.specs.Legal.{sizesFit, codeOf, cabinetBits, largestFits, periodRuns}
+use Rattle.representation.proofs.ExtraWords.{ExtraFits}
 use Rattle.representation.proofs.WellFormed.{SlotOrNone}
 
 -- ---- sizes
@@ -135,6 +136,8 @@ module _ (m : List ℕ) (s : State) where
     pub lanesNear : (i : ℕ) → isEmpty (laneAt (s .engine) i .queues .current) ≡ false → Near (s .engine .current) (s .engine .largest) (periodRuns m) (laneAt (s .engine) i)
     -- the global one's is at or one after, again not later than the largest requested
     pub globalNear : isEmpty (s .engine .global .current) ≡ false → NearGlobal (s .engine .current) (s .engine .largest) (s .engine .global)
+    -- the words of lanes after their lookups
+    pub extra : (i : ℕ) → ExtraFits (laneAt (s .engine) i)
 
 -- ---- legal
 

@@ -19,6 +19,7 @@ use Rattle.model.specs.Legal.{implies, laneNumbers, slotNumbers, cabinetNumbers
 use Rattle.laws.specs.Tests.{_&_, clash, and-true, and-intro, or-cases, or-else, Every, every-true, every-intro, all-from, all-below, all-getD}
 use Rattle.laws.specs.Elements.{isEmpty-true}
 use Rattle.laws.specs.Counts.{all-count, member-false}
+use Rattle.representation.proofs.ExtraWords.{extra-said}
 use Rattle.representation.proofs.Sentences.Ranges.{slotOrNone-true}
 use Rattle.representation.proofs.Sentences.Facts.{EndsInRange, QueuesInRange, Lasts, LookupRest, Bare, Blank, Near, NearGlobal, Facts}
 
@@ -112,7 +113,7 @@ module _ (m : List ℕ) (s : State) where
 
   pub facts : Every (sentences m s) → Facts m s
   unfolding flagsInRange masksInRange linksInRange fieldsInRange standsOnce lastsAgree onTheirChains noCodeTwice snapshotsAtRest lookupsAtRest generationsAtRest queueLinksAtRest offLanes lookupsInSections snapshotsPending cabinetBits freeBlank largestAgrees laneGenerations globalGeneration isEmpty isRunning isHeld
-  facts (flagged, (masked, (linked, (fielded, (once, (lasts, (chains, (codes, (snapshots, (lookups, (rests, (lines, (off, (sections, (helds, (bits, (free, (largest, (lanes, (global, end)))))))))))))))))))) =
+  facts (flagged, (masked, (linked, (fielded, (once, (lasts, (chains, (codes, (snapshots, (lookups, (rests, (lines, (off, (sections, (helds, (bits, (free, (largest, (lanes, (global, extra)))))))))))))))))))) =
       let masks = and-true (ltb (at m cabinetMaskAt) (2 ^ sizes m .cabinets)) (all (λ (c : ℕ). ltb (maskWord m c) (2 ^ sizes m .places)) (cabinetNumbers m)) masked in
       let (heads, (freeEnds, (globalEnds, (laneLinks, (chainLinks, (queueLinks, rest)))))) = every-true (linkSentences m) linked in
       let fields = and-true (all (λ (i : ℕ). let b = slotAddress (sizes m) i in not (wrongProduct (wide m b) (at m (b + depositAt)) (at m (b + materialAt)))) (slotNumbers m)) (all (λ (i : ℕ). not (wrongCode (wide m (laneAddress (sizes m) i + lookupAt)))) (laneNumbers m)) fielded in
@@ -152,4 +153,5 @@ module _ (m : List ℕ) (s : State) where
         largest = largest;
         lanesNear = λ i. near-true (s .engine .current) (s .engine .largest) (periodRuns m) (laneAt (s .engine) i) (all-getD freshLane _ (s .engine .lanes) refl lanes i);
         globalNear = nearGlobal-true (s .engine .current) (s .engine .largest) (s .engine .global) global;
+        extra = extra-said m s extra;
       }

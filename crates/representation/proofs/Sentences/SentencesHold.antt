@@ -18,6 +18,7 @@ use Rattle.model.specs.Memory.{at, sizes, laneWord, slotWord, maskWord, allQueu
 use Rattle.model.specs.Legal.{implies, endsInRange, queuesInRange, flagsInRange, masksInRange, linkSentences, linksInRange, fieldsInRange, standsOnce, lastsAgree, onTheirChains, noCodeTwice, snapshotsAtRest, lookupsAtRest, generationAtRest, generationsAtRest, queueLinksAtRest, noneQueued, offLanes, lookupsInSections, snapshotsPending, cabinetBits, freeBlank, laneGenerationFits, globalGenerationFits, periodRuns, largestAgrees, laneGenerations, globalGeneration, sentences}
 use Rattle.laws.specs.Tests.{_&_, and-true, and-intro, or-left, or-right, or-else-intro, Every, every-intro, all-from-intro, all-below-intro, all-getD-intro, same, other, decide}
 use Rattle.laws.specs.Counts.{all-count-intro, member-true}
+use Rattle.representation.proofs.ExtraWords.{extra-hold}
 use Rattle.representation.proofs.Sentences.Ranges.{slotOrNone-intro}
 use Rattle.representation.proofs.Sentences.Facts.{EndsInRange, QueuesInRange, LookupRest, Bare, Near, NearGlobal, Facts}
 use Rattle.representation.proofs.Sentences.FactsSaid.{implies-intro, lasts-intro}
@@ -127,4 +128,4 @@ module _ (m : List ℕ) (s : State) where
       & f .largest
       & all-getD-intro freshLane _ (s .engine .lanes) (λ i. near-intro (s .engine .current) (s .engine .largest) (periodRuns m) (laneAt (s .engine) i) (f .lanesNear i))
       & nearGlobal-intro (s .engine .current) (s .engine .largest) (s .engine .global) (f .globalNear)
-      & tt
+      & extra-hold m s (f .extra)
