@@ -184,7 +184,8 @@ clearedLink =
 abbrev pub traps : List Row
 traps =
     map (script 200)
-    (chainLinkStays ∷ replacedInPlace ∷ noBatchJoins ∷ snapshotAnew ∷ offWhileIdle ∷ offWaitsAnew ∷ freeInOrder ∷ replacedUnderway ∷ offInOrder ∷ ownFirst ∷ clearedLink ∷ [])
+    (chainLinkStays ∷ replacedInPlace ∷ noBatchJoins ∷ snapshotAnew ∷ offWhileIdle
+    ∷ offWaitsAnew ∷ freeInOrder ∷ replacedUnderway ∷ offInOrder ∷ ownFirst ∷ clearedLink ∷ [])
 
 -- each script comes out
 pub traps-hold : map run traps ≡ map expected traps
