@@ -1,5 +1,6 @@
 -- Calls keep a state well-formed.
 pub mod EngineFields
+pub mod EngineGenerations
 pub mod Tables
 pub mod TableGifts
 pub mod NextLanes

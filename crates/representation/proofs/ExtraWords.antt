@@ -41,7 +41,15 @@ extra-words l f = omega arith
 pub lane-path : {l k : Lane} → l .online ≡ k .online → l .reading ≡ k .reading → l .lookup ≡ k .lookup → l .quiescent ≡ k .quiescent
     → l .snapshot ≡ k .snapshot → l .pending ≡ k .pending → l .queues ≡ k .queues → extraWords l ≡ extraWords k → l ≡ k
 unfolding laneWords
-lane-path o r h c s p q x = λ j. record { online = o j; reading = r j; lookup = h j; quiescent = c j; snapshot = s j; pending = p j; queues = q j }
+lane-path o r h c s p q x = λ j. record {
+  online = o j;
+  reading = r j;
+  lookup = h j;
+  quiescent = c j;
+  snapshot = s j;
+  pending = p j;
+  queues = q j;
+}
 
 -- ---- the calls
 

@@ -20,7 +20,8 @@ use Rattle.representation.proofs.Discipline.Frame.{queued}
 use Rattle.representation.proofs.Causes.SlotCounts.{inTable, in-added, in-replaced, in-deleted, in-reclaimed, in-retired, in-handed}
 use Rattle.representation.proofs.WellFormed.{WellFormed, LaneFits, TableFits, ProductFits, Generations}
 use Rattle.representation.proofs.FromState.Standing.{fit, at-most-one, table-once, table-below}
-use Rattle.representation.proofs.CallsWellFormed.EngineFields.{Fits, queued-fits, generations-at, generations-global}
+use Rattle.representation.proofs.CallsWellFormed.EngineFields.{Fits, queued-fits}
+use Rattle.representation.proofs.CallsWellFormed.EngineGenerations.{generations-at, generations-global}
 use Rattle.representation.proofs.CallsWellFormed.Tables.{deleted-fits, reclaimed-fits}
 use Rattle.representation.proofs.CallsWellFormed.TableGifts.{added-fits, replaced-fits}
 use Rattle.representation.proofs.CallsWellFormed.NextLanes.{anew, in-lanes}

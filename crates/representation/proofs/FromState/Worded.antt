@@ -24,7 +24,8 @@ use Rattle.representation.proofs.ExtraWords.{Word, extra-words}
 use Rattle.representation.proofs.WellFormed.{WellFormed, LookupFits, SnapshotFits, SlotOrNone}
 use Rattle.representation.proofs.Addresses.Fields.{Field, top, head, end, mask as maskF, lane, slot, Inside, value, place, topWords, endWords}
 use Rattle.representation.proofs.Addresses.Writes.{length-words, words-field}
-use Rattle.representation.proofs.FromState.Standing.{fit, head-range, chainLink-range, queueLink-range, position-range, free-ends, global-ends, lane-ends}
+use Rattle.representation.proofs.FromState.Standing.{fit, head-range, chainLink-range, queueLink-range}
+use Rattle.representation.proofs.FromState.Standing.{position-range, free-ends, global-ends, lane-ends}
 use Rattle.representation.proofs.FromState.Periods.{cabinetMask-from}
 
 module _ (s : State) (w : WellFormed s) where
@@ -126,7 +127,8 @@ module _ (s : State) (w : WellFormed s) where
   unfolding slotWords
   slot-words x =
       let f = w .table .inRange x in
-      omega arith & omega (arith, f .code) & omega (arith, f .deposit) & omega (arith, f .material) & slot-word _ (chainLink-range s w x) & slot-word _ (queueLink-range s w x) & tt
+      omega arith & omega (arith, f .code) & omega (arith, f .deposit) & omega (arith, f .material)
+      & slot-word _ (chainLink-range s w x) & slot-word _ (queueLink-range s w x) & tt
 
   value-word : (f : Field) → Inside z f → Word (value s f)
   unfolding contents laneWords slotWords
