@@ -45,7 +45,7 @@ changesCode c (on-state (off i)) = false
 changesCode c (on-state (hand-back i)) = false
 changesCode c (on-state awaited) = false
 
--- P holds of the ledger g, and of what any change of it makes that call o may be: an entry's only of a code that o changes, a new section only of begin
+-- P holds of the ledger g and after each change that call o may make of it: entries change only for a code that o changes, begin alone opens a section
 pub record Changed (P : Ledger → Type 0) (o : Op) (g : Ledger) : Type 0 where
   pub same : P g
   pub made : (e : Entry) → changesCode (e .code) (on-state o) ≡ true → P (entryMade e g)
