@@ -8,7 +8,7 @@ use Rattle.model.specs.Lists.{drops, tail}
 use Rattle.model.specs.Rules.{add, replace, delete, begin, end, start, step}
 use Rattle.model.specs.Calls.{set-up, left}
 use Rattle.model.specs.Ledger.{Section, Entry, Search, Out, Ledger, fed, fedCall, ledgerFrom, ledger, events, searchIn}
-use Rattle.cases.specs.Scripts.{Line, line, op, callOf, answered, lentWords}
+use Rattle.cases.specs.Scripts.{Line, op, setUp123, callOf, answered, lentWords}
 use Rattle.cases.specs.Stars.{listing}
 
 -- what the ledger holds at an instant
@@ -68,7 +68,7 @@ listed =
 
 abbrev pub edges : List Line
 edges =
-    line (set-up 1 2 3) 0 145 0 0 0
+    setUp123
     ∷ op (add 0 17 25 1) 0 0 0 0 0
     ∷ op (begin 0) 0 0 0 0 0
     ∷ op (start 0 24) 0 0 0 0 0

@@ -4,14 +4,19 @@ use mathlib.Core.Bool.{Bool}
 use mathlib.Core.List.{List, [], _∷_, map}
 use lib.ListN.{replicate}
 use Rattle.model.specs.Word.{later}
-use Rattle.model.specs.Lists.{update, isEmpty, any, all, tail, concat, every, concatMap, from, first, last, count, member, same, distinct, successor, successorIn, without, swapped, bit, mask}
+use Rattle.model.specs.Lists.{update, isEmpty, any, all, tail, concat, every, concatMap, from, first, last, count}
+use Rattle.model.specs.Lists.{member, same, distinct, successor, successorIn, without, swapped, bit, mask}
 use Rattle.model.specs.State.{isRunning, isHeld}
-use Rattle.model.specs.Engine.{started, ended, released, counted, settled, ready, target, requested, advancedLane, advancedGlobal, differs, sampled, clocked, wentOff}
+use Rattle.model.specs.Engine.{started, ended, released, counted, settled, ready, target, requested}
+use Rattle.model.specs.Engine.{advancedLane, advancedGlobal, differs, sampled, clocked, wentOff}
 use Rattle.model.specs.Table.{slotIn, added, replaced, deleted, reclaimed}
 use Rattle.model.specs.Rules.{Op, Answer, firstOf, causes, outcomeAnswer, outcome, continued, performed, pendingFrom, queuedIn, result, fresh}
-use Rattle.model.specs.Memory.{contents, flags, lookupCode, lookupPosition, snapshotCount, laneWords, slotWords, globalWords, words, walk, readChains, readLane, readProduct, state}
-use Rattle.model.specs.Legal.{sizesFit, contentsAgree, flagsInRange, masksInRange, linksInRange, fieldsInRange, standsOnce, lastsAgree, onTheirChains, noCodeTwice, snapshotsAtRest, lookupsAtRest, generationsAtRest, queueLinksAtRest, offLanes, lookupsInSections, snapshotsPending, cabinetBits, freeBlank, largestAgrees, laneGenerations, globalGeneration, legal}
-use Rattle.model.specs.Calls.{Call, on-state, refusalOf, replyOf, leftOf, reply, left, replies}
+use Rattle.model.specs.Memory.{contents, flags, lookupCode, lookupPosition, snapshotCount, laneWords, slotWords}
+use Rattle.model.specs.Memory.{globalWords, words, walk, readChains, readLane, readProduct, state}
+use Rattle.model.specs.Legal.{sizesFit, contentsAgree, flagsInRange, masksInRange, linksInRange, fieldsInRange, standsOnce, lastsAgree, onTheirChains}
+use Rattle.model.specs.Legal.{noCodeTwice, snapshotsAtRest, lookupsAtRest, generationsAtRest, queueLinksAtRest, offLanes, lookupsInSections}
+use Rattle.model.specs.Legal.{snapshotsPending, cabinetBits, freeBlank, largestAgrees, laneGenerations, globalGeneration, legal}
+use Rattle.model.specs.Calls.{Call, set-up, on-state, refusalOf, replyOf, leftOf, reply, left, replies}
 
 -- the five words of an answer
 abbrev pub fiveWords : Answer → List ℕ
@@ -43,6 +48,26 @@ pub data Line : Type 0 where
 -- the same for a call that is no set-up
 abbrev pub op : Op → (status a b c d : ℕ) → Line
 op k = line (on-state k)
+
+-- ---- set-ups, with the totals that they must answer
+
+abbrev pub setUp111 : Line
+setUp111 = line (set-up 1 1 1) 0 114 0 0 0
+
+abbrev pub setUp112 : Line
+setUp112 = line (set-up 1 1 2) 0 120 0 0 0
+
+abbrev pub setUp123 : Line
+setUp123 = line (set-up 1 2 3) 0 145 0 0 0
+
+abbrev pub setUp124 : Line
+setUp124 = line (set-up 1 2 4) 0 151 0 0 0
+
+-- the largest table's
+abbrev pub largestTotal : ℕ
+largestTotal = 7456
+
+-- ---- what a script must give, and what it gives
 
 abbrev pub callOf : Line → Call
 callOf (line k s a b c d) = k

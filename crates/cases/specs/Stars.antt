@@ -1,5 +1,5 @@
 -- The cases that document 01 marks with a star ("A listing, and edges", last paragraph), in its order.
-use Prim.Native.Nat.{ℕ, _<_}
+use Prim.Native.Nat.{ℕ, _-_, _<_}
 use mathlib.Core.Path.{_≡_, refl}
 use mathlib.Core.Bool.{true, false}
 use mathlib.Core.List.{List, [], _∷_, map}
@@ -7,12 +7,12 @@ use Rattle.model.specs.Word.{wordLimit, later}
 use Rattle.model.specs.Rules.{add, replace, delete, begin, end, start, step, pass, clock, hand-back, awaited}
 use Rattle.model.specs.Calls.{set-up}
 use Rattle.laws.specs.Generations.{later-self}
-use Rattle.cases.specs.Scripts.{Line, line, op, Row, script, order, expected, run}
+use Rattle.cases.specs.Scripts.{Line, line, op, setUp111, setUp112, setUp123, largestTotal, Row, script, order, expected, run}
 
 -- the listing
 abbrev pub listing : List Line
 listing =
-    line (set-up 1 2 3) 0 145 0 0 0
+    setUp123
     ∷ op (add 0 17 25 1) 0 0 0 0 0
     ∷ op (begin 1) 0 0 0 0 0
     ∷ op (start 1 17) 0 0 0 0 0
@@ -35,7 +35,7 @@ listing =
 -- replace with code missing and no free slot
 abbrev pub missingFirst : List Line
 missingFirst =
-    line (set-up 1 1 1) 0 114 0 0 0
+    setUp111
     ∷ op (add 0 17 25 1) 0 0 0 0 0
     ∷ op (replace 0 24 25 1) 13 0 0 0 0
     ∷ []
@@ -43,7 +43,7 @@ missingFirst =
 -- a lookup stands on a slot that is then deleted, and goes on to what follows it
 abbrev pub deletedUnderway : List Line
 deletedUnderway =
-    line (set-up 1 1 2) 0 120 0 0 0
+    setUp112
     ∷ op (add 0 192 25 1) 0 0 0 0 0
     ∷ op (add 0 0 30 2) 0 1 0 0 0
     ∷ op (begin 0) 0 0 0 0 0
@@ -56,11 +56,11 @@ deletedUnderway =
 abbrev pub stars : List Row
 stars =
     script 16000 listing
-    ∷ script 7455 (line (set-up 8 8 1024) 2 0 0 0 0 ∷ [])
-    ∷ script 7456 (line (set-up 8 8 1024) 0 7456 0 0 0 ∷ [])
+    ∷ script (largestTotal - 1) (line (set-up 8 8 1024) 2 0 0 0 0 ∷ [])
+    ∷ script largestTotal (line (set-up 8 8 1024) 0 largestTotal 0 0 0 ∷ [])
     ∷ script 16000 (line (set-up 1 2 0) 1 0 0 0 0 ∷ line (set-up 1 2 1025) 1 0 0 0 0 ∷ [])
-    ∷ script 16000 (line (set-up 1 2 3) 0 145 0 0 0 ∷ op (add 0 9999999999999 25 1) 0 0 0 0 0 ∷ op (add 0 10000000000000 25 1) 11 0 0 0 0 ∷ [])
-    ∷ script 16000 (line (set-up 1 2 3) 0 145 0 0 0 ∷ op (begin 2) 4 0 0 0 0 ∷ [])
+    ∷ script 16000 (setUp123 ∷ op (add 0 9999999999999 25 1) 0 0 0 0 0 ∷ op (add 0 10000000000000 25 1) 11 0 0 0 0 ∷ [])
+    ∷ script 16000 (setUp123 ∷ op (begin 2) 4 0 0 0 0 ∷ [])
     ∷ order 0 4294967295 true
     ∷ order 4294967295 0 false
     ∷ order 0 0 false

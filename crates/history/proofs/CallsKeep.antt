@@ -1,4 +1,4 @@
--- Every call keeps the invariant.
+-- A fresh state has the invariant, and every call keeps it.
 pub mod SlotFacts
 pub mod Respects
 pub mod Unseen
@@ -12,3 +12,4 @@ pub mod Removed
 pub mod Remove
 pub mod Reclaim
 pub mod EveryCall
+pub mod Start

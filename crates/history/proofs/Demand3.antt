@@ -9,7 +9,7 @@ use Rattle.model.specs.Calls.{Call, set-up, sized, refusalOf, replyOf, reply, l
 use Rattle.model.specs.Ledger.{ledgerFrom, events, RefusesSetUps, Demand3}
 use Rattle.representation.proofs.CallsWellFormed.Fresh.{fresh-wellFormed}
 use Rattle.representation.proofs.MemoryCalls.{setUp-accepted, left-setUp}
-use Rattle.history.proofs.CallsKeep.EveryCall.{invariant-fresh}
+use Rattle.history.proofs.CallsKeep.Start.{invariant-fresh}
 use Rattle.history.proofs.OverLists.Stands.{Stands, stands-stored}
 use Rattle.history.proofs.OverLists.ListInvariant.{At}
 use Rattle.history.proofs.OverLists.Instants.{past}

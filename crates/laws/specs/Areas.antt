@@ -83,7 +83,8 @@ address-onto (x ∷ xs) n h =
     elim (decLt n (size x)) [
       | yes p ↦
           let w = x .width in
-          let some : 0 < w = elim (decLt 0 w) [ yes q ↦ q | no q ↦ absurd (let z : w ≡ 0 = omega arith in let y : n < 0 * x .count = rw z at p in omega arith) ] in
+          let some : 0 < w =
+          elim (decLt 0 w) [ yes q ↦ q | no q ↦ absurd (let z : w ≡ 0 = omega arith in let y : n < 0 * x .count = rw z at p in omega arith) ] in
           record {
             area = 0;
             row = n / w;
@@ -149,13 +150,16 @@ laidOut-append [] ys = refl
 laidOut-append (x ∷ xs) ys = ap (λ (r : List ℕ). areaWords x ++ r) (laidOut-append xs ys) ∙ sym (append-assoc (areaWords x) (laidOut xs) (laidOut ys))
 
 length-area : (x : Area) → length (areaWords x) ≡ size (x .place)
-length-area x = length-blocks (x .row) (x .place .width) 0 (from 0 (x .place .count)) (λ i h. x .filled _) ∙ ap (λ (n : ℕ). x .place .width * n) (length-from 0 (x .place .count))
+length-area x =
+    length-blocks (x .row) (x .place .width) 0 (from 0 (x .place .count)) (λ i h. x .filled _)
+    ∙ ap (λ (n : ℕ). x .place .width * n) (length-from 0 (x .place .count))
 
 pub length-laidOut : (xs : List Area) → length (laidOut xs) ≡ extent (places xs)
 length-laidOut [] = refl
 length-laidOut (x ∷ xs) = omega (arith, length-append (areaWords x) (laidOut xs), length-area x, length-laidOut xs)
 
-pub getD-laidOut : (xs : List Area) (a i k : ℕ) → Within (places xs) a i k → getD (laidOut xs) (address (places xs) a i k) 0 ≡ getD (getD xs a noArea .row i) k 0
+pub getD-laidOut : (xs : List Area) (a i k : ℕ) → Within (places xs) a i k
+    → getD (laidOut xs) (address (places xs) a i k) 0 ≡ getD (getD xs a noArea .row i) k 0
 getD-laidOut [] a i k h = absurd (omega arith)
 getD-laidOut (x ∷ xs) zero i k h =
     let w = x .place .width in

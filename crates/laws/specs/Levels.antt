@@ -32,7 +32,8 @@ module _ {A : Type 0} (h : ℕ → A) where
 
   map-from-add : (a n : ℕ) → map h (from 0 (a + n)) ≡ map h (from 0 a) ++ map (λ (p : ℕ). h (a + p)) (from 0 n)
   unfolding from
-  map-from-add a n = let e : 0 + a ≡ a = omega arith in go 0 a ∙ ap (λ (r : List A). map h (from 0 a) ++ r) (ap (λ (k : ℕ). map h (from k n)) e ∙ map-from-shift a n)
+  map-from-add a n =
+      let e : 0 + a ≡ a = omega arith in go 0 a ∙ ap (λ (r : List A). map h (from 0 a) ++ r) (ap (λ (k : ℕ). map h (from k n)) e ∙ map-from-shift a n)
     where
       go : (b a : ℕ) → map h (from b (a + n)) ≡ map h (from b a) ++ map h (from (b + a) n)
       go b zero =

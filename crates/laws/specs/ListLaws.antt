@@ -131,7 +131,8 @@ module _ {A : Type 0} where
       (λ i b. let c : i < n = omega (arith, length-map-from f 0 n) in getD-map-below f n i d c ∙ h i c)
 
   -- two functions that differ at one place
-  pub map-from-set : (g g′ : ℕ → A) (a n h : ℕ) (v : A) → h < n → ((k : ℕ) → g′ k ≡ cond (eqb k (a + h)) v (g k)) → map g′ (from a n) ≡ set (map g (from a n)) h v
+  pub map-from-set : (g g′ : ℕ → A) (a n h : ℕ) (v : A) → h < n → ((k : ℕ) → g′ k ≡ cond (eqb k (a + h)) v (g k))
+      → map g′ (from a n) ≡ set (map g (from a n)) h v
   unfolding from
   map-from-set g g′ a zero h v b e = absurd (omega arith)
   map-from-set g g′ a (suc n) zero v b e =

@@ -71,8 +71,13 @@ and-complement (suc k) w a h l =
 pub and-clear : (k : ℕ) (bs : List Bool) (p : ℕ) → length bs ≤ k → p < length bs → bitAnd (mask bs) ((2 ^ k - 1) - 2 ^ p) ≡ mask (set bs p false)
 unfolding bit
 and-clear k bs p l h =
-    omega
-    (arith, and-complement k (mask bs) (2 ^ p) (mask-lt-pow k bs l) (pow-lt (omega arith)), and-bit (mask bs) p, ap (λ (b : Bool). bit b * 2 ^ p) (flag-mask bs p), mask-set bs p false h)
+    omega (
+      arith,
+      and-complement k (mask bs) (2 ^ p) (mask-lt-pow k bs l) (pow-lt (omega arith)),
+      and-bit (mask bs) p,
+      ap (λ (b : Bool). bit b * 2 ^ p) (flag-mask bs p),
+      mask-set bs p false h,
+    )
   where
     mask-lt-pow : (k : ℕ) (bs : List Bool) → length bs ≤ k → mask bs < 2 ^ k
     mask-lt-pow k bs l = omega (arith, mask-lt bs, pow-mono l)
@@ -113,7 +118,8 @@ trailing-mask zero (b ∷ bs) l h = absurd (omega arith)
 trailing-mask (suc k) (b ∷ bs) l h =
     ap₂ (λ (x y : ℕ). under x (trailingZeros k y)) (mask-mod b bs) (mask-div b bs) ∙ go b (λ q. trailing-mask k bs (omega arith) q) h
   where
-    go : (b : Bool) → (some bs ≡ true → trailingZeros k (mask bs) ≡ firstTrue bs) → (b || some bs) ≡ true → under (bit b) (trailingZeros k (mask bs)) ≡ cond b 0 (suc (firstTrue bs))
+    go : (b : Bool) → (some bs ≡ true → trailingZeros k (mask bs) ≡ firstTrue bs) → (b || some bs) ≡ true
+        → under (bit b) (trailingZeros k (mask bs)) ≡ cond b 0 (suc (firstTrue bs))
     go true ih h = refl
     go false ih h = ap suc (ih h)
 

@@ -102,7 +102,8 @@ pub mask-append : (xs ys : List Bool) → mask (xs ++ ys) ≡ mask xs + 2 ^ leng
 unfolding mask
 mask-append [] ys = omega arith
 mask-append (x ∷ xs) ys =
-    let d : 2 ^ suc (length xs) * mask ys ≡ 2 * (2 ^ length xs * mask ys) = ap (λ (k : ℕ). k * mask ys) (pow-twice (length xs)) ∙ mul-assoc 2 (2 ^ length xs) (mask ys) in
+    let d : 2 ^ suc (length xs) * mask ys ≡ 2 * (2 ^ length xs * mask ys) =
+    ap (λ (k : ℕ). k * mask ys) (pow-twice (length xs)) ∙ mul-assoc 2 (2 ^ length xs) (mask ys) in
     omega (arith, mask-append xs ys, d)
 
 -- one flag more: `mask | (1 << n)` where it is set

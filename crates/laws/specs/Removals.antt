@@ -23,7 +23,9 @@ beforeIn-not [] o x y h k q = h q
 beforeIn-not (z ∷ xs) o x y h k q =
     elim (decide z o) [
       | same e t u ↦ h (rw t at q)
-      | other e t u ↦ beforeIn-not xs o x z (λ r. absurd (let v : eqb x z ≡ true = eq-eqb x z r in let w : 1 + count x xs ≡ 0 = rw v at k in omega arith)) (omega arith) (rw t at q)
+      | other e t u ↦
+          beforeIn-not xs o x z (λ r. absurd (let v : eqb x z ≡ true = eq-eqb x z r in let w : 1 + count x xs ≡ 0 = rw v at k in omega arith))
+          (omega arith) (rw t at q)
     ]
 
 -- what stands before o is not o

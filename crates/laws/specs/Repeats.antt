@@ -29,7 +29,8 @@ module _ (f : ℕ → ℕ) where
         | other e t u ↦ or-right (eqb (f x) (f y)) (member (f x) (map f xs)) (member-map-true xs x (let k : 0 < 0 + count x xs = rw t at b in omega arith))
       ]
 
-  pub distinct-map-intro : (xs : List ℕ) → ((x : ℕ) → count x xs ≤ 1) → ((x y : ℕ) → 0 < count x xs → 0 < count y xs → f x ≡ f y → x ≡ y) → distinct (map f xs) ≡ true
+  pub distinct-map-intro : (xs : List ℕ) → ((x : ℕ) → count x xs ≤ 1) → ((x y : ℕ) → 0 < count x xs → 0 < count y xs → f x ≡ f y → x ≡ y)
+      → distinct (map f xs) ≡ true
   unfolding count distinct
   distinct-map-intro [] u h = refl
   distinct-map-intro (x ∷ xs) u h =

@@ -59,7 +59,8 @@ module _ {A : Type 0} where
       rw e (getD-sets xs (set m a x) (suc a) k d (let l = length-set m a x in omega arith) (omega arith))
 
   -- a change within a run of stores
-  pub update-sets : (xs m : List A) (d : A) (a k : ℕ) (f : A → A) → a + length xs ≤ length m → k < length xs → update (sets m a xs) (a + k) f ≡ sets m a (update xs k f)
+  pub update-sets : (xs m : List A) (d : A) (a k : ℕ) (f : A → A) → a + length xs ≤ length m → k < length xs
+      → update (sets m a xs) (a + k) f ≡ sets m a (update xs k f)
   update-sets xs m d a k f fits h =
       update-set d (sets m a xs) (a + k) f
       ∙ ap (λ (x : A). set (sets m a xs) (a + k) (f x)) (getD-sets xs m a k d fits h)

@@ -130,7 +130,8 @@ pub all-from-intro : (p : ℕ → Bool) (a n : ℕ) → ((i : ℕ) → i < n →
 unfolding all from
 all-from-intro p a zero h = refl
 all-from-intro p a (suc n) h =
-    and-intro (p a) (all p (from (suc a) n)) (ap p (omega arith) ∙ h 0 (omega arith)) (all-from-intro p (suc a) n (λ i b. ap p (omega arith) ∙ h (suc i) (omega arith)))
+    and-intro (p a) (all p (from (suc a) n)) (ap p (omega arith) ∙ h 0 (omega arith))
+    (all-from-intro p (suc a) n (λ i b. ap p (omega arith) ∙ h (suc i) (omega arith)))
 
 pub all-below-intro : (p : ℕ → Bool) (n : ℕ) → ((i : ℕ) → i < n → p i ≡ true) → all p (from 0 n) ≡ true
 all-below-intro p n h = all-from-intro p 0 n (λ i b. ap p (omega arith) ∙ h i b)

@@ -21,22 +21,28 @@ laneAt e i = getD (e .lanes) i freshLane
 -- ---- one field anew
 
 abbrev pub setOnline : Bool → Lane → Lane
-setOnline b l = record { online = b; reading = l .reading; lookup = l .lookup; quiescent = l .quiescent; snapshot = l .snapshot; pending = l .pending; queues = l .queues }
+setOnline b l =
+    record { online = b; reading = l .reading; lookup = l .lookup; quiescent = l .quiescent; snapshot = l .snapshot; pending = l .pending; queues = l .queues }
 
 abbrev pub setReading : Bool → Lane → Lane
-setReading b l = record { online = l .online; reading = b; lookup = l .lookup; quiescent = l .quiescent; snapshot = l .snapshot; pending = l .pending; queues = l .queues }
+setReading b l =
+    record { online = l .online; reading = b; lookup = l .lookup; quiescent = l .quiescent; snapshot = l .snapshot; pending = l .pending; queues = l .queues }
 
 abbrev pub setLookup : Lookup → Lane → Lane
-setLookup k l = record { online = l .online; reading = l .reading; lookup = k; quiescent = l .quiescent; snapshot = l .snapshot; pending = l .pending; queues = l .queues }
+setLookup k l =
+    record { online = l .online; reading = l .reading; lookup = k; quiescent = l .quiescent; snapshot = l .snapshot; pending = l .pending; queues = l .queues }
 
 abbrev pub setQuiescent : List ℕ → Lane → Lane
-setQuiescent c l = record { online = l .online; reading = l .reading; lookup = l .lookup; quiescent = c; snapshot = l .snapshot; pending = l .pending; queues = l .queues }
+setQuiescent c l =
+    record { online = l .online; reading = l .reading; lookup = l .lookup; quiescent = c; snapshot = l .snapshot; pending = l .pending; queues = l .queues }
 
 abbrev pub setPending : Bool → Snapshot → Lane → Lane
-setPending b s l = record { online = l .online; reading = l .reading; lookup = l .lookup; quiescent = l .quiescent; snapshot = s; pending = b; queues = l .queues }
+setPending b s l =
+    record { online = l .online; reading = l .reading; lookup = l .lookup; quiescent = l .quiescent; snapshot = s; pending = b; queues = l .queues }
 
 abbrev pub setQueues : Queues → Lane → Lane
-setQueues q l = record { online = l .online; reading = l .reading; lookup = l .lookup; quiescent = l .quiescent; snapshot = l .snapshot; pending = l .pending; queues = q }
+setQueues q l =
+    record { online = l .online; reading = l .reading; lookup = l .lookup; quiescent = l .quiescent; snapshot = l .snapshot; pending = l .pending; queues = q }
 
 abbrev pub setNext : List ℕ → Queues → Queues
 setNext xs q = record { next = xs; current = q .current; done = q .done; generation = q .generation }

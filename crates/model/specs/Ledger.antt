@@ -69,7 +69,12 @@ entryStruck c g = record { entries = drops (ofCode c) (g .entries); sections = g
 
 -- the slot is out, with every section open now, of any lane
 abbrev pub slotOut : ℕ → Ledger → Ledger
-slotOut x g = record { entries = g .entries; sections = g .sections; searches = g .searches; outs = record { slot = x; sections = g .sections } ∷ drops (ofSlot x) (g .outs) }
+slotOut x g = record {
+  entries = g .entries;
+  sections = g .sections;
+  searches = g .searches;
+  outs = record { slot = x; sections = g .sections } ∷ drops (ofSlot x) (g .outs);
+}
 
 -- the slot is out no longer
 abbrev pub slotBack : ℕ → Ledger → Ledger

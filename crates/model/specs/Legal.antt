@@ -8,7 +8,9 @@ use lib.Dec.{leb, ltb, eqb}
 use Rattle.model.specs.Word.{none, up, down, later}
 use Rattle.model.specs.Lists.{all, every, isEmpty, from, last, concat, count, member, same, distinct}
 use Rattle.model.specs.State.{Sizes, laneCount, isRunning, isHeld, Queues, Lane, State}
-use Rattle.model.specs.Layout.{maxCabinets, maxPlaces, maxSlots, kinds, chainCount, contentsLength, lastOffset, currentOffset, doneOffset, cabinetMaskAt, headsAt, freeAt, globalQueuesAt, lookupBit, snapshotBit, flagCount, flagsAt, snapshotAt, queuesAt, lookupAt, positionAt, depositAt, materialAt, chainLinkAt, queueLinkAt, laneAddress, slotAddress, total}
+use Rattle.model.specs.Layout.{maxCabinets, maxPlaces, maxSlots, kinds, chainCount, contentsLength, lastOffset, currentOffset, doneOffset}
+use Rattle.model.specs.Layout.{cabinetMaskAt, headsAt, freeAt, globalQueuesAt, lookupBit, snapshotBit, flagCount, flagsAt, snapshotAt, queuesAt}
+use Rattle.model.specs.Layout.{lookupAt, positionAt, depositAt, materialAt, chainLinkAt, queueLinkAt, laneAddress, slotAddress, total}
 use Rattle.model.specs.Engine.{laneAt}
 use Rattle.model.specs.Table.{productAt, chainNumber}
 use Rattle.model.specs.Rules.{wrongCode, wrongProduct}
@@ -17,7 +19,10 @@ use Rattle.model.specs.Memory.{at, wide, sizes, laneWord, slotWord, mask
 -- cabinets 1 to 8, lanes per cabinet 1 to 8, slots 1 to 1,024
 unfoldable pub sizesFit : Sizes → Bool
 sizesFit z =
-    every (leb 1 (z .cabinets) ∷ leb (z .cabinets) maxCabinets ∷ leb 1 (z .places) ∷ leb (z .places) maxPlaces ∷ leb 1 (z .slots) ∷ leb (z .slots) maxSlots ∷ [])
+    every
+    (leb 1 (z .cabinets) ∷ leb (z .cabinets) maxCabinets
+    ∷ leb 1 (z .places) ∷ leb (z .places) maxPlaces
+    ∷ leb 1 (z .slots) ∷ leb (z .slots) maxSlots ∷ [])
 
 abbrev pub implies : Bool → Bool → Bool
 implies a b = not a || b

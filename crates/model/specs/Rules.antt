@@ -9,7 +9,8 @@ use Rattle.model.specs.Word.{none}
 use Rattle.model.specs.Lists.{isEmpty, any, first, tail, from}
 use Rattle.model.specs.State.{Sizes, laneCount, Lookup, idle, running, isRunning, Queues, Lane, Engine, Product, Table, State}
 use Rattle.model.specs.Layout.{maxCode, maxDeposit, maxMaterial, kinds, chainCount}
-use Rattle.model.specs.Engine.{noQueues, freshLane, laneAt, setQueues, setNext, setDone, setOnline, setReading, setLookup, atLane, withGlobal, runs, counted, clocked, wentOff}
+use Rattle.model.specs.Engine.{noQueues, freshLane, laneAt, setQueues, setNext, setDone, setOnline, setReading}
+use Rattle.model.specs.Engine.{setLookup, atLane, withGlobal, runs, counted, clocked, wentOff}
 use Rattle.model.specs.Table.{blank, product, productAt, chainOf, slotOf, present, linkOf, added, replaced, deleted, reclaimed}
 
 -- a call on a state; set-up is apart (Calls.antt)

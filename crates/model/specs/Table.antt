@@ -54,7 +54,12 @@ unfoldable pub replaced : Product → Table → Table
 replaced p t =
     let s = first (t .free) in
     let o = slotOf t (p .code) in
-    record { chains = update (t .chains) (chainNumber (p .code)) (swapped o s); free = tail (t .free); products = set (t .products) s p; links = set (t .links) o (linkOf t o) }
+    record {
+      chains = update (t .chains) (chainNumber (p .code)) (swapped o s);
+      free = tail (t .free);
+      products = set (t .products) s p;
+      links = set (t .links) o (linkOf t o);
+    }
 
 -- delete: the slot leaves its chain and keeps its chain link
 unfoldable pub deleted : ℕ → Table → Table

@@ -1,4 +1,5 @@
 -- Legal memories and well-formed states are one to one, and each call keeps them so (Round, MemoryCalls, Memories: the theorems).
+pub mod ExtraWords
 pub mod WellFormed
 pub mod Discipline
 pub mod Causes

@@ -12,10 +12,11 @@ use Rattle.model.specs.Memory.{Words, sizes, words, state}
 use Rattle.model.specs.Legal.{legal}
 use Rattle.model.specs.Calls.{Call, set-up, on-state, sized, stored, refusalOf, replyOf, leftOf, reply, left, leftAll}
 use Rattle.representation.specs.Sound.{Sound}
-use Rattle.representation.proofs.Causes.Passed.{sizes-performed, sizes-next}
+use Rattle.representation.proofs.CallsWellFormed.Next.{sizes-performed, sizes-next}
 use Rattle.representation.proofs.Addresses.Writes.{length-words}
 use Rattle.representation.proofs.Round.{ready, legal-wellFormed, words-state, state-words, Agree, legal-past, one-to-one}
-use Rattle.representation.proofs.MemoryCalls.{reply-illegal, left-illegal, refusal-legal, reply-legal, left-legal, next-legal, next-words, left-setUp, setUp-legal, setUp-words}
+use Rattle.representation.proofs.MemoryCalls.{reply-illegal, left-illegal, refusal-legal, reply-legal, left-legal}
+use Rattle.representation.proofs.MemoryCalls.{next-legal, next-words, left-setUp, setUp-legal, setUp-words}
 
 -- ---- every call
 
@@ -60,7 +61,8 @@ module _ (s : State) (t : ℕ) (e : total (s .sizes) ≡ t) where
 
   drop-stored : (m : List ℕ) → drop t (stored s m) ≡ drop t m
   drop-stored m =
-      ap (λ (d : ℕ). drop d (stored s m)) (sym e) ∙ drop-at (words s) (drop (total (s .sizes)) m) (total (s .sizes)) (length-words s) ∙ ap (λ (d : ℕ). drop d m) e
+      ap (λ (d : ℕ). drop d (stored s m)) (sym e) ∙ drop-at (words s) (drop (total (s .sizes)) m) (total (s .sizes)) (length-words s)
+      ∙ ap (λ (d : ℕ). drop d m) e
 
   stored-append : (xs rest : List ℕ) → length xs ≡ t → stored s (xs ++ rest) ≡ words s ++ rest
   stored-append xs rest l = ap (λ (d : ℕ). words s ++ drop d (xs ++ rest)) e ∙ ap (λ (x : List ℕ). words s ++ x) (drop-at xs rest t l)

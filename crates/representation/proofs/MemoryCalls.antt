@@ -14,10 +14,10 @@ use Rattle.model.specs.Memory.{Words, sizes, state}
 use Rattle.model.specs.Legal.{sizesFit, legal}
 use Rattle.model.specs.Calls.{Call, set-up, on-state, sized, stored, refusalOf, replyOf, leftOf, reply, left}
 use Rattle.representation.proofs.WellFormed.{WellFormed}
-use Rattle.representation.proofs.Causes.Passed.{clear, sizes-next, status}
+use Rattle.representation.proofs.Causes.Passed.{clear}
 use Rattle.representation.proofs.FromState.Worded.{stored-words}
 use Rattle.representation.proofs.CallsWellFormed.Fresh.{fresh-wellFormed}
-use Rattle.representation.proofs.CallsWellFormed.Next.{next-wellFormed}
+use Rattle.representation.proofs.CallsWellFormed.Next.{status, sizes-next, next-wellFormed}
 use Rattle.representation.proofs.Round.{ready, legal-wellFormed, stored-state, round}
 
 -- ---- a refused call, on any list

@@ -60,7 +60,8 @@ words-state m h w = words-ready m (ready m h w)
 
 -- ---- from a state to a memory
 
-pub round : (s : State) (m : List ℕ) → WellFormed s → total (s .sizes) ≤ length m → (legal (stored s m) ≡ true) × (state (stored s m) ≡ s) × (length (stored s m) ≡ length m)
+pub round : (s : State) (m : List ℕ) → WellFormed s → total (s .sizes) ≤ length m
+    → (legal (stored s m) ≡ true) × (state (stored s m) ≡ s) × (length (stored s m) ≡ length m)
 round s m w long = (
   lawful s (stored s m) w (stored-image s m long) (omega (arith, length-stored s m long)),
   reread s (stored s m) w (stored-image s m long),
@@ -107,7 +108,8 @@ module _ (m n : List ℕ) (a : Agree m n) where
 
   -- the contents are below every total: so the sizes are the same, and so are the totals
   agree-total : total (sizes m) ≡ total (sizes n)
-  agree-total = rw (agree-at cabinetsAt (omega arith) (omega arith), agree-at placesAt (omega arith) (omega arith), agree-at slotsAt (omega arith) (omega arith))
+  agree-total =
+      rw (agree-at cabinetsAt (omega arith) (omega arith), agree-at placesAt (omega arith) (omega arith), agree-at slotsAt (omega arith) (omega arith))
 
   agree-words : WordsTo (total (sizes m)) m → WordsTo (total (sizes n)) n
   agree-words w i b = let c : i < total (sizes m) = omega (arith, agree-total) in rw (agree-at i c b) at (w i c)

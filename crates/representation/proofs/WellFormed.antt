@@ -6,7 +6,7 @@ use mathlib.Core.Logic.{_⊎_}
 use mathlib.Core.Bool.{Bool, true, false}
 use mathlib.Core.List.{List, []}
 use lib.ListN.{length, getD}
-use Rattle.model.specs.Word.{wordLimit, none}
+use Rattle.model.specs.Word.{none}
 use Rattle.model.specs.Lists.{count}
 use Rattle.model.specs.State.{Lookup, idle, running, Snapshot, unheld, held, Lane, Engine, Product, Table, State, laneCount}
 use Rattle.model.specs.Layout.{maxCode, maxDeposit, maxMaterial, kinds, countLimit, chainCount}
@@ -14,12 +14,10 @@ use Rattle.model.specs.Engine.{noQueues, laneAt}
 use Rattle.model.specs.Table.{blank, productAt}
 use Rattle.model.specs.Legal.{sizesFit}
 use Rattle.laws.specs.Sums.{sum}
+use Rattle.representation.proofs.ExtraWords.{Word, ExtraFits}
 use Rattle.representation.proofs.Discipline.Frame.{queued}
 use Rattle.representation.proofs.Causes.SlotCounts.{inTable}
 use Rattle.representation.proofs.Discipline.Ages.{Strict, Clean, Level}
-
-abbrev pub Word : ℕ → Type 0
-Word w = w < wordLimit
 
 -- a slot's number or none, of n slots
 abbrev pub SlotOrNone : ℕ → ℕ → Type 0
@@ -57,6 +55,8 @@ pub record LaneFits (n : ℕ) (l : Lane) : Type 0 where
   pub snapshot : SnapshotFits (l .pending) (l .snapshot)
   -- an off lane has no section, no queues and no mask bit
   pub off : l .online ≡ false → Off l
+  -- the words after the lookup's
+  pub extra : ExtraFits l
 
 -- ---- the table
 

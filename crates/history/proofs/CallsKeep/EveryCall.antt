@@ -1,28 +1,22 @@
--- Every call keeps the invariant and respects readers, and a fresh state has the invariant with the empty ledger.
-use Prim.Native.Nat.{ℕ, zero, suc, _<_}
-use mathlib.Core.Path.{_≡_, refl, sym, ap}
-use mathlib.Core.Bool.{true, cond}
-use mathlib.Core.List.{List, [], List·Memᴰ·not-nil}
+-- Every call, one by one, and nowhere else in the crate: what it changes in the ledger, that it keeps the invariant and that it respects readers.
+use Prim.Native.Nat.{ℕ, suc, _<_}
+use mathlib.Core.Path.{_≡_, refl, ap}
+use mathlib.Core.Bool.{Bool, true, false, cond}
 use native.Mathlib.Omega.{arith}
-use lib.ListN.{length, getD, replicate}
+use lib.ListN.{length}
 use lib.Dec.{eqb, eqb·suc-zero}
-use Rattle.model.specs.Word.{later}
-use Rattle.model.specs.Lists.{count}
-use Rattle.model.specs.Layout.{chainCount}
-use Rattle.model.specs.State.{running, Sizes, Queues, State, isRunning, laneCount}
-use Rattle.model.specs.Engine.{freshLane, laneAt}
-use Rattle.model.specs.Table.{chainNumber}
+use borrow.Author.Tests.{eqb-true}
+use Rattle.model.specs.State.{running, State, isRunning, laneCount}
 use Rattle.model.specs.Rules.{Op, add, replace, delete, begin, end, start, step, pass, clock, on, off, hand-back, awaited, refusal}
-use Rattle.model.specs.Rules.{Answer, refused, laneOf, performed, result, answer, next, fresh}
-use Rattle.model.specs.Calls.{on-state}
-use Rattle.model.specs.Ledger.{Ledger, empty, searchIn, fed, fedCall}
-use Rattle.laws.specs.Tests.{clash}
-use Rattle.laws.specs.Sums.{sum}
-use Rattle.representation.proofs.Discipline.Frame.{inLane}
-use Rattle.representation.proofs.Causes.Passed.{call-cases, status}
+use Rattle.model.specs.Rules.{Answer, refused, laneOf, performed, result, answer, next}
+use Rattle.model.specs.Calls.{Call, set-up, on-state}
+use Rattle.model.specs.Ledger.{Entry, Search, Ledger, entryOf, isAnswer, fed, fedCall}
+use Rattle.model.specs.Ledger.{entryMade, entryStruck, slotOut, slotBack, sectionOpened, sectionEnded, searchNoted, searchAnswered}
+use Rattle.laws.specs.Tests.{clash, cond-cases, eqb-self}
+use Rattle.representation.proofs.Causes.Passed.{call-cases}
 use Rattle.representation.proofs.Causes.Accepted.{accepts}
 use Rattle.representation.proofs.WellFormed.{WellFormed}
-use Rattle.history.proofs.Ties.Halves.{WaitsFor, SafeIn, searched, quiet}
+use Rattle.representation.proofs.CallsWellFormed.Next.{status}
 use Rattle.history.proofs.Ties.Invariant.{Invariant}
 use Rattle.history.proofs.CallsKeep.Respects.{Keeps}
 use Rattle.history.proofs.CallsKeep.Unseen.{keeps-same, keeps-pass, keeps-on, keeps-clock, keeps-off}
@@ -31,6 +25,61 @@ use Rattle.history.proofs.CallsKeep.StartStep.{keeps-start, keeps-step}
 use Rattle.history.proofs.CallsKeep.Add.{keeps-add}
 use Rattle.history.proofs.CallsKeep.Remove.{keeps-replace, keeps-delete}
 use Rattle.history.proofs.CallsKeep.Reclaim.{keeps-handBack}
+
+-- ---- the ledger
+
+-- the call changes code c: an add, replace or delete of it
+unfoldable pub changesCode : ℕ → Call → Bool
+changesCode c (set-up x y z) = false
+changesCode c (on-state (add i b d m)) = eqb b c
+changesCode c (on-state (replace i b d m)) = eqb b c
+changesCode c (on-state (delete i b)) = eqb b c
+changesCode c (on-state (start i b)) = false
+changesCode c (on-state (pass i n)) = false
+changesCode c (on-state (begin i)) = false
+changesCode c (on-state (end i)) = false
+changesCode c (on-state (step i)) = false
+changesCode c (on-state (clock i)) = false
+changesCode c (on-state (on i)) = false
+changesCode c (on-state (off i)) = false
+changesCode c (on-state (hand-back i)) = false
+changesCode c (on-state awaited) = false
+
+-- P holds of the ledger g and after each change that call o may make of it: entries change only for a code that o changes, begin alone opens a section
+pub record Changed (P : Ledger → Type 0) (o : Op) (g : Ledger) : Type 0 where
+  pub same : P g
+  pub made : (e : Entry) → changesCode (e .code) (on-state o) ≡ true → P (entryMade e g)
+  pub struck : (c : ℕ) → changesCode c (on-state o) ≡ true → P (entryStruck c g)
+  pub out : (x : ℕ) (l : Ledger) → P l → P (slotOut x l)
+  pub back : (x : ℕ) → P (slotBack x g)
+  pub opened : (i k : ℕ) → o ≡ begin i → P (sectionOpened i k g)
+  pub ended : (i : ℕ) → P (sectionEnded i g)
+  pub noted : (q : Search) → P (searchNoted q g)
+  pub answered : (i : ℕ) → P (searchAnswered i g)
+
+pub fed-cases : (P : Ledger → Type 0) (k : ℕ) (o : Op) (r : Answer) (g : Ledger) → Changed P o g → P (fed k o r g)
+unfolding fed changesCode
+fed-cases P k (add i c d m) r g h = h .made (entryOf c (r .a) d m) (eqb-self c)
+fed-cases P k (replace i c d m) r g h = h .out (r .b) _ (h .made (entryOf c (r .a) d m) (eqb-self c))
+fed-cases P k (delete i c) r g h = h .out (r .a) _ (h .struck c (eqb-self c))
+fed-cases P k (start i c) r g h = h .noted (record { lane = i; code = c; started = k })
+fed-cases P k (pass i n) r g h = h .same
+fed-cases P k (begin i) r g h = h .opened i k refl
+fed-cases P k (end i) r g h = h .ended i
+fed-cases P k (step i) r g h = cond-cases P (isAnswer r) (λ t. h .answered i) (λ t. h .same)
+fed-cases P k (clock i) r g h = h .same
+fed-cases P k (on i) r g h = h .same
+fed-cases P k (off i) r g h = h .same
+fed-cases P k (hand-back i) r g h = h .back (r .a)
+fed-cases P k awaited r g h = h .same
+
+-- of any call with its answer; one that is refused changes nothing
+pub fedCall-cases : (P : Ledger → Type 0) (k : ℕ) (x : Call) (r : Answer) (g : Ledger) → P g
+    → ((o : Op) → x ≡ on-state o → r .status ≡ 0 → Changed P o g) → P (fedCall k x r g)
+unfolding fedCall
+fedCall-cases P k (set-up x y z) r g p h = p
+fedCall-cases P k (on-state o) r g p h =
+    cond-cases P (eqb (r .status) 0) (λ t. fed-cases P k o r g (h o refl (eqb-true (r .status) 0 t))) (λ t. p)
 
 -- ---- a call
 
@@ -81,52 +130,3 @@ module _ {past : ℕ → Ledger} {k : ℕ} {s : State} {g : Ledger} (v : Invaria
     where
       P : State → Answer → Type 0
       P t r = WellFormed t → past (suc k) ≡ fedCall (suc k) (on-state o) r g → Keeps past k s t g (fedCall (suc k) (on-state o) r g)
-
--- ---- the start
-
-module _ {A : Type 0} where
-  getD-replicate : (n i : ℕ) (d : A) → getD (replicate n d) i d ≡ d
-  getD-replicate zero i d = refl
-  getD-replicate (suc n) zero d = refl
-  getD-replicate (suc n) (suc i) d = getD-replicate n i d
-
-  sum-replicate : (h : A → ℕ) (n : ℕ) (a : A) → h a ≡ 0 → sum h (replicate n a) ≡ 0
-  sum-replicate h zero a z = refl
-  sum-replicate h (suc n) a z = omega (arith, sum-replicate h n a z)
-
--- no entry, section, lookup or slot out, and nothing in the chains and queues
-pub invariant-fresh : (past : ℕ → Ledger) (z : Sizes) → WellFormed (fresh z) → Invariant past 0 (fresh z) empty
-unfolding fresh searched searchIn count later
-invariant-fresh past z w = record {
-  wellFormed = w;
-  entries = λ c. sym (ap (searched _ c) (getD-replicate {A = List ℕ} chainCount (chainNumber c) []));
-  sections = record {
-    reading = λ s m. absurd (List·Memᴰ·not-nil m);
-    section = λ i r. clash r (ap (λ l. l .reading) (lane i));
-    opened = λ s m. absurd (List·Memᴰ·not-nil m);
-  };
-  outs = record {
-    out = λ x p. absurd (omega (arith, sum-replicate (inLane x) (laneCount z) freshLane refl));
-    isQueued = λ o m. absurd (List·Memᴰ·not-nil m);
-    before = λ o s m n. absurd (List·Memᴰ·not-nil m);
-  };
-  grace = record {
-    word = omega arith;
-    asked = quiet (record { none = λ i. ap (λ l. l .pending) (lane i); behind = refl });
-    snapshots = λ i h. ap (λ l. l .snapshot) (lane i);
-    reads = λ x i q. absurd (List·Memᴰ·not-nil (q .retains .isOut));
-    global = nobody _;
-    lanes = λ j. nobody _;
-  };
-  looking = λ i. rw (lane i) tt;
-}
-  where
-    -- nothing is out, so no slot waits
-    nobody : (q : Queues) → SafeIn (WaitsFor empty) (fresh z .engine) q
-    nobody q = record {
-      done = λ x i h w. List·Memᴰ·not-nil (w .retains .isOut);
-      current = λ x i h w. absurd (List·Memᴰ·not-nil (w .retains .isOut));
-    }
-
-    lane : (i : ℕ) → laneAt (fresh z .engine) i ≡ freshLane
-    lane i = getD-replicate (laneCount z) i freshLane

@@ -2,18 +2,17 @@
 use Prim.Native.Nat.{ℕ, zero, suc, _+_, _-_, _<_, _≤_}
 use mathlib.Core.Path.{_≡_, refl, sym, ap, _∙_}
 use mathlib.Core.Logic.{_≢_}
-use mathlib.Core.Bool.{Bool, false}
+use mathlib.Core.Bool.{true, false}
 use mathlib.Core.List.{List, [], _∷_, _++_}
 use native.Mathlib.Omega.{arith}
 use lib.ListN.{length, getD, take, drop, take-append-drop, length-append}
 use lib.Seq.{take-suc, drop-cons, length-take-le, take-append-seam}
-use lib.Dec.{eqb}
-use borrow.Author.Tests.{eq-eqb, eqb-true}
-use Rattle.model.specs.Rules.{Op, add, replace, delete, begin, end, start, step, pass, clock, on, off, hand-back, awaited, Answer, zeros}
-use Rattle.model.specs.Calls.{Call, set-up, on-state}
-use Rattle.model.specs.Ledger.{Ledger, entryOf, isAnswer, fed, fedCall, Event, ledgerFrom, ledger, search, Came}
-use Rattle.laws.specs.Tests.{clash, cond-cases}
+use Rattle.model.specs.Rules.{Op, awaited, Answer, zeros}
+use Rattle.model.specs.Calls.{Call, on-state}
+use Rattle.model.specs.Ledger.{Ledger, fedCall, Event, ledgerFrom, ledger, search, Came}
+use Rattle.laws.specs.Tests.{clash}
 use Rattle.history.proofs.CallsKeep.Entries.{search-drops-other, search-made-other}
+use Rattle.history.proofs.CallsKeep.EveryCall.{changesCode, Changed, fedCall-cases}
 
 -- ---- the ledger of one event more
 
@@ -40,54 +39,31 @@ past-seam h done rest e = rw e (ap ledger (take-append-seam done rest))
 
 -- ---- instants between which a code does not change
 
--- the call changes code c: an add, replace or delete of it
-unfoldable pub changesCode : ℕ → Call → Bool
-changesCode c (set-up x y z) = false
-changesCode c (on-state (add i b d m)) = eqb b c
-changesCode c (on-state (replace i b d m)) = eqb b c
-changesCode c (on-state (delete i b)) = eqb b c
-changesCode c (on-state (start i b)) = false
-changesCode c (on-state (pass i n)) = false
-changesCode c (on-state (begin i)) = false
-changesCode c (on-state (end i)) = false
-changesCode c (on-state (step i)) = false
-changesCode c (on-state (clock i)) = false
-changesCode c (on-state (on i)) = false
-changesCode c (on-state (off i)) = false
-changesCode c (on-state (hand-back i)) = false
-changesCode c (on-state awaited) = false
-
 -- no call of the list h after instant t, up to instant u, changes code c and has status 0
 abbrev pub Unchanged : ℕ → List Event → ℕ → ℕ → Type 0
 Unchanged c h t u =
     (e : Event) (w : Came h e) → t ≤ length (w .before) → length (w .before) < u → e .answer .status ≡ 0 → changesCode c (e .call) ≡ false
 
-ne-of : (c b : ℕ) → eqb b c ≡ false → c ≢ b
-ne-of c b h e = clash (eq-eqb b c (sym e)) h
+search-changed : (c : ℕ) (o : Op) (g : Ledger) → changesCode c (on-state o) ≡ false → Changed (λ (l : Ledger). search l c ≡ search g c) o g
+search-changed c o g h = record {
+  same = refl;
+  made = λ e u. search-made-other c e _ (other (e .code) u) ∙ search-drops-other c (e .code) (g .entries) (other (e .code) u);
+  struck = λ b u. search-drops-other c b (g .entries) (other b u);
+  out = λ x l e. e;
+  back = λ x. refl;
+  opened = λ i k u. refl;
+  ended = λ i. refl;
+  noted = λ q. refl;
+  answered = λ i. refl;
+}
+  where
+    other : (b : ℕ) → changesCode b (on-state o) ≡ true → c ≢ b
+    other b u e = clash (rw (← e) at u) h
 
-search-fed : (c k : ℕ) (o : Op) (r : Answer) (g : Ledger) → changesCode c (on-state o) ≡ false → search (fed k o r g) c ≡ search g c
-unfolding changesCode fed
-search-fed c k (add i b d m) r g h =
-    let n = ne-of c b h in search-made-other c (entryOf b (r .a) d m) _ n ∙ search-drops-other c b (g .entries) n
-search-fed c k (replace i b d m) r g h =
-    let n = ne-of c b h in search-made-other c (entryOf b (r .a) d m) _ n ∙ search-drops-other c b (g .entries) n
-search-fed c k (delete i b) r g h = search-drops-other c b (g .entries) (ne-of c b h)
-search-fed c k (start i b) r g h = refl
-search-fed c k (pass i n) r g h = refl
-search-fed c k (begin i) r g h = refl
-search-fed c k (end i) r g h = refl
-search-fed c k (step i) r g h = cond-cases (λ (l : Ledger). search l c ≡ search g c) (isAnswer r) (λ t. refl) (λ t. refl)
-search-fed c k (clock i) r g h = refl
-search-fed c k (on i) r g h = refl
-search-fed c k (off i) r g h = refl
-search-fed c k (hand-back i) r g h = refl
-search-fed c k awaited r g h = refl
-
-search-fedCall : (c k : ℕ) (x : Call) (r : Answer) (g : Ledger) → (r .status ≡ 0 → changesCode c x ≡ false) → search (fedCall k x r g) c ≡ search g c
-unfolding fedCall
-search-fedCall c k (set-up x y z) r g h = refl
-search-fedCall c k (on-state o) r g h =
-    cond-cases (λ (l : Ledger). search l c ≡ search g c) (eqb (r .status) 0) (λ t. search-fed c k o r g (h (eqb-true (r .status) 0 t))) (λ t. refl)
+search-fedCall : (c k : ℕ) (x : Call) (r : Answer) (g : Ledger) → (r .status ≡ 0 → changesCode c x ≡ false)
+    → search (fedCall k x r g) c ≡ search g c
+search-fedCall c k x r g h =
+    fedCall-cases (λ (l : Ledger). search l c ≡ search g c) k x r g refl (λ o e z. search-changed c o g (rw e at (h z)))
 
 -- event number n of the list
 abbrev came : (h : List Event) (n : ℕ) → n < length h → Came h (getD h n (record { call = on-state awaited; answer = zeros }))

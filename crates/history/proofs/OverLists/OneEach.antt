@@ -7,11 +7,12 @@ use mathlib.Core.List.{List, [], _∷_, List·Memᴰ, List·Memᴰ·cases-cons, 
 use lib.Dec.{eqb}
 use borrow.Author.Tests.{eq-eqb}
 use Rattle.model.specs.Lists.{drops}
-use Rattle.model.specs.Rules.{Op, add, replace, delete, begin, end, start, step, pass, clock, on, off, hand-back, awaited, Answer}
-use Rattle.model.specs.Calls.{Call, set-up, on-state}
-use Rattle.model.specs.Ledger.{Entry, Search, Out, Ledger, searchOf, ofCode, ofSlot, entryOf, isAnswer, fed, fedCall, Event, ledgerFrom, ledger}
-use Rattle.laws.specs.Tests.{clash, cond-cases}
+use Rattle.model.specs.Rules.{Op, Answer}
+use Rattle.model.specs.Calls.{Call}
+use Rattle.model.specs.Ledger.{Entry, Search, Out, Ledger, searchOf, ofCode, ofSlot, fedCall, Event, ledgerFrom, ledger}
+use Rattle.laws.specs.Tests.{clash}
 use Rattle.laws.specs.Elements.{of-drops}
+use Rattle.history.proofs.CallsKeep.EveryCall.{Changed, fedCall-cases}
 
 module _ {A : Type 0} (key : A → ℕ) where
   -- no two have one key
@@ -51,41 +52,26 @@ pub record OneEach (g : Ledger) : Type 0 where
   pub searches : One searchLane (g .searches)
   pub outs : One outSlot (g .outs)
 
-one-fed : (k : ℕ) (o : Op) (r : Answer) (g : Ledger) → OneEach g → OneEach (fed k o r g)
-unfolding fed
-one-fed k (add i c d m) r g h =
-    record { entries = one-new entryCode (entryOf c (r .a) d m) (g .entries) (h .entries); searches = h .searches; outs = h .outs }
-one-fed k (replace i c d m) r g h = record {
-  entries = one-new entryCode (entryOf c (r .a) d m) (g .entries) (h .entries);
-  searches = h .searches;
-  outs = one-new outSlot (record { slot = r .b; sections = g .sections }) (g .outs) (h .outs);
+-- a change makes one, or drops some
+one-changed : (o : Op) (g : Ledger) → OneEach g → Changed OneEach o g
+one-changed o g h = record {
+  same = h;
+  made = λ e u. record { entries = one-new entryCode e (g .entries) (h .entries); searches = h .searches; outs = h .outs };
+  struck = λ c u. record { entries = one-drops entryCode (ofCode c) (g .entries) (h .entries); searches = h .searches; outs = h .outs };
+  out = λ x l d. record {
+    entries = d .entries;
+    searches = d .searches;
+    outs = one-new outSlot (record { slot = x; sections = l .sections }) (l .outs) (d .outs);
+  };
+  back = λ x. record { entries = h .entries; searches = h .searches; outs = one-drops outSlot (ofSlot x) (g .outs) (h .outs) };
+  opened = λ i k u. record { entries = h .entries; searches = h .searches; outs = h .outs };
+  ended = λ i. record { entries = h .entries; searches = h .searches; outs = h .outs };
+  noted = λ q. record { entries = h .entries; searches = one-new searchLane q (g .searches) (h .searches); outs = h .outs };
+  answered = λ i. record { entries = h .entries; searches = one-drops searchLane (searchOf i) (g .searches) (h .searches); outs = h .outs };
 }
-one-fed k (delete i c) r g h = record {
-  entries = one-drops entryCode (ofCode c) (g .entries) (h .entries);
-  searches = h .searches;
-  outs = one-new outSlot (record { slot = r .a; sections = g .sections }) (g .outs) (h .outs);
-}
-one-fed k (start i c) r g h = record {
-  entries = h .entries;
-  searches = one-new searchLane (record { lane = i; code = c; started = k }) (g .searches) (h .searches);
-  outs = h .outs;
-}
-one-fed k (step i) r g h = cond-cases OneEach (isAnswer r)
-    (λ t. record { entries = h .entries; searches = one-drops searchLane (searchOf i) (g .searches) (h .searches); outs = h .outs }) (λ t. h)
-one-fed k (hand-back i) r g h =
-    record { entries = h .entries; searches = h .searches; outs = one-drops outSlot (ofSlot (r .a)) (g .outs) (h .outs) }
-one-fed k (begin i) r g h = record { entries = h .entries; searches = h .searches; outs = h .outs }
-one-fed k (end i) r g h = record { entries = h .entries; searches = h .searches; outs = h .outs }
-one-fed k (pass i n) r g h = h
-one-fed k (clock i) r g h = h
-one-fed k (on i) r g h = h
-one-fed k (off i) r g h = h
-one-fed k awaited r g h = h
 
 one-fedCall : (k : ℕ) (x : Call) (r : Answer) (g : Ledger) → OneEach g → OneEach (fedCall k x r g)
-unfolding fedCall
-one-fedCall k (set-up x y z) r g h = h
-one-fedCall k (on-state o) r g h = cond-cases OneEach (eqb (r .status) 0) (λ t. one-fed k o r g h) (λ t. h)
+one-fedCall k x r g h = fedCall-cases OneEach k x r g h (λ o e z. one-changed o g h)
 
 one-from : (es : List Event) (k : ℕ) (g : Ledger) → OneEach g → OneEach (ledgerFrom k g es)
 unfolding ledgerFrom

@@ -136,7 +136,12 @@ module _ (m : List ℕ) (ks : List Call) (s : State) where
   kept-list a i r c b w = go (found-end a i r c b w)
     where
       go : FoundEnd i r (c .before) → Kept h (leftAll m ks) i r (c .before)
-      go f = record { finder = f .finder; isOpen = f .isOpen; ofLane = f .ofLane; holds = λ x o l q j e z. found-holds i r (c .before) f (rw (f .onlyFinder x o l) at z) q j e }
+      go f = record {
+        finder = f .finder;
+        isOpen = f .isOpen;
+        ofLane = f .ofLane;
+        holds = λ x o l q j e z. found-holds i r (c .before) f (rw (f .onlyFinder x o l) at z) q j e;
+      }
 
   pub returned-list : At h [] s m ks → (i : ℕ) (r : Answer) (c : Came h (handBackEvent i r)) → r .status ≡ 0 → Returned r (c .before)
   returned-list a i r c b = go (moment a (hand-back i) r c)

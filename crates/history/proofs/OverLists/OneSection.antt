@@ -1,20 +1,19 @@
 -- A lane has at most one open section: so "the section then open on that lane", the finder's, is one.
 use Prim.Native.Nat.{ℕ, suc}
-use mathlib.Core.Path.{_≡_, sym, ap, subst, _∙_}
+use mathlib.Core.Path.{_≡_, sym, ap, _∙_}
 use mathlib.Core.Logic.{_⊎_, inl, inr}
-use mathlib.Core.Bool.{false}
 use mathlib.Core.List.{List, [], _∷_, _++_, append-nil, nil≢cons, head-eq-of-cons-eq, tail-eq-of-cons-eq, List·Memᴰ, List·Memᴰ·cases-cons}
 use lib.Seq.{append-snoc}
 use Rattle.model.specs.State.{State}
-use Rattle.model.specs.Rules.{Op, add, replace, delete, begin, end, start, step, pass, clock, on, off, hand-back, awaited}
-use Rattle.model.specs.Rules.{Answer, firstOf, laneOf, causes, result, answer}
+use Rattle.model.specs.Rules.{Op, begin, Answer, firstOf, causes, result, answer}
 use Rattle.model.specs.Calls.{Call, set-up, on-state, left}
-use Rattle.model.specs.Ledger.{Section, Ledger, Event, sectionOf, isAnswer, fed, fedCall, ledger, events}
-use Rattle.laws.specs.Tests.{clash, cond-cases}
-use Rattle.representation.proofs.Causes.Passed.{call-cases, status}
+use Rattle.model.specs.Ledger.{Section, Ledger, Event, sectionOf, sectionOpened, fedCall, ledger, events}
+use Rattle.laws.specs.Tests.{clash}
+use Rattle.representation.proofs.Causes.Passed.{call-cases}
 use Rattle.representation.proofs.Causes.Accepted.{accepts}
+use Rattle.representation.proofs.CallsWellFormed.Next.{status}
 use Rattle.history.proofs.Ties.Invariant.{Invariant}
-use Rattle.history.proofs.CallsKeep.EveryCall.{fedCall-accepted, fedCall-refused}
+use Rattle.history.proofs.CallsKeep.EveryCall.{Changed, fed-cases, fedCall-accepted, fedCall-refused}
 use Rattle.history.proofs.OverLists.Instants.{ledger-snoc}
 use Rattle.history.proofs.OverLists.OneEach.{One, one-drops}
 use Rattle.history.proofs.OverLists.Stands.{reply-on}
@@ -29,39 +28,38 @@ OneSection g = One sectionLane (g .sections)
 
 module _ {past : ℕ → Ledger} {k : ℕ} {s : State} {g : Ledger} (v : Invariant past k s g) (h : OneSection g) where
   -- a lane that begins a section has none: it does not read
-  one-accepted : (o : Op) → firstOf (causes s o) ≡ 0 → OneSection (fed (suc k) o (result s o) g)
-  unfolding causes fed
-  one-accepted (begin i) z a b m n e =
-      go (older (accepts s (begin i) z .closed)) (List·Memᴰ·cases-cons m) (List·Memᴰ·cases-cons n)
+  one-changed : (o : Op) → firstOf (causes s o) ≡ 0 → Changed OneSection o g
+  one-changed o z = record {
+    same = h;
+    made = λ e u. h;
+    struck = λ c u. h;
+    out = λ x l d. d;
+    back = λ x. h;
+    opened = new;
+    ended = λ i. one-drops sectionLane (sectionOf i) (g .sections) h;
+    noted = λ q. h;
+    answered = λ i. h;
+  }
     where
-      new : Section
-      new = record { lane = i; opened = suc k }
+      new : (i k : ℕ) → o ≡ begin i → OneSection (sectionOpened i k g)
+      new i k u a b m n e = go (List·Memᴰ·cases-cons m) (List·Memᴰ·cases-cons n)
+        where
+          older : (x : Section) → List·Memᴰ x (g .sections) → x .lane ≡ i → ⊥
+          older x l d = clash (rw d at (v .sections .reading x l)) (accepts s (begin i) (rw u at z) .closed)
 
-      older : laneOf s i .reading ≡ false → (x : Section) → List·Memᴰ x (g .sections) → x .lane ≡ i → ⊥
-      older c x l d = clash (rw d at (v .sections .reading x l)) c
+          In : Section → Type 0
+          In x = (x ≡ record { lane = i; opened = k }) ⊎ List·Memᴰ x (g .sections)
 
-      go : ((x : Section) → List·Memᴰ x (g .sections) → x .lane ≡ i → ⊥) → (a ≡ new) ⊎ List·Memᴰ a (g .sections)
-          → (b ≡ new) ⊎ List·Memᴰ b (g .sections) → a ≡ b
-      go f (inl p) (inl q) = p ∙ sym q
-      go f (inl p) (inr q) = absurd (f b q (sym e ∙ ap sectionLane p))
-      go f (inr p) (inl q) = absurd (f a p (e ∙ ap sectionLane q))
-      go f (inr p) (inr q) = h a b p q e
-  one-accepted (end i) z a b m n e = one-drops sectionLane (sectionOf i) (g .sections) h a b m n e
-  one-accepted (step i) z a b m n e = cond-cases OneSection (isAnswer (result s (step i))) (λ t. h) (λ t. h) a b m n e
-  one-accepted (add i c d x) z a b m n e = h a b m n e
-  one-accepted (replace i c d x) z a b m n e = h a b m n e
-  one-accepted (delete i c) z a b m n e = h a b m n e
-  one-accepted (start i c) z a b m n e = h a b m n e
-  one-accepted (pass i x) z a b m n e = h a b m n e
-  one-accepted (clock i) z a b m n e = h a b m n e
-  one-accepted (on i) z a b m n e = h a b m n e
-  one-accepted (off i) z a b m n e = h a b m n e
-  one-accepted (hand-back i) z a b m n e = h a b m n e
-  one-accepted awaited z a b m n e = h a b m n e
+          go : In a → In b → a ≡ b
+          go (inl p) (inl q) = p ∙ sym q
+          go (inl p) (inr q) = absurd (older b q (sym e ∙ ap sectionLane p))
+          go (inr p) (inl q) = absurd (older a p (e ∙ ap sectionLane q))
+          go (inr p) (inr q) = h a b p q e
 
   one-next : (o : Op) → OneSection (fedCall (suc k) (on-state o) (answer s o) g)
   one-next o = call-cases (λ (t : State) (r : Answer). OneSection (fedCall (suc k) (on-state o) r g)) s o
-      (λ z. rw (fedCall-accepted (suc k) o (result s o) g (status s o)) (one-accepted o z)) (λ m. rw (fedCall-refused (suc k) o m g) h)
+      (λ z. rw (fedCall-accepted (suc k) o (result s o) g (status s o)) (fed-cases OneSection (suc k) o (result s o) g (one-changed o z)))
+      (λ m. rw (fedCall-refused (suc k) o m g) h)
 
 module _ (h : List Event) where
   one-later : (done : List Event) (s : State) (m : List ℕ) (k : Call) (ks : List Call) → At h done s m (k ∷ ks) → OneSection (ledger done)
@@ -79,7 +77,8 @@ module _ (h : List Event) where
   one-section [] done s m a v (b ∷ before) rest p = absurd (nil≢cons p)
   one-section (k ∷ ks) done s m a v (b ∷ before) rest p =
       let l = later h done s m k ks a in
-      regroup (head-eq-of-cons-eq p) (one-section ks (done ++ (event m k ∷ [])) (l .state) (left m k) (l .at) (one-later done s m k ks a v) before rest (tail-eq-of-cons-eq p))
+      regroup (head-eq-of-cons-eq p)
+      (one-section ks (done ++ (event m k ∷ [])) (l .state) (left m k) (l .at) (one-later done s m k ks a v) before rest (tail-eq-of-cons-eq p))
     where
       regroup : {x : Event} → x ≡ b → OneSection (ledger ((done ++ (x ∷ [])) ++ before)) → OneSection (ledger (done ++ (b ∷ before)))
       regroup q o = rw (← q, ← append-snoc) o

@@ -10,9 +10,8 @@ use Rattle.model.specs.Rules.{Op, firstOf, performed, nextOf, refusal, answer, 
 use Rattle.model.specs.Memory.{state}
 use Rattle.model.specs.Legal.{legal}
 use Rattle.model.specs.Calls.{on-state, stored, refusalOf, leftOf, reply, left}
-use Rattle.representation.proofs.Causes.Passed.{sizes-next}
 use Rattle.representation.proofs.WellFormed.{WellFormed}
-use Rattle.representation.proofs.CallsWellFormed.Next.{next-wellFormed}
+use Rattle.representation.proofs.CallsWellFormed.Next.{sizes-next, next-wellFormed}
 use Rattle.representation.proofs.Round.{round}
 use Rattle.representation.proofs.MemoryCalls.{reply-legal}
 

@@ -140,7 +140,8 @@ sameField f g = eqb (area f) (area g) && eqb (column f) (column g) && eqb (row f
 -- two fields at one address are the same
 pub address-injective-fields : (z : Sizes) (f g : Field) → Inside z f → Inside z g → address z f ≡ address z g → sameField f g ≡ true
 address-injective-fields z f g p q e =
-    let r = address-injective (layout z) (area f) (area g) (row f) (row g) (column f) (column g) (within-of z f p) (within-of z g q) (sym (address-of z f) ∙ e ∙ address-of z g) in
+    let r = address-injective (layout z) (area f) (area g) (row f) (row g) (column f) (column g)
+    (within-of z f p) (within-of z g q) (sym (address-of z f) ∙ e ∙ address-of z g) in
     rw (r .area, r .row, r .column) (rw (eqb-self (area g), eqb-self (column g), eqb-self (row g)))
 
 -- the same fields are at one address

@@ -15,7 +15,8 @@ use Rattle.model.specs.Memory.{at, words, contents, globalWords, laneMask, lane
 use Rattle.model.specs.Calls.{stored}
 use Rattle.laws.specs.ListLaws.{getD-right, concatMap-single}
 use Rattle.laws.specs.Areas.{Area, extentAt, noArea, laidOut, laidOut-append, length-laidOut, getD-laidOut}
-use Rattle.representation.proofs.Addresses.Fields.{Field, top, head, end, mask, lane, slot, Inside, address, value, topWords, endWords, area, row, column, layout, address-of, within-of, extent-of, address-below, place, sameField, load}
+use Rattle.representation.proofs.Addresses.Fields.{Field, top, head, end, mask, lane, slot, Inside, address, value, topWords, endWords, area, row}
+use Rattle.representation.proofs.Addresses.Fields.{column, layout, address-of, within-of, extent-of, address-below, place, sameField, load}
 
 -- ---- the words of a state, field by field
 
@@ -104,7 +105,9 @@ module _ (s : State) (m : List ℕ) (long : total (s .sizes) ≤ length m) where
   length-stored = length-append (words s) (drop (total (s .sizes)) m) ∙ omega (arith, length-words s, length-drop (total (s .sizes)) m)
 
   pub stored-image : Image (s .sizes) (stored s m) (value s)
-  stored-image f b = List·getD-append (words s) (drop (total (s .sizes)) m) 0 (address (s .sizes) f) (omega (arith, length-words s, address-below (s .sizes) f b)) ∙ words-field s f b
+  stored-image f b =
+      List·getD-append (words s) (drop (total (s .sizes)) m) 0 (address (s .sizes) f) (omega (arith, length-words s, address-below (s .sizes) f b))
+      ∙ words-field s f b
 
 -- ---- stores
 

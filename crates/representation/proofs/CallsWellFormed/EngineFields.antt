@@ -1,31 +1,34 @@
--- Clock and off keep each lane's fields as legality asks, and the generations.
-use Prim.Native.Nat.{ℕ, _<_}
-use mathlib.Core.Path.{_≡_, refl, sym, ap, _∙_}
-use mathlib.Core.Logic.{inl, ⊎-elim}
+-- Clock and off keep each lane's fields as legality asks.
+use Prim.Native.Nat.{ℕ}
+use mathlib.Core.Path.{_≡_, refl, ap, _∙_}
 use mathlib.Core.Bool.{Bool, true, false, not, cond, _&&_}
-use lib.ListN.{length}
 use Rattle.model.specs.Word.{up}
-use Rattle.model.specs.Lists.{update, any, isEmpty}
+use Rattle.model.specs.Lists.{isEmpty}
 use Rattle.model.specs.State.{Snapshot, unheld, held, Queues, Lane, Engine, isHeld}
-use Rattle.model.specs.Engine.{freshLane, awaiting, isPending, emptied, laneAt, setPending, setQueues, setOnline, withCurrent, withLargest, withGlobal, atLane, runs, started, released, settled, ready, target, batched, requested, advancedLane, advancedGlobal, quiesced, sampled, clocked, taken, wentOff}
-use Rattle.model.specs.Rules.{isOnline}
+use Rattle.model.specs.Engine.{freshLane, awaiting, emptied, laneAt, setPending, setQueues, withCurrent, withLargest}
+use Rattle.model.specs.Engine.{withGlobal, atLane, runs, started, released, settled, ready, target, batched, requested}
+use Rattle.model.specs.Engine.{advancedLane, advancedGlobal, quiesced, sampled, clocked, taken, wentOff}
 use Rattle.laws.specs.Tests.{clash, and-true, cond-cases}
 use Rattle.laws.specs.ListLaws.{update-cases, update-update}
-use Rattle.laws.specs.Elements.{map-cases, any-update-same, any-true}
+use Rattle.laws.specs.Elements.{map-cases}
 use Rattle.representation.proofs.Discipline.Frame.{ended-cases}
 use Rattle.representation.proofs.Discipline.Requests.{raised}
-use Rattle.representation.proofs.Discipline.Ages.{none as noneA, old, now, soon, Strict, Clean, Disciplined, level-anew, strict-anew}
-use Rattle.representation.proofs.Discipline.GenerationsKept.{own-released, tidy-clocked, tidy-wentOff}
-use Rattle.representation.proofs.WellFormed.{LaneFits, SnapshotFits, Generations}
-
--- ---- lanes through the engine
+use Rattle.representation.proofs.Discipline.GenerationsKept.{own-released}
+use Rattle.representation.proofs.ExtraWords.{extra-off}
+use Rattle.representation.proofs.WellFormed.{LaneFits, SnapshotFits}
 
 module _ (n : ℕ) where
   abbrev pub Fits : Engine → Type 0
   Fits e = (i : ℕ) → LaneFits n (laneAt e i)
 
   awaiting-fits : (l : Lane) → LaneFits n l → LaneFits n (awaiting l)
-  awaiting-fits l f = record { counts = f .counts; lookup = f .lookup; snapshot = held-on (l .snapshot) (f .snapshot); off = λ o. let u = f .off o in record { reading = u .reading; pending = o; queues = u .queues } }
+  awaiting-fits l f = record {
+    counts = f .counts;
+    lookup = f .lookup;
+    snapshot = held-on (l .snapshot) (f .snapshot);
+    off = λ o. let u = f .off o in record { reading = u .reading; pending = o; queues = u .queues };
+    extra = f .extra;
+  }
     where
       lit : l .pending ≡ true → (b : Bool) → l .online ≡ b → l .online ≡ true
       lit p true q = q
@@ -40,7 +43,13 @@ module _ (n : ℕ) where
   fits-started e f = map-cases freshLane (λ (i : ℕ) (l : Lane). LaneFits n l) (e .lanes) awaiting f (λ i b. awaiting-fits (laneAt e i) (f i))
 
   released-fits : (l : Lane) → LaneFits n l → LaneFits n (setPending false unheld l)
-  released-fits l f = record { counts = f .counts; lookup = f .lookup; snapshot = tt; off = λ o. let u = f .off o in record { reading = u .reading; pending = refl; queues = u .queues } }
+  released-fits l f = record {
+    counts = f .counts;
+    lookup = f .lookup;
+    snapshot = tt;
+    off = λ o. let u = f .off o in record { reading = u .reading; pending = refl; queues = u .queues };
+    extra = f .extra;
+  }
 
   fits-at : (i : ℕ) (g : Lane → Lane) (e : Engine) → LaneFits n (g (laneAt e i)) → Fits e → Fits (atLane i g e)
   fits-at i g e k f = update-cases freshLane (λ (j : ℕ) (l : Lane). LaneFits n l) (e .lanes) i g f k
@@ -48,7 +57,8 @@ module _ (n : ℕ) where
   -- lane i is dropped already
   fits-released : (i : ℕ) (e : Engine) → Fits (atLane i (setPending false unheld) e) → Fits (released i e)
   unfolding released
-  fits-released i e f = cond-cases Fits (laneAt e i .pending && not (runs g)) (λ r. ended-cases Fits g (λ q. f) (λ q. fits-started (withCurrent (up (e .current)) g) f)) (λ r. f)
+  fits-released i e f =
+      cond-cases Fits (laneAt e i .pending && not (runs g)) (λ r. ended-cases Fits g (λ q. f) (λ q. fits-started (withCurrent (up (e .current)) g) f)) (λ r. f)
     where
       g : Engine
       g = atLane i (setPending false unheld) e
@@ -57,13 +67,14 @@ module _ (n : ℕ) where
   unfolding requested
   fits-requested g e f = cond-cases Fits (runs e) (λ r. f) (λ r. fits-started (withLargest (raised g e) e) f)
 
-  queued-fits : (q : Queues) (l : Lane) → l .online ≡ true → LaneFits n l → LaneFits n (setQueues q l)
-  queued-fits q l o f = record { counts = f .counts; lookup = f .lookup; snapshot = f .snapshot; off = λ x. clash o x }
+  pub queued-fits : (q : Queues) (l : Lane) → l .online ≡ true → LaneFits n l → LaneFits n (setQueues q l)
+  queued-fits q l o f = record { counts = f .counts; lookup = f .lookup; snapshot = f .snapshot; off = λ x. clash o x; extra = f .extra }
 
   fits-advancedLane : (i : ℕ) (e : Engine) → laneAt e i .online ≡ true → Fits e → Fits (advancedLane i e)
   unfolding advancedLane
   fits-advancedLane i e o f = cond-cases Fits (ready q)
-      (λ r. fits-requested (target e) (atLane i (setQueues (batched (target e) q)) e) (fits-at i (setQueues (batched (target e) q)) e (queued-fits _ (laneAt e i) o (f i)) f))
+      (λ r. fits-requested (target e) (atLane i (setQueues (batched (target e) q)) e)
+      (fits-at i (setQueues (batched (target e) q)) e (queued-fits _ (laneAt e i) o (f i)) f))
       (λ r. fits-at i (setQueues q) e (queued-fits _ (laneAt e i) o (f i)) f)
     where
       q : Queues
@@ -79,7 +90,13 @@ module _ (n : ℕ) where
   sampled-fits : (l : Lane) → LaneFits n l → LaneFits n (sampled l)
   unfolding sampled
   sampled-fits l f = cond-cases (LaneFits n) (l .pending && not (isHeld (l .snapshot)))
-      (λ r. record { counts = f .counts; lookup = f .lookup; snapshot = (refl, f .counts); off = λ o. clash (and-true (l .pending) (not (isHeld (l .snapshot))) r .0) (f .off o .pending) })
+      (λ r. record {
+        counts = f .counts;
+        lookup = f .lookup;
+        snapshot = (refl, f .counts);
+        off = λ o. clash (and-true (l .pending) (not (isHeld (l .snapshot))) r .0) (f .off o .pending);
+        extra = f .extra;
+      })
       (λ r. f)
 
   pub fits-clocked : (i : ℕ) (e : Engine) → laneAt e i .online ≡ true → Fits e → Fits (clocked i e)
@@ -103,67 +120,23 @@ module _ (n : ℕ) where
 
   pub fits-wentOff : (i : ℕ) (e : Engine) → laneAt e i .reading ≡ false → Fits e → Fits (wentOff i e)
   unfolding wentOff
-  fits-wentOff i e r f = fits-advancedGlobal (released i (atLane i emptied d)) (fits-released i (atLane i emptied d) (rw (update-update (e .lanes) i emptied (setPending false unheld)) (fits-at i (λ (l : Lane). setPending false unheld (emptied l)) e gone f)))
+  fits-wentOff i e r f =
+      fits-advancedGlobal (released i (atLane i emptied d))
+      (fits-released i (atLane i emptied d) (rw (update-update (e .lanes) i emptied (setPending false unheld))
+      (fits-at i (λ (l : Lane). setPending false unheld (emptied l)) e gone f)))
     where
       d : Engine
       d = withGlobal (taken (e .global) (laneAt e i .queues)) e
 
       gone : LaneFits n (setPending false unheld (emptied (laneAt e i)))
-      gone = let g = f i in record { counts = g .counts; lookup = g .lookup; snapshot = tt; off = λ o. record { reading = r; pending = refl; queues = refl } }
+      gone = let g = f i in record {
+        counts = g .counts;
+        lookup = g .lookup;
+        snapshot = tt;
+        off = λ o. record { reading = r; pending = refl; queues = refl };
+        extra = extra-off (laneAt e i) (g .extra);
+      }
 
-  empty-off : (e : Engine) → Fits e → (i : ℕ) → laneAt e i .online ≡ false → isEmpty (laneAt e i .queues .current) ≡ true
+  pub empty-off : (e : Engine) → Fits e → (i : ℕ) → laneAt e i .online ≡ false → isEmpty (laneAt e i .queues .current) ≡ true
   unfolding isEmpty
   empty-off e f i o = ap (λ (q : Queues). isEmpty (q .current)) (f i .off o .queues)
-
--- ---- generations
-
--- a lane anew, its bit, its current queue and that one's generation as they were
-pub record Steady (l k : Lane) : Type 0 where
-  pub pending : k .pending ≡ l .pending
-  pub current : k .queues .current ≡ l .queues .current
-  pub generation : k .queues .generation ≡ l .queues .generation
-
-pub generations-at : (i : ℕ) (f : Lane → Lane) (e : Engine) → ((l : Lane) → Steady l (f l)) → Generations e → Generations (atLane i f e)
-generations-at i f e h t = record {
-  word = t .word;
-  largest = level-anew e (g .lanes) (e .global) alike (t .largest);
-  lanes = update-cases freshLane (λ (j : ℕ) (l : Lane). Strict g l) (e .lanes) i f (λ j. strict (laneAt e j) (laneAt e j) (record { pending = refl; current = refl; generation = refl }) (t .lanes j)) (strict (laneAt e i) (f (laneAt e i)) (h (laneAt e i)) (t .lanes i));
-  global = t .global;
-}
-  where
-    g : Engine
-    g = atLane i f e
-
-    alike : runs g ≡ runs e
-    alike = any-update-same isPending f (e .lanes) i (λ l. h l .pending)
-
-    strict : (l k : Lane) → Steady l k → Strict e l → Strict g k
-    strict l k u (noneA a b) = noneA (ap isEmpty (u .current) ∙ a) (u .generation ∙ b)
-    strict l k u (old a b) = old (ap isEmpty (u .current) ∙ a) (record { word = rw (u .generation) (b .word); before = ap up (u .generation) ∙ b .before; waits = λ r. u .pending ∙ b .waits (sym alike ∙ r) })
-    strict l k u (now a b d) = now (ap isEmpty (u .current) ∙ a) (u .generation ∙ b) d
-    strict l k u (soon a b d) = soon (ap isEmpty (u .current) ∙ a) (u .generation ∙ b) d
-
-pub generations-global : (q : Queues) (e : Engine) → q .current ≡ e .global .current → q .generation ≡ e .global .generation → Generations e → Generations (withGlobal q e)
-generations-global q e a b t = record { word = t .word; largest = level-anew e (e .lanes) q refl (t .largest); lanes = λ i. strict-anew e (e .lanes) q (λ r. r) (laneAt e i) (t .lanes i); global = clean (t .global) }
-  where
-    g : Engine
-    g = withGlobal q e
-
-    clean : Clean e (e .global) → Clean g q
-    clean (noneA c d) = noneA (ap isEmpty a ∙ c) (b ∙ d)
-    clean (old c d) = absurd d
-    clean (now c d k) = now (ap isEmpty a ∙ c) (b ∙ d) k
-    clean (soon c d k) = soon (ap isEmpty a ∙ c) (b ∙ d) k
-
-module _ (n i : ℕ) (e : Engine) (b : i < length (e .lanes)) (o : laneAt e i .online ≡ true) (f : Fits n e) (t : Generations e) where
-  tidy : Disciplined e
-  tidy = record { word = t .word; level = t .largest; some = any-true freshLane isOnline (e .lanes) i b o; off = empty-off n e f; lanes = λ j. inl (t .lanes j); global = inl (t .global) }
-
-  back : {d : Engine} → Disciplined d → Generations d
-  back u = record { word = u .word; largest = u .level; lanes = λ j. ⊎-elim (λ a. a) (λ a. absurd (a .0)) (u .lanes j); global = ⊎-elim (λ a. a) (λ a. absurd (a .0)) (u .global) }
-
-  pub generations-clocked : Generations (clocked i e)
-  generations-clocked = back (tidy-clocked i e b o tidy)
-
-  pub generations-wentOff : any isOnline (update (e .lanes) i (setOnline false)) ≡ true → Generations (wentOff i e)
-  generations-wentOff s = back (tidy-wentOff i e b s tidy)

@@ -21,6 +21,7 @@ use Rattle.laws.specs.Sums.{sum}
 use Rattle.laws.specs.Counts.{count-from, count-from-below}
 use Rattle.representation.proofs.Discipline.Frame.{inLane}
 use Rattle.representation.proofs.Discipline.Ages.{none as noneA, rests}
+use Rattle.representation.proofs.ExtraWords.{extra-fresh}
 use Rattle.representation.proofs.WellFormed.{WellFormed, LaneFits, chained}
 
 nothing-queued : (x n : ℕ) → sum (inLane x) (replicate n freshLane) ≡ 0
@@ -29,7 +30,7 @@ nothing-queued x zero = refl
 nothing-queued x (suc n) = omega (arith, nothing-queued x n)
 
 pub fresh-fits : (n : ℕ) → LaneFits n freshLane
-fresh-fits n = record { counts = record { four = refl; words = zeros }; lookup = tt; snapshot = tt; off = λ x. clash refl x }
+fresh-fits n = record { counts = record { four = refl; words = zeros }; lookup = tt; snapshot = tt; off = λ x. clash refl x; extra = extra-fresh }
   where
     zeros : (k : ℕ) → getD (0 ∷ 0 ∷ 0 ∷ 0 ∷ []) k 0 < countLimit
     zeros zero = omega arith

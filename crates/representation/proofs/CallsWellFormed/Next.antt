@@ -1,127 +1,79 @@
--- Each call keeps a state well formed.
-use Prim.Native.Nat.{ℕ, _+_, _<_}
-use mathlib.Core.Path.{_≡_, refl, ap, _∙_}
-use mathlib.Core.Logic.{_⊎_, inl, inr, _≢_}
-use mathlib.Core.Bool.{true, false, _&&_, not}
-use native.Mathlib.Omega.{arith}
-use lib.ListN.{length, getD, set}
-use lib.Seq.{getD-set-same, getD-set-other}
-use lib.Dec.{eqb}
-use Rattle.model.specs.Word.{none}
-use Rattle.model.specs.Lists.{isEmpty}
-use Rattle.model.specs.State.{Lane, Engine, Product, Table, State, laneCount}
-use Rattle.model.specs.Engine.{freshLane}
-use Rattle.model.specs.Table.{product, slotOf, present, linkOf, added, replaced, deleted, reclaimed}
-use Rattle.model.specs.Rules.{Op, add, replace, delete, begin, end, start, step, pass, clock, on, off, hand-back, awaited, Answer, laneOf, with, retired, handedBack, lessHandedBack, fromGlobal, lessDone, performed, next, reclaiming, refusal}
-use Rattle.laws.specs.Tests.{clash, cond-cases, same-or}
-use Rattle.laws.specs.ListLaws.{length-update, update-cases}
-use Rattle.laws.specs.Counts.{mark, mark-self, mark-other}
-use Rattle.representation.proofs.Discipline.Frame.{queued}
-use Rattle.representation.proofs.Causes.SlotCounts.{inTable, in-added, in-replaced, in-deleted, in-reclaimed, in-retired, in-handed}
+-- Each call on a state, one by one: it changes no size, has status 0 where no cause applies, and keeps the state well formed.
+use mathlib.Core.Path.{_≡_, refl, ap}
+use mathlib.Core.Bool.{not}
+use Rattle.model.specs.State.{State}
+use Rattle.model.specs.Table.{product}
+use Rattle.model.specs.Rules.{Op, add, replace, delete, begin, end, start, step, pass, clock, on, off, hand-back, awaited}
+use Rattle.model.specs.Rules.{Answer, laneOf, Outcome, going, found, absent, outcome, outcomeAnswer, refusal, performed, result, next}
 use Rattle.representation.proofs.Causes.Passed.{call-cases}
 use Rattle.representation.proofs.Causes.Accepted.{accepts}
-use Rattle.representation.proofs.WellFormed.{WellFormed, LaneFits, TableFits, ProductFits, Generations}
-use Rattle.representation.proofs.FromState.Standing.{fit, at-most-one, table-once, table-below}
-use Rattle.representation.proofs.CallsWellFormed.EngineFields.{Fits, generations-at, generations-global}
+use Rattle.representation.proofs.WellFormed.{WellFormed}
 use Rattle.representation.proofs.Sentences.Ranges.{code-fits, product-fits}
-use Rattle.representation.proofs.CallsWellFormed.Tables.{deleted-fits, reclaimed-fits}
-use Rattle.representation.proofs.CallsWellFormed.TableGifts.{added-fits, replaced-fits}
-use Rattle.representation.proofs.CallsWellFormed.NextLanes.{anew, well-begin, well-end, well-start, well-step, well-pass, well-on, in-lanes, well-clock, well-off}
+use Rattle.representation.proofs.CallsWellFormed.NextLanes.{well-begin, well-end, well-start, well-step, well-pass, well-on, well-clock, well-off}
+use Rattle.representation.proofs.CallsWellFormed.NextTables.{well-add, well-replace, well-delete, well-back}
 
-module _ (s : State) (w : WellFormed s) where
-  abbrev n : ℕ
-  n = s .sizes .slots
+-- a call changes no size
+pub sizes-performed : (s : State) (o : Op) → performed s o .sizes ≡ s .sizes
+unfolding performed
+sizes-performed s (add i c d m) = refl
+sizes-performed s (replace i c d m) = refl
+sizes-performed s (delete i c) = refl
+sizes-performed s (start i c) = refl
+sizes-performed s (pass i n) = refl
+sizes-performed s (begin i) = refl
+sizes-performed s (end i) = refl
+sizes-performed s (step i) = refl
+sizes-performed s (clock i) = refl
+sizes-performed s (on i) = refl
+sizes-performed s (off i) = refl
+sizes-performed s (hand-back i) = refl
+sizes-performed s awaited = refl
 
-  abbrev e : Engine
-  e = s .engine
+outcome-status : (o : Outcome) → outcomeAnswer o .status ≡ 0
+unfolding outcomeAnswer
+outcome-status going = refl
+outcome-status (found r) = refl
+outcome-status absent = refl
 
-  abbrev t : Table
-  t = s .table
+-- a call that no cause refuses has status 0
+pub status : (s : State) (o : Op) → result s o .status ≡ 0
+unfolding result
+status s (add i c d m) = refl
+status s (replace i c d m) = refl
+status s (delete i c) = refl
+status s (start i c) = refl
+status s (pass i n) = refl
+status s (begin i) = refl
+status s (end i) = refl
+status s (step i) = outcome-status (outcome (s .table) (laneOf s i .lookup))
+status s (clock i) = refl
+status s (on i) = refl
+status s (off i) = refl
+status s (hand-back i) = refl
+status s awaited = refl
 
-  -- ---- the table anew
+well-performed : (s : State) → WellFormed s → (o : Op) → refusal s o ≡ 0 → WellFormed (performed s o)
+unfolding performed
+well-performed s w (add i c d m) h = let k = accepts s (add i c d m) h in well-add s w (product c d m) (k .free) (k .missing) (product-fits c d m (k .inRange))
+well-performed s w (replace i c d m) h =
+    let k = accepts s (replace i c d m) h in
+    well-replace s w i (product c d m) (k .lane .known) (k .lane .online) (k .free) (k .present) (product-fits c d m (k .inRange))
+well-performed s w (delete i c) h = let k = accepts s (delete i c) h in well-delete s w i c (k .lane .known) (k .lane .online) (k .present)
+well-performed s w (start i c) h = let k = accepts s (start i c) h in well-start s w i c (k .reading) (code-fits c (k .inRange))
+well-performed s w (pass i k) h = well-pass s w i k
+well-performed s w (begin i) h = well-begin s w i (accepts s (begin i) h .lane .online)
+well-performed s w (end i) h = well-end s w i (accepts s (end i) h .idle)
+well-performed s w (step i) h = well-step s w i
+well-performed s w (clock i) h = let k = accepts s (clock i) h in well-clock s w i (k .known) (k .online)
+well-performed s w (on i) h = well-on s w i
+well-performed s w (off i) h = let k = accepts s (off i) h in well-off s w i (k .lane .known) (k .lane .online) (k .closed) (ap not (k .another))
+well-performed s w (hand-back i) h = let k = accepts s (hand-back i) h in well-back s w i (k .lane .known) (k .lane .online) (k .done)
+well-performed s w awaited h = w
 
-  well-add : (p : Product) → isEmpty (t .free) ≡ false → present t (p .code) ≡ false → ProductFits p → WellFormed (with s e (added p t))
-  unfolding added
-  well-add p f a h = anew s w e (added p t) (record {
-    size = refl;
-    fits = w .fits;
-    table = added-fits n t (w .table) (fit s w .fewSlots) (table-once s w) (table-below s w) p f a h;
-    same = λ x. omega (arith, in-added t (w .table .chains) x p f);
-    unlinked = w .unlinked;
-    generations = w .generations;
-  })
+-- ---- refused or not
 
-  -- slot o leaves its chain for lane i's next queue
-  well-retire : (i o : ℕ) (u : Table) → i < laneCount (s .sizes) → laneOf s i .online ≡ true → TableFits n u → ((x : ℕ) → inTable x u + mark x o ≡ inTable x t) → u .links ≡ set (t .links) o (linkOf t o)
-      → WellFormed (with s (retired s i o) u)
-  well-retire i o u b lit h same l = anew s w (retired s i o) u (record {
-    size = length-update (e .lanes) i _;
-    fits = update-cases freshLane (λ (j : ℕ) (l : Lane). LaneFits n l) (e .lanes) i _ (w .fits) (let f = w .fits i in record { counts = f .counts; lookup = f .lookup; snapshot = f .snapshot; off = λ x. clash lit x });
-    table = h;
-    same = λ x. omega (arith, same x, in-retired s i (in-lanes s w i b) x o);
-    unlinked = λ x q. rw l (kept x q (same-or x o));
-    generations = generations-at i _ e (λ l. record { pending = refl; current = refl; generation = refl }) (w .generations);
-  })
-    where
-      kept : (x : ℕ) → queued x (retired s i o) ≡ 0 → (x ≡ o) ⊎ ((x ≢ o) × (eqb x o ≡ false)) → getD (set (t .links) o (linkOf t o)) x none ≡ none
-      kept x q (inl d) = absurd (let k : mark x o ≡ 1 = rw d (mark-self o) in omega (arith, in-retired s i (in-lanes s w i b) x o))
-      kept x q (inr d) = getD-set-other (t .links) o x (linkOf t o) none (d .0) ∙ w .unlinked x (omega (arith, in-retired s i (in-lanes s w i b) x o))
-
-  well-replace : (i : ℕ) (p : Product) → i < laneCount (s .sizes) → laneOf s i .online ≡ true → isEmpty (t .free) ≡ false → present t (p .code) ≡ true → ProductFits p
-      → WellFormed (with s (retired s i (slotOf t (p .code))) (replaced p t))
-  unfolding replaced
-  well-replace i p b o f h k = well-retire i (slotOf t (p .code)) (replaced p t) b o (replaced-fits n t (w .table) (fit s w .fewSlots) (table-once s w) (table-below s w) p f h k) (λ x. in-replaced t (w .table .chains) x p f h) refl
-
-  well-delete : (i c : ℕ) → i < laneCount (s .sizes) → laneOf s i .online ≡ true → present t c ≡ true → WellFormed (with s (retired s i (slotOf t c)) (deleted c t))
-  unfolding deleted
-  well-delete i c b o h = well-retire i (slotOf t c) (deleted c t) b o (deleted-fits n t (w .table) (fit s w .fewSlots) (table-once s w) (table-below s w) c h) (λ x. in-deleted t (w .table .chains) x c h) refl
-
-  well-back : (i : ℕ) → i < laneCount (s .sizes) → laneOf s i .online ≡ true → (isEmpty (laneOf s i .queues .done) && isEmpty (e .global .done)) ≡ false
-      → WellFormed (with s (lessHandedBack s i) (reclaimed (handedBack s i) t))
-  unfolding reclaimed
-  well-back i b o h = anew s w (lessHandedBack s i) (reclaimed k t) (record {
-    size = cond-cases (λ (f : Engine). length (f .lanes) ≡ length (e .lanes)) (fromGlobal s i) (λ r. refl) (λ r. length-update (e .lanes) i _);
-    fits = cond-cases (Fits n) (fromGlobal s i) (λ r. w .fits)
-        (λ r. update-cases freshLane (λ (j : ℕ) (l : Lane). LaneFits n l) (e .lanes) i reclaiming (w .fits) (let f = w .fits i in record { counts = f .counts; lookup = f .lookup; snapshot = f .snapshot; off = λ x. clash o x }));
-    table = reclaimed-fits n t (w .table) (fit s w .fewSlots) (table-once s w) (table-below s w) k (omega (arith, at-most-one s w k, handed-out k, mark-self k)) inside;
-    same = λ x. omega (arith, in-reclaimed t (w .table .chains) x k, handed-out x);
-    unlinked = λ x q. kept x q (same-or x k);
-    generations = cond-cases Generations (fromGlobal s i) (λ r. generations-global (lessDone (e .global)) e refl refl (w .generations))
-        (λ r. generations-at i reclaiming e (λ l. record { pending = refl; current = refl; generation = refl }) (w .generations));
-  })
-    where
-      k : ℕ
-      k = handedBack s i
-
-      handed-out : (x : ℕ) → queued x (lessHandedBack s i) + mark x k ≡ queued x e
-      handed-out x = in-handed s i (in-lanes s w i b) x h
-
-      inside : k < n
-      inside = w .range k (omega (arith, handed-out k, mark-self k))
-
-      kept : (x : ℕ) → queued x (lessHandedBack s i) ≡ 0 → (x ≡ k) ⊎ ((x ≢ k) × (eqb x k ≡ false)) → getD (set (t .links) k none) x none ≡ none
-      kept x q (inl d) = ap (λ (y : ℕ). getD (set (t .links) k none) y none) d ∙ getD-set-same (t .links) k none none (omega (arith, inside, w .table .links))
-      kept x q (inr d) = getD-set-other (t .links) k x none none (d .0) ∙ w .unlinked x (omega (arith, handed-out x, mark-other x k (d .0)))
-
-  -- ---- all calls
-
-  well-performed : (o : Op) → refusal s o ≡ 0 → WellFormed (performed s o)
-  unfolding performed
-  well-performed (add i c d m) h = let k = accepts s (add i c d m) h in well-add (product c d m) (k .free) (k .missing) (product-fits c d m (k .inRange))
-  well-performed (replace i c d m) h =
-      let k = accepts s (replace i c d m) h in
-      well-replace i (product c d m) (k .lane .known) (k .lane .online) (k .free) (k .present) (product-fits c d m (k .inRange))
-  well-performed (delete i c) h = let k = accepts s (delete i c) h in well-delete i c (k .lane .known) (k .lane .online) (k .present)
-  well-performed (start i c) h = let k = accepts s (start i c) h in well-start s w i c (k .reading) (code-fits c (k .inRange))
-  well-performed (pass i k) h = well-pass s w i k
-  well-performed (begin i) h = well-begin s w i (accepts s (begin i) h .lane .online)
-  well-performed (end i) h = well-end s w i (accepts s (end i) h .idle)
-  well-performed (step i) h = well-step s w i
-  well-performed (clock i) h = let k = accepts s (clock i) h in well-clock s w i (k .known) (k .online)
-  well-performed (on i) h = well-on s w i
-  well-performed (off i) h = let k = accepts s (off i) h in well-off s w i (k .lane .known) (k .lane .online) (k .closed) (ap not (k .another))
-  well-performed (hand-back i) h = let k = accepts s (hand-back i) h in well-back i (k .lane .known) (k .lane .online) (k .done)
-  well-performed awaited h = w
+pub sizes-next : (s : State) (o : Op) → next s o .sizes ≡ s .sizes
+sizes-next s o = call-cases (λ (t : State) (r : Answer). t .sizes ≡ s .sizes) s o (λ z. sizes-performed s o) (λ m. refl)
 
 pub next-wellFormed : (s : State) (o : Op) → WellFormed s → WellFormed (next s o)
 next-wellFormed s o w = call-cases (λ (u : State) (r : Answer). WellFormed u) s o (well-performed s w o) (λ m. w)

@@ -18,9 +18,11 @@ use Rattle.laws.specs.ListLaws.{length-update, update-cases}
 use Rattle.laws.specs.Sums.{sum, sum-update-same}
 use Rattle.representation.proofs.Discipline.Frame.{inQueues, inLane, queued, Frame, frame-clocked, frame-wentOff}
 use Rattle.representation.proofs.Causes.SlotCounts.{inTable}
+use Rattle.representation.proofs.ExtraWords.{extra-on}
 use Rattle.representation.proofs.WellFormed.{WellFormed, LaneFits, TableFits, LookupFits, Generations, standing}
 use Rattle.representation.proofs.FromState.Standing.{head-range, chainLink-range}
-use Rattle.representation.proofs.CallsWellFormed.EngineFields.{Fits, fits-clocked, fits-wentOff, generations-at, generations-clocked, generations-wentOff}
+use Rattle.representation.proofs.CallsWellFormed.EngineFields.{Fits, fits-clocked, fits-wentOff}
+use Rattle.representation.proofs.CallsWellFormed.EngineGenerations.{generations-at, generations-clocked, generations-wentOff}
 
 module _ (s : State) (w : WellFormed s) where
   abbrev n : ℕ
@@ -56,14 +58,19 @@ module _ (s : State) (w : WellFormed s) where
 
   -- ---- one lane anew
 
-  at-lane : (i : ℕ) (f : Lane → Lane) → ((l : Lane) → f l .pending ≡ l .pending) → ((l : Lane) → f l .queues ≡ l .queues) → LaneFits n (f (laneOf s i)) → WellFormed (withLane s i f)
+  at-lane : (i : ℕ) (f : Lane → Lane) → ((l : Lane) → f l .pending ≡ l .pending) → ((l : Lane) → f l .queues ≡ l .queues) → LaneFits n (f (laneOf s i))
+      → WellFormed (withLane s i f)
   at-lane i f p q k = anew (atLane i f e) t (record {
     size = length-update (e .lanes) i f;
     fits = update-cases freshLane (λ (j : ℕ) (l : Lane). LaneFits n l) (e .lanes) i f (w .fits) k;
     table = w .table;
     same = λ x. omega (arith, kept x);
     unlinked = λ x h. w .unlinked x (omega (arith, kept x));
-    generations = generations-at i f e (λ l. record { pending = p l; current = ap (λ (q : Queues). q .current) (q l); generation = ap (λ (q : Queues). q .generation) (q l) }) (w .generations);
+    generations = generations-at i f e (λ l. record {
+      pending = p l;
+      current = ap (λ (q : Queues). q .current) (q l);
+      generation = ap (λ (q : Queues). q .generation) (q l);
+    }) (w .generations);
   })
     where
       kept : (x : ℕ) → sum (inLane x) (update (e .lanes) i f) ≡ sum (inLane x) (e .lanes)
@@ -80,21 +87,42 @@ module _ (s : State) (w : WellFormed s) where
 
   pub well-begin : (i : ℕ) → laneOf s i .online ≡ true → WellFormed (withLane s i (setReading true))
   well-begin i o = at-lane i (setReading true) (λ l. refl) (λ l. refl)
-      (let f = w .fits i in record { counts = f .counts; lookup = reading-fits (laneOf s i .lookup) _ (f .lookup); snapshot = f .snapshot; off = λ x. clash o x })
+      (let f = w .fits i in record {
+        counts = f .counts;
+        lookup = reading-fits (laneOf s i .lookup) _ (f .lookup);
+        snapshot = f .snapshot;
+        off = λ x. clash o x;
+        extra = f .extra;
+      })
 
   pub well-end : (i : ℕ) → isRunning (laneOf s i .lookup) ≡ false → WellFormed (withLane s i (setReading false))
   well-end i h = at-lane i (setReading false) (λ l. refl) (λ l. refl)
-      (let f = w .fits i in record { counts = f .counts; lookup = idle-fits (laneOf s i .lookup) false h; snapshot = f .snapshot; off = λ x. let u = f .off x in record { reading = refl; pending = u .pending; queues = u .queues } })
+      (let f = w .fits i in record {
+        counts = f .counts;
+        lookup = idle-fits (laneOf s i .lookup) false h;
+        snapshot = f .snapshot;
+        off = λ x. let u = f .off x in record { reading = refl; pending = u .pending; queues = u .queues };
+        extra = f .extra;
+      })
 
   looks : (i : ℕ) (k : Lookup) → LookupFits n (laneOf s i .reading) k → LaneFits n (setLookup k (laneOf s i))
-  looks i k h = let f = w .fits i in record { counts = f .counts; lookup = h; snapshot = f .snapshot; off = λ x. let u = f .off x in record { reading = u .reading; pending = u .pending; queues = u .queues } }
+  looks i k h = let f = w .fits i in record {
+    counts = f .counts;
+    lookup = h;
+    snapshot = f .snapshot;
+    off = λ x. let u = f .off x in record { reading = u .reading; pending = u .pending; queues = u .queues };
+    extra = f .extra;
+  }
 
   pub well-start : (i c : ℕ) → laneOf s i .reading ≡ true → c ≤ maxCode → WellFormed (withLane s i (setLookup (running c (first (chainOf t c)))))
   well-start i c r h = at-lane i (setLookup (running c (first (chainOf t c)))) (λ l. refl) (λ l. refl) (looks i _ (r, h, head-range s w (c % chainCount)))
 
   pub well-step : (i : ℕ) → WellFormed (withLane s i (stepped t))
   unfolding continued
-  well-step i = at-lane i (stepped t) (λ l. refl) (λ l. refl) (looks i (continued t (laneOf s i .lookup) (outcome t (laneOf s i .lookup))) (go (laneOf s i .lookup) (w .fits i .lookup) (outcome t (laneOf s i .lookup))))
+  well-step i =
+      at-lane i (stepped t) (λ l. refl) (λ l. refl)
+      (looks i (continued t (laneOf s i .lookup) (outcome t (laneOf s i .lookup)))
+      (go (laneOf s i .lookup) (w .fits i .lookup) (outcome t (laneOf s i .lookup))))
     where
       go : (k : Lookup) → LookupFits n (laneOf s i .reading) k → (o : Outcome) → LookupFits n (laneOf s i .reading) (continued t k o)
       go idle f o = tt
@@ -108,26 +136,46 @@ module _ (s : State) (w : WellFormed s) where
       (let f = w .fits i in record {
         counts = record {
           four = length-update (laneOf s i .quiescent) k (upTo countLimit) ∙ f .counts .four;
-          words = update-cases 0 (λ (j : ℕ) (x : ℕ). x < countLimit) (laneOf s i .quiescent) k (upTo countLimit) (f .counts .words) (up-word (getD (laneOf s i .quiescent) k 0));
+          words =
+              update-cases 0 (λ (j : ℕ) (x : ℕ). x < countLimit) (laneOf s i .quiescent) k
+              (upTo countLimit) (f .counts .words) (up-word (getD (laneOf s i .quiescent) k 0));
         };
         lookup = f .lookup;
         snapshot = f .snapshot;
         off = λ x. let u = f .off x in record { reading = u .reading; pending = u .pending; queues = u .queues };
+        extra = f .extra;
       })
 
   pub well-on : (i : ℕ) → WellFormed (withLane s i (setOnline true))
-  well-on i = at-lane i (setOnline true) (λ l. refl) (λ l. refl) (let f = w .fits i in record { counts = f .counts; lookup = f .lookup; snapshot = f .snapshot; off = λ x. clash refl x })
+  well-on i = at-lane i (setOnline true) (λ l. refl) (λ l. refl) (let f = w .fits i in record {
+    counts = f .counts;
+    lookup = f .lookup;
+    snapshot = f .snapshot;
+    off = λ x. clash refl x;
+    extra = extra-on (laneOf s i) (f .extra);
+  })
 
   -- ---- the engine anew
 
   engine-anew : (f : Engine) → Frame e f → Fits n f → Generations f → WellFormed (withEngine s f)
-  engine-anew f a b c = anew f t (record { size = a .size; fits = b; table = w .table; same = λ x. omega (arith, a .once x); unlinked = λ x h. w .unlinked x (omega (arith, a .once x)); generations = c })
+  engine-anew f a b c = anew f t (record {
+    size = a .size;
+    fits = b;
+    table = w .table;
+    same = λ x. omega (arith, a .once x);
+    unlinked = λ x h. w .unlinked x (omega (arith, a .once x));
+    generations = c;
+  })
 
   pub in-lanes : (i : ℕ) → i < laneCount (s .sizes) → i < length (e .lanes)
   in-lanes i b = omega (arith, w .lanes)
 
   pub well-clock : (i : ℕ) → i < laneCount (s .sizes) → laneOf s i .online ≡ true → WellFormed (withEngine s (clocked i e))
-  well-clock i b o = engine-anew (clocked i e) (frame-clocked i e) (fits-clocked n i e o (w .fits)) (generations-clocked n i e (in-lanes i b) o (w .fits) (w .generations))
+  well-clock i b o =
+      engine-anew (clocked i e) (frame-clocked i e) (fits-clocked n i e o (w .fits)) (generations-clocked n i e (in-lanes i b) o (w .fits) (w .generations))
 
-  pub well-off : (i : ℕ) → i < laneCount (s .sizes) → laneOf s i .online ≡ true → laneOf s i .reading ≡ false → not (any isOnline (update (e .lanes) i (setOnline false))) ≡ false → WellFormed (withEngine s (wentOff i e))
-  well-off i b o r a = engine-anew (wentOff i e) (frame-wentOff i e r) (fits-wentOff n i e r (w .fits)) (generations-wentOff n i e (in-lanes i b) o (w .fits) (w .generations) (not-false _ a))
+  pub well-off : (i : ℕ) → i < laneCount (s .sizes) → laneOf s i .online ≡ true → laneOf s i .reading ≡ false
+      → not (any isOnline (update (e .lanes) i (setOnline false))) ≡ false → WellFormed (withEngine s (wentOff i e))
+  well-off i b o r a =
+      engine-anew (wentOff i e) (frame-wentOff i e r) (fits-wentOff n i e r (w .fits))
+      (generations-wentOff n i e (in-lanes i b) o (w .fits) (w .generations) (not-false _ a))

@@ -63,7 +63,8 @@ module _ (n : ℕ) (t : Table) (fits : TableFits n t) (few : n ≤ maxSlots) (on
     -- a slot of a chain that holds s and slots that were chained on it
     given-chain : (k x : ℕ) → p .code % chainCount ≡ k → (x ≡ s) ⊎ (0 < count x (getD (t .chains) k [])) → getD given x blank .code % chainCount ≡ k
     given-chain k x e (inl q) = ap (λ (y : ℕ). getD given y blank .code % chainCount) q ∙ ap (λ (q : Product). q .code % chainCount) given-at ∙ e
-    given-chain k x e (inr b) = ap (λ (q : Product). q .code % chainCount) (given-chained x (omega (arith, chain-le n t fits few once below k x))) ∙ fits .onChain k x b
+    given-chain k x e (inr b) =
+        ap (λ (q : Product). q .code % chainCount) (given-chained x (omega (arith, chain-le n t fits few once below k x))) ∙ fits .onChain k x b
 
     old-chain : (k x : ℕ) → 0 < count x (getD (t .chains) k []) → getD given x blank .code % chainCount ≡ k
     old-chain k x b = ap (λ (q : Product). q .code % chainCount) (given-chained x (omega (arith, chain-le n t fits few once below k x))) ∙ fits .onChain k x b
@@ -72,10 +73,15 @@ module _ (n : ℕ) (t : Table) (fits : TableFits n t) (few : n ≤ maxSlots) (on
     given-distinct : (C : ℕ → Type 0) → ((x : ℕ) → C x → 0 < chained x t) → ((x : ℕ) → C x → codeIn x ≢ p .code)
         → (x y : ℕ) → (x ≡ s) ⊎ C x → (y ≡ s) ⊎ C y → getD given x blank .code ≡ getD given y blank .code → x ≡ y
     given-distinct C a b x y (inl q) (inl r) e = q ∙ sym r
-    given-distinct C a b x y (inl q) (inr r) e = absurd (b y r (sym (ap (λ (q : Product). q .code) (given-chained y (a y r))) ∙ sym e ∙ ap (λ (x : ℕ). getD given x blank .code) q ∙ ap (λ (q : Product). q .code) given-at))
-    given-distinct C a b x y (inr q) (inl r) e = absurd (b x q (sym (ap (λ (q : Product). q .code) (given-chained x (a x q))) ∙ e ∙ ap (λ (x : ℕ). getD given x blank .code) r ∙ ap (λ (q : Product). q .code) given-at))
+    given-distinct C a b x y (inl q) (inr r) e =
+        absurd (b y r (sym (ap (λ (q : Product). q .code) (given-chained y (a y r))) ∙ sym e
+        ∙ ap (λ (x : ℕ). getD given x blank .code) q ∙ ap (λ (q : Product). q .code) given-at))
+    given-distinct C a b x y (inr q) (inl r) e =
+        absurd (b x q (sym (ap (λ (q : Product). q .code) (given-chained x (a x q))) ∙ e
+        ∙ ap (λ (x : ℕ). getD given x blank .code) r ∙ ap (λ (q : Product). q .code) given-at))
     given-distinct C a b x y (inr q) (inr r) e =
-        fits .distinct x y (a x q) (a y r) (sym (ap (λ (q : Product). q .code) (given-chained x (a x q))) ∙ e ∙ ap (λ (q : Product). q .code) (given-chained y (a y r)))
+        fits .distinct x y (a x q) (a y r) (sym (ap (λ (q : Product). q .code) (given-chained x (a x q)))
+        ∙ e ∙ ap (λ (q : Product). q .code) (given-chained y (a y r)))
 
     new-or : (x k : ℕ) → 0 < mark x s + k → (x ≡ s) ⊎ (0 < k)
     new-or x k h = go (same-or x s)
@@ -90,16 +96,21 @@ module _ (n : ℕ) (t : Table) (fits : TableFits n t) (few : n ≤ maxSlots) (on
       chains = length-update (t .chains) (p .code % chainCount) (λ (xs : List ℕ). s ∷ xs) ∙ fits .chains;
       products = length-set (t .products) s p ∙ fits .products;
       links = fits .links;
-      onChain = update-cases [] (λ (k : ℕ) (xs : List ℕ). (x : ℕ) → 0 < count x xs → getD given x blank .code % chainCount ≡ k) (t .chains) (p .code % chainCount) (λ (xs : List ℕ). s ∷ xs)
+      onChain =
+          update-cases [] (λ (k : ℕ) (xs : List ℕ). (x : ℕ) → 0 < count x xs → getD given x blank .code % chainCount ≡ k)
+          (t .chains) (p .code % chainCount) (λ (xs : List ℕ). s ∷ xs)
           old-chain (λ x b. given-chain (p .code % chainCount) x refl (new-or x _ b));
-      distinct = λ x y a b. given-distinct (λ (x : ℕ). 0 < chained x t) (λ x h. h) (no-code n t fits few once below (p .code) absent) x y (new-or x _ (chained-added x a)) (new-or y _ (chained-added y b));
+      distinct =
+          λ x y a b. given-distinct (λ (x : ℕ). 0 < chained x t) (λ x h. h) (no-code n t fits few once below (p .code) absent) x y
+          (new-or x _ (chained-added x a)) (new-or y _ (chained-added y b));
       inRange = given-range f;
       linkRange = fits .linkRange;
       blanks = given-blank;
     }
       where
         chained-added : (x : ℕ) → 0 < chained x (added p t) → 0 < mark x s + chained x t
-        chained-added x h = omega (arith, sum-update (count x) [] (t .chains) (p .code % chainCount) (λ (xs : List ℕ). s ∷ xs) (spot n t fits few once below (p .code)))
+        chained-added x h =
+            omega (arith, sum-update (count x) [] (t .chains) (p .code % chainCount) (λ (xs : List ℕ). s ∷ xs) (spot n t fits few once below (p .code)))
 
     module _ (here : present t (p .code) ≡ true) where
       abbrev o : ℕ
@@ -125,17 +136,30 @@ module _ (n : ℕ) (t : Table) (fits : TableFits n t) (few : n ≤ maxSlots) (on
         chains = length-update (t .chains) (p .code % chainCount) (swapped o s) ∙ fits .chains;
         products = length-set (t .products) s p ∙ fits .products;
         links = length-set (t .links) o (linkOf t o) ∙ fits .links;
-        onChain = update-cases [] (λ (k : ℕ) (xs : List ℕ). (x : ℕ) → 0 < count x xs → getD given x blank .code % chainCount ≡ k) (t .chains) (p .code % chainCount) (swapped o s)
-            old-chain (λ x b. given-chain (p .code % chainCount) x refl (new-or x _ (omega (arith, count-swapped x o s (chainOf t (p .code)) (present-in t (p .code) here)))));
+        onChain =
+            update-cases [] (λ (k : ℕ) (xs : List ℕ). (x : ℕ) → 0 < count x xs → getD given x blank .code % chainCount ≡ k)
+            (t .chains) (p .code % chainCount) (swapped o s)
+            old-chain (λ x b. given-chain (p .code % chainCount) x refl
+            (new-or x _ (omega (arith, count-swapped x o s (chainOf t (p .code)) (present-in t (p .code) here)))));
         distinct = λ x y a b. given-distinct Still (λ x h. h .was) other-code x y (still x a (same-or x s)) (still y b (same-or y s));
         inRange = given-range f;
-        linkRange = set-cases none (λ (x : ℕ) (v : ℕ). SlotOrNone n v) (t .links) o (linkOf t o) (fits .linkRange) (successorIn-range n (t .chains) o _ (λ x h. below x (omega (arith, count-concat x (t .chains)))) (fits .linkRange o));
+        linkRange =
+            set-cases none (λ (x : ℕ) (v : ℕ). SlotOrNone n v) (t .links) o (linkOf t o) (fits .linkRange)
+            (successorIn-range n (t .chains) o _ (λ x h. below x (omega (arith, count-concat x (t .chains)))) (fits .linkRange o));
         blanks = given-blank;
       }
         where
           swap : (x : ℕ) → chained x (replaced p t) + mark x o ≡ chained x t + mark x s
-          swap x = omega (arith, sum-update (count x) [] (t .chains) (p .code % chainCount) (swapped o s) (spot n t fits few once below (p .code)), count-swapped x o s (chainOf t (p .code)) (present-in t (p .code) here))
+          swap x =
+              omega (
+                arith,
+                sum-update (count x) [] (t .chains) (p .code % chainCount) (swapped o s) (spot n t fits few once below (p .code)),
+                count-swapped x o s (chainOf t (p .code)) (present-in t (p .code) here),
+              )
 
           still : (x : ℕ) → 0 < chained x (replaced p t) → (x ≡ s) ⊎ ((x ≢ s) × (eqb x s ≡ false)) → (x ≡ s) ⊎ Still x
           still x h (inl q) = inl q
-          still x h (inr q) = inr (record { was = omega (arith, swap x, mark-other x s (q .0)); notOld = λ e. let k : mark x o ≡ 1 = rw e (mark-self o) in omega (arith, swap x, mark-other x s (q .0), once x) })
+          still x h (inr q) = inr (record {
+            was = omega (arith, swap x, mark-other x s (q .0));
+            notOld = λ e. let k : mark x o ≡ 1 = rw e (mark-self o) in omega (arith, swap x, mark-other x s (q .0), once x);
+          })

@@ -1,5 +1,5 @@
 -- Where chained slots stand in a table as legality asks; delete and hand-back keep it so.
-use Prim.Native.Nat.{ℕ, suc, _+_, _%_, _<_, _≤_}
+use Prim.Native.Nat.{ℕ, suc, _%_, _<_, _≤_}
 use mathlib.Core.Path.{_≡_, refl, sym, ap, _∙_}
 use mathlib.Core.Logic.{_⊎_, inl, inr, _≢_}
 use mathlib.Core.Bool.{true, false}
@@ -54,7 +54,9 @@ module _ (n : ℕ) (t : Table) (fits : TableFits n t) (few : n ≤ maxSlots) (on
 
   -- no chained slot holds a code that is not present
   pub no-code : (c : ℕ) → present t c ≡ false → (y : ℕ) → 0 < chained y t → codeIn y ≢ c
-  no-code c p y h e = slotIn-some (t .products) c y (chainOf t c) (λ x b. real x (omega (arith, chain-le (c % chainCount) x))) (rw e at (on-own y h)) e (eqb-true (slotOf t c) none (not-false _ p))
+  no-code c p y h e =
+      slotIn-some (t .products) c y (chainOf t c) (λ x b. real x (omega (arith, chain-le (c % chainCount) x)))
+      (rw e at (on-own y h)) e (eqb-true (slotOf t c) none (not-false _ p))
 
   pub spot : (c : ℕ) → c % chainCount < length (t .chains)
   spot c = omega (arith, fits .chains)
@@ -79,7 +81,9 @@ module _ (n : ℕ) (t : Table) (fits : TableFits n t) (few : n ≤ maxSlots) (on
           (fits .onChain) (λ x b. fits .onChain (c % chainCount) x (omega (arith, count-without x d (chainOf t c) (present-in t c here))));
       distinct = λ x y a b. fits .distinct x y (omega (arith, fewer x)) (omega (arith, fewer y));
       inRange = fits .inRange;
-      linkRange = set-cases none (λ (x : ℕ) (v : ℕ). SlotOrNone n v) (t .links) d (linkOf t d) (fits .linkRange) (successorIn-range n (t .chains) d _ (λ x h. below x (omega (arith, count-concat x (t .chains)))) (fits .linkRange d));
+      linkRange =
+          set-cases none (λ (x : ℕ) (v : ℕ). SlotOrNone n v) (t .links) d (linkOf t d) (fits .linkRange)
+          (successorIn-range n (t .chains) d _ (λ x h. below x (omega (arith, count-concat x (t .chains)))) (fits .linkRange d));
       blanks = fits .blanks;
     }
 
@@ -99,12 +103,17 @@ module _ (n : ℕ) (t : Table) (fits : TableFits n t) (few : n ≤ maxSlots) (on
       products = length-set (t .products) h blank ∙ fits .products;
       links = length-set (t .links) h _ ∙ fits .links;
       onChain = λ k x b. ap (λ (q : Product). q .code % chainCount) (cleared-chained x (omega (arith, chain-le k x))) ∙ fits .onChain k x b;
-      distinct = λ x y a b e. fits .distinct x y a b (sym (ap (λ (q : Product). q .code) (cleared-chained x a)) ∙ e ∙ ap (λ (q : Product). q .code) (cleared-chained y b));
-      inRange = set-cases blank (λ (x : ℕ) (q : Product). ProductFits q) (t .products) h blank (fits .inRange) (record { code = omega arith; deposit = omega arith; material = omega arith });
+      distinct =
+          λ x y a b e. fits .distinct x y a b (sym (ap (λ (q : Product). q .code) (cleared-chained x a))
+          ∙ e ∙ ap (λ (q : Product). q .code) (cleared-chained y b));
+      inRange =
+          set-cases blank (λ (x : ℕ) (q : Product). ProductFits q) (t .products) h blank (fits .inRange)
+          (record { code = omega arith; deposit = omega arith; material = omega arith });
       linkRange = set-cases none (λ (x : ℕ) (v : ℕ). SlotOrNone n v) (t .links) h _ (fits .linkRange) (inr refl);
       blanks = λ x b. blank-at x b (same-or x h);
     }
       where
         blank-at : (x : ℕ) → 0 < count x (t .free ++ (h ∷ [])) → (x ≡ h) ⊎ ((x ≢ h) × (eqb x h ≡ false)) → getD (set (t .products) h blank) x blank ≡ blank
-        blank-at x b (inl q) = ap (λ (y : ℕ). getD (set (t .products) h blank) y blank) q ∙ getD-set-same (t .products) h blank blank (omega (arith, fits .products))
+        blank-at x b (inl q) =
+            ap (λ (y : ℕ). getD (set (t .products) h blank) y blank) q ∙ getD-set-same (t .products) h blank blank (omega (arith, fits .products))
         blank-at x b (inr q) = cleared x (q .0) ∙ fits .blanks x (omega (arith, count-append x (t .free) (h ∷ []), mark-other x h (q .0)))

@@ -11,7 +11,8 @@ use Rattle.model.specs.Lists.{isEmpty, any}
 use Rattle.model.specs.State.{State, laneCount, isRunning}
 use Rattle.model.specs.Engine.{setOnline, atLane}
 use Rattle.model.specs.Table.{present}
-use Rattle.model.specs.Rules.{Op, add, replace, delete, begin, end, start, step, pass, clock, on, off, hand-back, awaited, firstOf, wrongCode, wrongProduct, wrongKind, isOnline, laneOf, ofLane, causes, refusal}
+use Rattle.model.specs.Rules.{Op, add, replace, delete, begin, end, start, step, pass, clock, on, off, hand-back, awaited}
+use Rattle.model.specs.Rules.{firstOf, wrongCode, wrongProduct, wrongKind, isOnline, laneOf, ofLane, causes, refusal}
 use Rattle.representation.proofs.Causes.Passed.{clear}
 
 -- the lane is in the table and on

@@ -7,7 +7,7 @@ use native.Mathlib.Omega.{arith}
 use lib.Dec.{leb}
 use borrow.Author.Tests.{leb-false}
 use Rattle.model.specs.State.{State, laneCount}
-use Rattle.model.specs.Rules.{Op, add, replace, delete, begin, end, start, step, pass, clock, on, off, hand-back, awaited, Answer, refused, Cause, firstOf, laneOf, Outcome, going, found, absent, outcome, outcomeAnswer, causes, performed, result, answer, next}
+use Rattle.model.specs.Rules.{Op, Answer, refused, Cause, firstOf, causes, performed, result, answer, next}
 
 -- ---- what is known where no cause applies
 
@@ -31,53 +31,11 @@ clear (x ∷ xs) n h = go (x .applies) refl (clear xs (n .1))
 pub within : (s : State) (i : ℕ) → leb (laneCount (s .sizes)) i ≡ false → i < laneCount (s .sizes)
 within s i h = leb-false (laneCount (s .sizes)) i h
 
-pub call-cases : (P : State → Answer → Type 0) (s : State) (o : Op) → (firstOf (causes s o) ≡ 0 → P (performed s o) (result s o)) → ((m : ℕ) → P s (refused (suc m))) → P (next s o) (answer s o)
+pub call-cases : (P : State → Answer → Type 0) (s : State) (o : Op)
+    → (firstOf (causes s o) ≡ 0 → P (performed s o) (result s o)) → ((m : ℕ) → P s (refused (suc m))) → P (next s o) (answer s o)
 unfolding answer next
 call-cases P s o f g = go (firstOf (causes s o)) refl
   where
     go : (n : ℕ) → firstOf (causes s o) ≡ n → P (next s o) (answer s o)
     go zero e = rw (e, answer, next) (f e)
     go (suc n) e = rw (e, answer, next) (g n)
-
--- a call changes no size
-pub sizes-performed : (s : State) (o : Op) → performed s o .sizes ≡ s .sizes
-unfolding performed
-sizes-performed s (add i c d m) = refl
-sizes-performed s (replace i c d m) = refl
-sizes-performed s (delete i c) = refl
-sizes-performed s (start i c) = refl
-sizes-performed s (pass i n) = refl
-sizes-performed s (begin i) = refl
-sizes-performed s (end i) = refl
-sizes-performed s (step i) = refl
-sizes-performed s (clock i) = refl
-sizes-performed s (on i) = refl
-sizes-performed s (off i) = refl
-sizes-performed s (hand-back i) = refl
-sizes-performed s awaited = refl
-
-pub sizes-next : (s : State) (o : Op) → next s o .sizes ≡ s .sizes
-sizes-next s o = call-cases (λ (t : State) (r : Answer). t .sizes ≡ s .sizes) s o (λ z. sizes-performed s o) (λ m. refl)
-
-outcome-status : (o : Outcome) → outcomeAnswer o .status ≡ 0
-unfolding outcomeAnswer
-outcome-status going = refl
-outcome-status (found r) = refl
-outcome-status absent = refl
-
--- a call that no cause refuses has status 0
-pub status : (s : State) (o : Op) → result s o .status ≡ 0
-unfolding result
-status s (add i c d m) = refl
-status s (replace i c d m) = refl
-status s (delete i c) = refl
-status s (start i c) = refl
-status s (pass i n) = refl
-status s (begin i) = refl
-status s (end i) = refl
-status s (step i) = outcome-status (outcome (s .table) (laneOf s i .lookup))
-status s (clock i) = refl
-status s (on i) = refl
-status s (off i) = refl
-status s (hand-back i) = refl
-status s awaited = refl

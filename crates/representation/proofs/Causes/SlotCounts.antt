@@ -31,14 +31,26 @@ module _ (t : Table) (h : length (t .chains) ≡ chainCount) (x : ℕ) where
 
   pub in-added : (p : Product) → isEmpty (t .free) ≡ false → inTable x (added p t) ≡ inTable x t
   unfolding added count
-  in-added p f = omega (arith, count-first x (t .free) f, sum-update (count x) [] (t .chains) (p .code % chainCount) (λ (xs : List ℕ). first (t .free) ∷ xs) (spot (p .code)))
+  in-added p f =
+      omega (
+        arith,
+        count-first x (t .free) f,
+        sum-update (count x) [] (t .chains)
+            (p .code % chainCount) (λ (xs : List ℕ). first (t .free) ∷ xs) (spot (p .code)),
+      )
 
-  pub in-replaced : (p : Product) → isEmpty (t .free) ≡ false → present t (p .code) ≡ true → inTable x (replaced p t) + mark x (slotOf t (p .code)) ≡ inTable x t
+  pub in-replaced : (p : Product) → isEmpty (t .free) ≡ false → present t (p .code) ≡ true
+      → inTable x (replaced p t) + mark x (slotOf t (p .code)) ≡ inTable x t
   unfolding replaced
   in-replaced p f k =
       let o = slotOf t (p .code) in
       let s = first (t .free) in
-      omega (arith, count-first x (t .free) f, sum-update (count x) [] (t .chains) (p .code % chainCount) (swapped o s) (spot (p .code)), count-swapped x o s (chainOf t (p .code)) (present-in t (p .code) k))
+      omega (
+        arith,
+        count-first x (t .free) f,
+        sum-update (count x) [] (t .chains) (p .code % chainCount) (swapped o s) (spot (p .code)),
+        count-swapped x o s (chainOf t (p .code)) (present-in t (p .code) k),
+      )
 
   pub in-deleted : (c : ℕ) → present t c ≡ true → inTable x (deleted c t) + mark x (slotOf t c) ≡ inTable x t
   unfolding deleted
@@ -56,7 +68,8 @@ module _ (s : State) (i : ℕ) (h : i < length (s .engine .lanes)) (x : ℕ) whe
   in-retired o =
       omega (arith, count-append x (laneAt (s .engine) i .queues .next) (o ∷ []), sum-update (inLane x) freshLane (s .engine .lanes) i (retiring o) h)
 
-  pub in-handed : (isEmpty (laneAt (s .engine) i .queues .done) && isEmpty (s .engine .global .done)) ≡ false → queued x (lessHandedBack s i) + mark x (handedBack s i) ≡ queued x (s .engine)
+  pub in-handed : (isEmpty (laneAt (s .engine) i .queues .done) && isEmpty (s .engine .global .done)) ≡ false
+      → queued x (lessHandedBack s i) + mark x (handedBack s i) ≡ queued x (s .engine)
   in-handed k = go (fromGlobal s i) refl
     where
       go : (b : Bool) → fromGlobal s i ≡ b → queued x (lessHandedBack s i) + mark x (handedBack s i) ≡ queued x (s .engine)

@@ -73,7 +73,8 @@ LooseGlobal = Tidy Level (λ (j : ℕ). ⊥) (Unit {0})
 
 module _ {O P : Type 0} {c m : ℕ} {q : Queues} where
   -- the largest becomes n
-  pub age-map : (n : ℕ) → (isEmpty (q .current) ≡ false → O → P) → ((m ≡ c) ⊎ (m ≡ up c) → (n ≡ c) ⊎ (n ≡ up c)) → (m ≡ up c → n ≡ up c) → Age O c m q → Age P c n q
+  pub age-map : (n : ℕ) → (isEmpty (q .current) ≡ false → O → P) → ((m ≡ c) ⊎ (m ≡ up c) → (n ≡ c) ⊎ (n ≡ up c)) → (m ≡ up c → n ≡ up c) → Age O c m q
+      → Age P c n q
   age-map n f g h (none a b) = none a b
   age-map n f g h (old a b) = old a (f a b)
   age-map n f g h (now a b d) = now a b (g d)

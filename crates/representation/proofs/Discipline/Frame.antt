@@ -8,7 +8,8 @@ use lib.ListN.{length, length-map}
 use Rattle.model.specs.Word.{up, later}
 use Rattle.model.specs.Lists.{count, isEmpty}
 use Rattle.model.specs.State.{unheld, Queues, Lane, Engine, isHeld}
-use Rattle.model.specs.Engine.{freshLane, awaiting, emptied, laneAt, setPending, setQueues, withCurrent, withLargest, withGlobal, atLane, runs, started, ended, released, settled, ready, target, batched, requested, advancedLane, advancedGlobal, quiesced, sampled, clocked, taken, wentOff}
+use Rattle.model.specs.Engine.{freshLane, awaiting, emptied, laneAt, setPending, setQueues, withCurrent, withLargest, withGlobal, atLane, runs, started, ended}
+use Rattle.model.specs.Engine.{released, settled, ready, target, batched, requested, advancedLane, advancedGlobal, quiesced, sampled, clocked, taken, wentOff}
 use Rattle.laws.specs.Tests.{clash, and-true, cond-cases}
 use Rattle.laws.specs.ListLaws.{update-cases, length-update}
 use Rattle.laws.specs.Elements.{map-cases}
@@ -57,7 +58,8 @@ alikeAt j f e = Alike (laneAt e j) (f (laneAt e j))
 same-lane : (l : Lane) → Alike l l
 same-lane l = record { reading = refl; lookup = refl; online = λ r o. o }
 
-frame-at : (j : ℕ) (f : Lane → Lane) (e : Engine) (g : Queues) → alikeAt j f e → ((x : ℕ) → queued x (atLane j f (withGlobal g e)) ≡ queued x e) → Frame e (atLane j f (withGlobal g e))
+frame-at : (j : ℕ) (f : Lane → Lane) (e : Engine) (g : Queues) → alikeAt j f e → ((x : ℕ) → queued x (atLane j f (withGlobal g e)) ≡ queued x e)
+    → Frame e (atLane j f (withGlobal g e))
 frame-at j f e g a h = record {
   size = length-update (e .lanes) j f;
   reading = λ i. all i .reading;
@@ -86,7 +88,9 @@ frame-started e = record {
 }
   where
     all : (i : ℕ) → Alike (laneAt e i) (laneAt (started e) i)
-    all = map-cases freshLane (λ (i : ℕ) (l : Lane). Alike (laneAt e i) l) (e .lanes) awaiting (λ i. same-lane (laneAt e i)) (λ i h. record { reading = refl; lookup = refl; online = λ r o. o })
+    all =
+        map-cases freshLane (λ (i : ℕ) (l : Lane). Alike (laneAt e i) l) (e .lanes) awaiting
+        (λ i. same-lane (laneAt e i)) (λ i h. record { reading = refl; lookup = refl; online = λ r o. o })
 
 frame-numbers : (c m : ℕ) (e : Engine) → Frame e (withCurrent c (withLargest m e))
 frame-numbers c m e = record { size = refl; reading = λ i. refl; lookup = λ i. refl; online = λ i r o. o; once = λ x. refl }
@@ -122,7 +126,9 @@ frame-requested t e = cond-cases (Frame e) (runs e) (λ p. n) (λ p. frame-trans
 
 in-settled : (x c : ℕ) (q : Queues) → inQueues x (settled c q) ≡ inQueues x q
 unfolding settled count
-in-settled x c q = cond-cases (λ (p : Queues). inQueues x p ≡ inQueues x q) (not (isEmpty (q .current)) && later c (q .generation)) (λ t. omega (arith, count-append x (q .done) (q .current))) (λ t. refl)
+in-settled x c q =
+    cond-cases (λ (p : Queues). inQueues x p ≡ inQueues x q) (not (isEmpty (q .current)) && later c (q .generation))
+    (λ t. omega (arith, count-append x (q .done) (q .current))) (λ t. refl)
 
 in-batched : (x g : ℕ) (q : Queues) → ready q ≡ true → inQueues x (batched g q) ≡ inQueues x q
 unfolding ready count
@@ -134,7 +140,8 @@ frame-queues i q e h = frame-lane i (setQueues q) e (record { reading = refl; lo
 frame-advancedLane : (i : ℕ) (e : Engine) → Frame e (advancedLane i e)
 unfolding advancedLane
 frame-advancedLane i e = cond-cases (Frame e) (ready q)
-    (λ t. frame-trans (frame-queues i (batched (target e) q) e (λ x. in-batched x (target e) q t ∙ in-settled x (e .current) (laneAt e i .queues))) (frame-requested (target e) _))
+    (λ t. frame-trans (frame-queues i (batched (target e) q) e (λ x. in-batched x (target e) q t ∙ in-settled x (e .current) (laneAt e i .queues)))
+    (frame-requested (target e) _))
     (λ t. frame-queues i q e (λ x. in-settled x (e .current) (laneAt e i .queues)))
   where
     q : Queues
@@ -143,7 +150,8 @@ frame-advancedLane i e = cond-cases (Frame e) (ready q)
 frame-advancedGlobal : (e : Engine) → Frame e (advancedGlobal e)
 unfolding advancedGlobal
 frame-advancedGlobal e = cond-cases (Frame e) (ready q)
-    (λ t. frame-trans (frame-global (batched (target e) q) e (λ x. in-batched x (target e) q t ∙ in-settled x (e .current) (e .global))) (frame-requested (target e) _))
+    (λ t. frame-trans (frame-global (batched (target e) q) e (λ x. in-batched x (target e) q t ∙ in-settled x (e .current) (e .global)))
+    (frame-requested (target e) _))
     (λ t. frame-global q e (λ x. in-settled x (e .current) (e .global)))
   where
     q : Queues
@@ -171,11 +179,18 @@ frame-clocked i e =
 pub frame-wentOff : (i : ℕ) (e : Engine) → laneAt e i .reading ≡ false → Frame e (wentOff i e)
 unfolding count wentOff
 frame-wentOff i e h =
-    frame-trans (frame-trans (frame-at i emptied e g (record { reading = refl; lookup = refl; online = λ r o. clash r h }) all) (frame-released i _)) (frame-advancedGlobal _)
+    frame-trans (frame-trans (frame-at i emptied e g (record { reading = refl; lookup = refl; online = λ r o. clash r h }) all) (frame-released i _))
+    (frame-advancedGlobal _)
   where
     g : Queues
     g = taken (e .global) (laneAt e i .queues)
 
     all : (x : ℕ) → queued x (atLane i emptied (withGlobal g e)) ≡ queued x e
     all x = let q = laneAt e i .queues in
-        omega (arith, sum-update-zero (inLane x) freshLane (e .lanes) i emptied refl refl, count-append x (e .global .next ++ q .current) (q .next), count-append x (e .global .next) (q .current), count-append x (e .global .done) (q .done))
+        omega (
+          arith,
+          sum-update-zero (inLane x) freshLane (e .lanes) i emptied refl refl,
+          count-append x (e .global .next ++ q .current) (q .next),
+          count-append x (e .global .next) (q .current),
+          count-append x (e .global .done) (q .done),
+        )

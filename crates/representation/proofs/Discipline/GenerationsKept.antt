@@ -7,13 +7,15 @@ use lib.ListN.{length}
 use Rattle.model.specs.Lists.{update, any, isEmpty}
 use Rattle.model.specs.State.{unheld, Lane, Engine, isHeld}
 use Rattle.model.specs.Word.{up}
-use Rattle.model.specs.Engine.{withCurrent, noQueues, freshLane, awaiting, isPending, emptied, laneAt, setPending, setOnline, withGlobal, atLane, runs, started, released, quiesced, sampled, clocked, taken, wentOff}
+use Rattle.model.specs.Engine.{withCurrent, noQueues, freshLane, awaiting, isPending, emptied, laneAt, setPending, setOnline}
+use Rattle.model.specs.Engine.{withGlobal, atLane, runs, started, released, quiesced, sampled, clocked, taken, wentOff}
 use Rattle.model.specs.Rules.{isOnline}
 use Rattle.laws.specs.Tests.{and-true, cond-cases}
 use Rattle.laws.specs.ListLaws.{update-cases, getD-update-same}
 use Rattle.laws.specs.Elements.{map-cases, any-update-same, any-update-alike}
 use Rattle.representation.proofs.Discipline.Frame.{ended-cases, frame-released}
-use Rattle.representation.proofs.Discipline.Ages.{none, old, now, soon, Strict, Clean, Disciplined, LooseAt, LooseGlobal, age-map, level-anew, strict-anew, OffEmpty}
+use Rattle.representation.proofs.Discipline.Ages.{none, old, now, soon, Strict, Clean, Disciplined, LooseAt}
+use Rattle.representation.proofs.Discipline.Ages.{LooseGlobal, age-map, level-anew, strict-anew, OffEmpty}
 use Rattle.representation.proofs.Discipline.Advances.{tidy-advancedLane, tidy-advancedGlobal}
 use Rattle.representation.proofs.Discipline.Releases.{strict-in, tidy-released}
 
@@ -24,11 +26,16 @@ pub record Own (l k : Lane) : Type 0 where
 
 own-started : (e : Engine) (j : ℕ) → Own (laneAt e j) (laneAt (started e) j)
 unfolding started
-own-started e = map-cases freshLane (λ (j : ℕ) (l : Lane). Own (laneAt e j) l) (e .lanes) awaiting (λ j. record { online = refl; queues = refl }) (λ j b. record { online = refl; queues = refl })
+own-started e =
+    map-cases freshLane (λ (j : ℕ) (l : Lane). Own (laneAt e j) l) (e .lanes) awaiting
+    (λ j. record { online = refl; queues = refl }) (λ j b. record { online = refl; queues = refl })
 
 pub own-released : (i : ℕ) (e : Engine) (j : ℕ) → Own (laneAt e j) (laneAt (released i e) j)
 unfolding released
-own-released i e j = cond-cases P (laneAt e i .pending && not (runs f)) (λ r. ended-cases P f (λ q. a) (λ q. let b = own-started (withCurrent (up (f .current)) f) j in record { online = b .online ∙ a .online; queues = b .queues ∙ a .queues })) (λ r. a)
+own-released i e j =
+    cond-cases P (laneAt e i .pending && not (runs f))
+    (λ r. ended-cases P f (λ q. a) (λ q. again (own-started (withCurrent (up (f .current)) f) j)))
+    (λ r. a)
   where
     f : Engine
     f = atLane i (setPending false unheld) e
@@ -37,16 +44,23 @@ own-released i e j = cond-cases P (laneAt e i .pending && not (runs f)) (λ r. e
     P g = Own (laneAt e j) (laneAt g j)
 
     a : Own (laneAt e j) (laneAt f j)
-    a = update-cases freshLane (λ (j : ℕ) (l : Lane). Own (laneAt e j) l) (e .lanes) i (setPending false unheld) (λ j. record { online = refl; queues = refl }) (record { online = refl; queues = refl }) j
+    a =
+        update-cases freshLane (λ (j : ℕ) (l : Lane). Own (laneAt e j) l) (e .lanes) i (setPending false unheld)
+        (λ j. record { online = refl; queues = refl }) (record { online = refl; queues = refl }) j
+
+    again : {l : Lane} → Own (laneAt f j) l → Own (laneAt e j) l
+    again b = record { online = b .online ∙ a .online; queues = b .queues ∙ a .queues }
 
 -- a lane anew, but as it was in what the discipline speaks of
-tidy-alike : (i : ℕ) (f : Lane → Lane) (e : Engine) → ((l : Lane) → (f l .online ≡ l .online) × (f l .pending ≡ l .pending) × (f l .queues ≡ l .queues)) → Disciplined e → Disciplined (atLane i f e)
+tidy-alike : (i : ℕ) (f : Lane → Lane) (e : Engine) → ((l : Lane) → (f l .online ≡ l .online) × (f l .pending ≡ l .pending) × (f l .queues ≡ l .queues))
+    → Disciplined e → Disciplined (atLane i f e)
 tidy-alike i f e h t = record {
   word = t .word;
   level = level-anew e (g .lanes) (e .global) same (t .level);
   some = any-update-same isOnline f (e .lanes) i (λ l. h l .0) ∙ t .some;
   off = update-cases freshLane (λ (j : ℕ). OffEmpty) (e .lanes) i f (t .off) (λ o. rw (h (laneAt e i) .2) (t .off i (sym (h (laneAt e i) .0) ∙ o)));
-  lanes = λ j. inl (update-cases freshLane (λ (j : ℕ) (l : Lane). Strict g l) (e .lanes) i f (λ j. strict (laneAt e j) (laneAt e j) refl refl (strict-in i e t j))
+  lanes =
+      λ j. inl (update-cases freshLane (λ (j : ℕ) (l : Lane). Strict g l) (e .lanes) i f (λ j. strict (laneAt e j) (laneAt e j) refl refl (strict-in i e t j))
       (strict (laneAt e i) (f (laneAt e i)) (h (laneAt e i) .1) (h (laneAt e i) .2) (strict-in i e t i)) j);
   global = t .global;
 }
@@ -58,14 +72,23 @@ tidy-alike i f e h t = record {
     same = any-update-same isPending f (e .lanes) i (λ l. h l .1)
 
     strict : (l k : Lane) → k .pending ≡ l .pending → k .queues ≡ l .queues → Strict e l → Strict g k
-    strict l k p q a = rw q (age-map (e .largest) (λ y u. record { word = u .word; before = u .before; waits = λ r. p ∙ u .waits (sym same ∙ r) }) (λ x. x) (λ x. x) a)
+    strict l k p q a =
+        rw q (age-map (e .largest) (λ y u. record { word = u .word; before = u .before; waits = λ r. p ∙ u .waits (sym same ∙ r) }) (λ x. x) (λ x. x) a)
 
 loose-lane : (i : ℕ) (e : Engine) → Disciplined e → LooseAt i e
-loose-lane i e t = record { word = t .word; level = t .level; some = t .some; off = t .off; lanes = λ j. inl (strict-in i e t j); global = ⊎-elim (λ a. inl a) (λ a. absurd (a .0)) (t .global) }
+loose-lane i e t = record {
+  word = t .word;
+  level = t .level;
+  some = t .some;
+  off = t .off;
+  lanes = λ j. inl (strict-in i e t j);
+  global = ⊎-elim (λ a. inl a) (λ a. absurd (a .0)) (t .global);
+}
 
 snapped-alike : (l : Lane) → (sampled l .online ≡ l .online) × (sampled l .pending ≡ l .pending) × (sampled l .queues ≡ l .queues)
 unfolding sampled
-snapped-alike l = cond-cases (λ (k : Lane). (k .online ≡ l .online) × (k .pending ≡ l .pending) × (k .queues ≡ l .queues)) (l .pending && not (isHeld (l .snapshot)))
+snapped-alike l =
+    cond-cases (λ (k : Lane). (k .online ≡ l .online) × (k .pending ≡ l .pending) × (k .queues ≡ l .queues)) (l .pending && not (isHeld (l .snapshot)))
     (λ r. (refl, sym (and-true (l .pending) (not (isHeld (l .snapshot))) r .0), refl)) (λ r. (refl, refl, refl))
 
 pub tidy-clocked : (i : ℕ) (e : Engine) → i < length (e .lanes) → laneAt e i .online ≡ true → Disciplined e → Disciplined (clocked i e)
@@ -84,7 +107,8 @@ tidy-clocked i e b o t = tidy-alike i sampled _ snapped-alike (tidy-advancedGlob
     tidy : LooseAt i f
     tidy = cond-cases (LooseAt i) (quiesced (laneAt e i)) (λ r. tidy-released i e t) (λ r. loose-lane i e t)
 
-pub tidy-wentOff : (i : ℕ) (e : Engine) → i < length (e .lanes) → any isOnline (update (e .lanes) i (setOnline false)) ≡ true → Disciplined e → Disciplined (wentOff i e)
+pub tidy-wentOff : (i : ℕ) (e : Engine) → i < length (e .lanes) → any isOnline (update (e .lanes) i (setOnline false)) ≡ true → Disciplined e
+    → Disciplined (wentOff i e)
 unfolding isEmpty wentOff
 tidy-wentOff i e b s t = tidy-advancedGlobal _ shut
   where
@@ -106,7 +130,9 @@ tidy-wentOff i e b s t = tidy-advancedGlobal _ shut
       level = level-anew e (g .lanes) (g .global) same (t .level);
       some = any-update-alike isOnline emptied (setOnline false) (e .lanes) i (λ l. refl) ∙ s;
       off = update-cases freshLane (λ (j : ℕ). OffEmpty) (e .lanes) i emptied (t .off) (λ o. refl);
-      lanes = λ j. inl (update-cases freshLane (λ (j : ℕ) (l : Lane). Strict g l) (e .lanes) i emptied (λ j. strict-anew e (g .lanes) (g .global) (λ r. sym same ∙ r) (laneAt e j) (strict-in i e t j)) (none refl refl) j);
+      lanes =
+          λ j. inl (update-cases freshLane (λ (j : ℕ) (l : Lane). Strict g l) (e .lanes) i emptied
+          (λ j. strict-anew e (g .lanes) (g .global) (λ r. sym same ∙ r) (laneAt e j) (strict-in i e t j)) (none refl refl) j);
       global = ⊎-elim (λ a. inl (retype a)) (λ a. absurd (a .0)) (t .global);
     }
 

@@ -15,7 +15,8 @@ use Rattle.laws.specs.ListLaws.{update-cases, getD-update-other}
 use Rattle.laws.specs.Elements.{any-update-same, any-false-intro}
 use Rattle.representation.proofs.Discipline.Frame.{ended-cases}
 use Rattle.representation.proofs.Discipline.Requests.{none-pending}
-use Rattle.representation.proofs.Discipline.Ages.{Strict, Loose, Level, rests, goes, Tidy, Disciplined, LooseAt, age-map, age-next, loosen, level-moving, OffEmpty}
+use Rattle.representation.proofs.Discipline.Ages.{Strict, Loose, Level, rests, goes, Tidy, Disciplined, LooseAt}
+use Rattle.representation.proofs.Discipline.Ages.{age-map, age-next, loosen, level-moving, OffEmpty}
 use Rattle.representation.proofs.Discipline.Advances.{runs-of, tidy-started}
 
 module _ (i : ℕ) (e : Engine) (t : Disciplined e) where
@@ -25,16 +26,25 @@ module _ (i : ℕ) (e : Engine) (t : Disciplined e) where
   pub strict-in : (j : ℕ) → Strict e (laneAt e j)
   strict-in j = ⊎-elim (λ a. a) (λ a. absurd (a .0)) (t .lanes j)
 
-  less-kept : (j : ℕ) → (laneAt less j .online ≡ laneAt e j .online) × (laneAt less j .queues ≡ laneAt e j .queues) × (laneAt less j .pending ≡ true → laneAt e j .pending ≡ true) × (j ≢ i → laneAt less j .pending ≡ laneAt e j .pending)
+  -- l has online and queues of lane j, and its bit where j is not i; no lane gets a bit
+  record Less (j : ℕ) (l : Lane) : Type 0 where
+    online : l .online ≡ laneAt e j .online
+    queues : l .queues ≡ laneAt e j .queues
+    pending : l .pending ≡ true → laneAt e j .pending ≡ true
+    other : j ≢ i → l .pending ≡ laneAt e j .pending
+
+  less-kept : (j : ℕ) → Less j (laneAt less j)
   unfolding less
-  less-kept = update-cases freshLane (λ (j : ℕ) (l : Lane). (l .online ≡ laneAt e j .online) × (l .queues ≡ laneAt e j .queues) × (l .pending ≡ true → laneAt e j .pending ≡ true) × (j ≢ i → l .pending ≡ laneAt e j .pending))
-      (e .lanes) i (setPending false unheld) (λ j. (refl, refl, λ p. p, λ n. refl)) (refl, refl, λ p. clash p refl, λ n. absurd (n refl))
+  less-kept =
+      update-cases freshLane Less (e .lanes) i (setPending false unheld)
+      (λ j. record { online = refl; queues = refl; pending = λ p. p; other = λ n. refl })
+      (record { online = refl; queues = refl; pending = λ p. clash p refl; other = λ n. absurd (n refl) })
 
   none-less : ((j : ℕ) → laneAt e j .pending ≡ false) → runs less ≡ false
   none-less h = any-false-intro freshLane isPending (less .lanes) (λ j. go j (laneAt less j .pending) refl)
     where
       go : (j : ℕ) (b : Bool) → laneAt less j .pending ≡ b → laneAt less j .pending ≡ false
-      go j true p = clash (less-kept j .2 p) (h j)
+      go j true p = clash (less-kept j .pending p) (h j)
       go j false p = p
 
   runs-back : runs less ≡ true → runs e ≡ true
@@ -57,7 +67,7 @@ module _ (i : ℕ) (e : Engine) (t : Disciplined e) where
   }
     where
       lanes : (j : ℕ) → (j ≡ i) ⊎ ((j ≢ i) × (eqb j i ≡ false)) → Strict less (laneAt less j) ⊎ ((j ≡ i) × Loose less (laneAt less j .queues))
-      lanes j (inl d) = inr (d, rw (less-kept j .1) (loosen e (laneAt e j) (strict-in j)))
+      lanes j (inl d) = inr (d, rw (less-kept j .queues) (loosen e (laneAt e j) (strict-in j)))
       lanes j (inr d) = inl (rw (getD-update-other freshLane (e .lanes) i (setPending false unheld) j (d .0))
           (age-map (e .largest) (λ y u. record { word = u .word; before = u .before; waits = λ r. u .waits (runs-back r) }) (λ x. x) (λ x. x) (strict-in j)))
 
@@ -77,9 +87,11 @@ module _ (i : ℕ) (e : Engine) (t : Disciplined e) where
       f = withCurrent (up (e .current)) less
 
       lanes : (j : ℕ) → (j ≡ i) ⊎ ((j ≢ i) × (eqb j i ≡ false)) → Strict f (laneAt f j) ⊎ ((j ≡ i) × Loose f (laneAt f j .queues))
-      lanes j (inl d) = inr (d, rw (less-kept j .1) (age-next (λ y u. rw (← (u .before)) (up-up-later (u .word))) (λ g y. rw g (up-later (t .word))) (strict-in j)))
+      lanes j (inl d) =
+          inr (d, rw (less-kept j .queues) (age-next (λ y u. rw (← (u .before)) (up-up-later (u .word))) (λ g y. rw g (up-later (t .word))) (strict-in j)))
       lanes j (inr d) = inl (rw (getD-update-other freshLane (e .lanes) i (setPending false unheld) j (d .0))
-          (age-next (λ y u. clash (u .waits r) (sym (less-kept j .3 (d .0)) ∙ none-pending less n j)) (λ g y. record { word = rw g (t .word); before = ap up g; waits = λ x. clash x n }) (strict-in j)))
+          (age-next (λ y u. clash (u .waits r) (sym (less-kept j .other (d .0)) ∙ none-pending less n j))
+          (λ g y. record { word = rw g (t .word); before = ap up g; waits = λ x. clash x n }) (strict-in j)))
 
   pub tidy-released : LooseAt i (released i e)
   unfolding less released
@@ -96,7 +108,7 @@ module _ (i : ℕ) (e : Engine) (t : Disciplined e) where
             where
               each : (j : ℕ) → (j ≡ i) ⊎ ((j ≢ i) × (eqb j i ≡ false)) → laneAt e j .pending ≡ false
               each j (inl d) = rw d p
-              each j (inr d) = sym (less-kept j .3 (d .0)) ∙ none-pending less r j
+              each j (inr d) = sym (less-kept j .other (d .0)) ∙ none-pending less r j
       go true false p r = rw (p, r) (ended-cases (LooseAt i) less stops starts)
         where
           w : Tidy (λ (e : Engine). Unit {0}) (λ (j : ℕ). j ≡ i) (Unit {0}) (withCurrent (up (e .current)) less)
@@ -112,8 +124,12 @@ module _ (i : ℕ) (e : Engine) (t : Disciplined e) where
             off = w .off;
             lanes = w .lanes;
             global = w .global;
-            level = ⊎-elim (λ q. rests r (rw q (t .word)) (ap up q)) (λ q. let k : later (up (e .current)) (e .largest) ≡ false = rw q (later-self (up-word (e .current))) in clash l k) m;
+            level =
+                ⊎-elim (λ q. rests r (rw q (t .word)) (ap up q))
+                (λ q. let k : later (up (e .current)) (e .largest) ≡ false = rw q (later-self (up-word (e .current))) in clash l k) m;
           }
 
           starts : later (up (e .current)) (e .largest) ≡ false → LooseAt i (started (withCurrent (up (e .current)) less))
-          starts l = tidy-started (e .largest) (withCurrent (up (e .current)) less) w (⊎-elim (λ q. let k : later (up (e .current)) (e .largest) ≡ true = rw q (up-later (t .word)) in clash k l) (λ q. inl q) m) (λ x. x)
+          starts l =
+              tidy-started (e .largest) (withCurrent (up (e .current)) less) w
+              (⊎-elim (λ q. let k : later (up (e .current)) (e .largest) ≡ true = rw q (up-later (t .word)) in clash k l) (λ q. inl q) m) (λ x. x)

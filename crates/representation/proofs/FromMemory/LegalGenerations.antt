@@ -2,7 +2,7 @@
 use Prim.Native.Nat.{ℕ, _<_}
 use mathlib.Core.Path.{_≡_, refl, sym, ap, _∙_}
 use mathlib.Core.Logic.{_⊎_, inl, inr}
-use mathlib.Core.Bool.{Bool, true, false, not}
+use mathlib.Core.Bool.{Bool, true, false}
 use native.Mathlib.Omega.{arith}
 use lib.Dec.{eqb}
 use borrow.Author.Tests.{eqb-true}
@@ -46,7 +46,8 @@ module _ (e : Engine) (w : e .current < wordLimit) where
       go true p = noneA p (r p)
       go false p = placed p (f p) (f p .near)
 
-  pub clean : Level e → (isEmpty (e .global .current) ≡ true → e .global .generation ≡ 0) → (isEmpty (e .global .current) ≡ false → NearGlobal (e .current) (e .largest) (e .global)) → Clean e (e .global)
+  pub clean : Level e → (isEmpty (e .global .current) ≡ true → e .global .generation ≡ 0)
+      → (isEmpty (e .global .current) ≡ false → NearGlobal (e .current) (e .largest) (e .global)) → Clean e (e .global)
   clean v r f = go (isEmpty (e .global .current)) refl
     where
       placed : isEmpty (e .global .current) ≡ false → NearGlobal (e .current) (e .largest) (e .global)

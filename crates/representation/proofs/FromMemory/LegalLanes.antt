@@ -59,7 +59,8 @@ module _ (m : List ℕ) (l : Legal m) (word : WordsTo (total (sizes m)) m) where
       go i b (flag lookupBit (at m (laneAddress z i))) (readLane m i .reading)
       (λ h. sym (ap (λ (l : Lane). l .reading) q) ∙ f .sections i (ap (λ (l : Lane). isRunning (l .lookup)) q ∙ h)))
     where
-      go : (i : ℕ) → i < laneCount z → (c r : Bool) → (isRunning (readLookup m (laneAddress z i + lookupAt) c) ≡ true → r ≡ true) → LookupFits (z .slots) r (readLookup m (laneAddress z i + lookupAt) c)
+      go : (i : ℕ) → i < laneCount z → (c r : Bool) → (isRunning (readLookup m (laneAddress z i + lookupAt) c) ≡ true → r ≡ true)
+          → LookupFits (z .slots) r (readLookup m (laneAddress z i + lookupAt) c)
       go i b false r h = tt
       go i b true r h = (
         h refl,
@@ -73,7 +74,8 @@ module _ (m : List ℕ) (l : Legal m) (word : WordsTo (total (sizes m)) m) where
       go i b (flag snapshotBit (at m (laneAddress z i))) (readLane m i .pending)
       (λ h. sym (ap (λ (l : Lane). l .pending) q) ∙ f .snapshots i (ap (λ (l : Lane). isHeld (l .snapshot)) q ∙ h)))
     where
-      go : (i : ℕ) → i < laneCount z → (c p : Bool) → (isHeld (readSnapshot m (laneAddress z i + snapshotAt) c) ≡ true → p ≡ true) → SnapshotFits p (readSnapshot m (laneAddress z i + snapshotAt) c)
+      go : (i : ℕ) → i < laneCount z → (c p : Bool) → (isHeld (readSnapshot m (laneAddress z i + snapshotAt) c) ≡ true → p ≡ true)
+          → SnapshotFits p (readSnapshot m (laneAddress z i + snapshotAt) c)
       go i b false p h = tt
       go i b true p h = (h refl, counts-fit i b snapshotAt (omega arith))
 
@@ -94,4 +96,5 @@ module _ (m : List ℕ) (l : Legal m) (word : WordsTo (total (sizes m)) m) where
     lookup = lookup-fits i;
     snapshot = snapshot-fits i;
     off = off-of i;
+    extra = f .extra i;
   }

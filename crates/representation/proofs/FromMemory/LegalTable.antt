@@ -62,7 +62,9 @@ module _ (m : List ℕ) (l : Legal m) where
   product-in-range x =
       elim (decLt x (z .slots)) [
         | yes b ↦ rw (state-product m x b) (product-fits _ _ _ (f .products x b))
-        | no b ↦ rw (List·getD-eq-default (t .products) blank {n = x} (omega (arith, state-products m))) (record { code = omega arith; deposit = omega arith; material = omega arith })
+        | no b ↦
+            rw (List·getD-eq-default (t .products) blank {n = x} (omega (arith, state-products m)))
+            (record { code = omega arith; deposit = omega arith; material = omega arith })
       ]
 
   link-past : (x : ℕ) → (x < z .slots → ⊥) → getD (t .links) x none ≡ none

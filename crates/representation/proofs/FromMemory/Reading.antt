@@ -48,7 +48,8 @@ module _ (m : List ℕ) where
   unfolding state
   state-links = length-map-from (readLink m (readChains m)) 0 (sizes m .slots)
 
-  pub state-link : (i : ℕ) → i < sizes m .slots → getD (state m .table .links) i none ≡ cond (member i (concat (state m .table .chains))) none (slotWord m chainLinkAt i)
+  pub state-link : (i : ℕ) → i < sizes m .slots
+      → getD (state m .table .links) i none ≡ cond (member i (concat (state m .table .chains))) none (slotWord m chainLinkAt i)
   unfolding state
   state-link i b = getD-map-below (readLink m (readChains m)) (sizes m .slots) i none b
 

@@ -8,8 +8,13 @@ use lib.ListN.{getD}
 use lib.Arith.{digits-lt, digits-div, digits-mod}
 use Rattle.model.specs.Lists.{first, last, from, mask as maskOf}
 use Rattle.model.specs.State.{Sizes, State, Product, Lane, laneCount}
-use Rattle.model.specs.Layout.{chainCount, kinds, queueWidth, currentOffset, doneOffset, lastOffset, contentsLength, headsAt, freeAt, globalQueuesAt, currentGenerationAt, largestGenerationAt, cabinetMaskAt, onlineBit, readingBit, lookupBit, snapshotBit, flagCount, flagsAt, quiescentAt, snapshotAt, generationAt, queuesAt, lookupAt, positionAt, chainLinkAt, queueLinkAt, laneLength, slotLength, slotAddress, laneAddress, total}
-use Rattle.model.specs.Memory.{at, wide, flag, flags, pendingAt, isNotZero, maskWord, laneMask, laneMasks, cabinetMask, laneWords, laneWord, slotWords, slotWord, low, high, headOf, readLookup, readSnapshot, snapshotCount, lookupCode, lookupPosition, state, sizes, contents, readProduct, readQueue, readLane}
+use Rattle.model.specs.Layout.{chainCount, kinds, currentOffset, doneOffset, lastOffset, contentsLength, headsAt, freeAt}
+use Rattle.model.specs.Layout.{globalQueuesAt, currentGenerationAt, largestGenerationAt, cabinetMaskAt, onlineBit, readingBit}
+use Rattle.model.specs.Layout.{lookupBit, snapshotBit, flagCount, flagsAt, quiescentAt, snapshotAt, generationAt, queuesAt, lookupAt}
+use Rattle.model.specs.Layout.{positionAt, chainLinkAt, queueLinkAt, laneLength, slotLength, slotAddress, laneAddress, total}
+use Rattle.model.specs.Memory.{at, wide, flag, flags, pendingAt, isNotZero, maskWord, laneMask, laneMasks, cabinetMask, laneWords}
+use Rattle.model.specs.Memory.{laneWord, slotWords, slotWord, low, high, headOf, readLookup, readSnapshot, snapshotCount}
+use Rattle.model.specs.Memory.{lookupCode, lookupPosition, state, sizes, contents, readProduct, readQueue, readLane}
 use Rattle.laws.specs.ListLaws.{map-from-alike, map-map-from, getD-map-below, take-map-from}
 use Rattle.laws.specs.Masks.{mask-flags}
 use Rattle.representation.proofs.WellFormed.{SlotOrNone}
@@ -62,7 +67,8 @@ module _ (m : List ℕ) (l : Legal m) (w : WordsTo (total (sizes m)) m) where
 
   mask-is : (c : ℕ) → c < z .cabinets → laneMask s c ≡ maskWord m c
   unfolding state
-  mask-is c b = ap maskOf (map-from-alike _ _ 0 (z .places) (λ p u v. pending-is c p b (omega arith))) ∙ mask-flags (maskWord m c) (z .places) (f .laneMasks c b)
+  mask-is c b =
+      ap maskOf (map-from-alike _ _ 0 (z .places) (λ p u v. pending-is c p b (omega arith))) ∙ mask-flags (maskWord m c) (z .places) (f .laneMasks c b)
 
   cabinetMask-is : cabinetMask s ≡ at m cabinetMaskAt
   unfolding state
@@ -76,7 +82,8 @@ module _ (m : List ℕ) (l : Legal m) (w : WordsTo (total (sizes m)) m) where
   top-is : topWords s ≡ map (at m) (from 0 headsAt)
   unfolding state from
   top-is =
-      ap (λ (r : List ℕ). r ++ (at m currentGenerationAt ∷ at m largestGenerationAt ∷ cabinetMask s ∷ [])) (sym (l .contents .agree) ∙ take-map-from m contentsLength (omega (arith, l .contents .long)))
+      ap (λ (r : List ℕ). r ++ (at m currentGenerationAt ∷ at m largestGenerationAt ∷ cabinetMask s ∷ []))
+      (sym (l .contents .agree) ∙ take-map-from m contentsLength (omega (arith, l .contents .long)))
       ∙ ap (λ (x : ℕ). map (at m) (from 0 contentsLength) ++ (at m currentGenerationAt ∷ at m largestGenerationAt ∷ x ∷ [])) cabinetMask-is
 
   -- ---- a lane's words
@@ -98,14 +105,16 @@ module _ (m : List ℕ) (l : Legal m) (w : WordsTo (total (sizes m)) m) where
     unfolding flags readLane from
     flags-are =
         let v = at m a in
-        ap₂ (λ (x y : Bool). maskOf (flag onlineBit v ∷ flag readingBit v ∷ x ∷ y ∷ [])) (isRunning-readLookup m (a + lookupAt) (flag lookupBit v)) (isHeld-readSnapshot m (a + snapshotAt) (flag snapshotBit v))
+        ap₂ (λ (x y : Bool). maskOf (flag onlineBit v ∷ flag readingBit v ∷ x ∷ y ∷ []))
+        (isRunning-readLookup m (a + lookupAt) (flag lookupBit v)) (isHeld-readSnapshot m (a + snapshotAt) (flag snapshotBit v))
         ∙ mask-flags v flagCount (omega (arith, word a 0 (omega arith), f .flags i b))
         ∙ word a 0 (omega arith)
 
     flag-clear : (k : ℕ) → flag k (at m a) ≡ false → flag k (laneWord m i flagsAt) ≡ false
     flag-clear k e = ap (flag k) (sym (word a 0 (omega arith))) ∙ e
 
-    snapshot-is : (c : Bool) → flag snapshotBit (at m a) ≡ c → (k : ℕ) → k < kinds → snapshotCount (readSnapshot m (a + snapshotAt) c) k ≡ laneWord m i (snapshotAt + k)
+    snapshot-is : (c : Bool) → flag snapshotBit (at m a) ≡ c → (k : ℕ) → k < kinds
+        → snapshotCount (readSnapshot m (a + snapshotAt) c) k ≡ laneWord m i (snapshotAt + k)
     unfolding snapshotCount
     snapshot-is true e zero h = word (a + snapshotAt) snapshotAt (omega arith)
     snapshot-is true e (suc zero) h = word (a + snapshotAt + 1) (snapshotAt + 1) (omega arith)
@@ -121,7 +130,11 @@ module _ (m : List ℕ) (l : Legal m) (w : WordsTo (total (sizes m)) m) where
 
     lookup-is : (c : Bool) → flag lookupBit (at m a) ≡ c → LookupIs c
     unfolding lookupCode lookupPosition
-    lookup-is true e = record { low = low-wide (a + lookupAt) (omega arith); high = high-wide (a + lookupAt) (omega arith) ∙ word _ (lookupAt + 1) (omega arith); position = word _ positionAt (omega arith) }
+    lookup-is true e = record {
+      low = low-wide (a + lookupAt) (omega arith);
+      high = high-wide (a + lookupAt) (omega arith) ∙ word _ (lookupAt + 1) (omega arith);
+      position = word _ positionAt (omega arith);
+    }
     lookup-is false e = let r = f .lookupsRest i b (flag-clear lookupBit e) in record { low = sym (r .low); high = sym (r .high); position = sym (r .position) }
 
     end-is : (k : ℕ) → SlotOrNone (z .slots) (laneWord m i k) → (x : ℕ) → x ≡ a + k → first (readQueue m x) ≡ laneWord m i k

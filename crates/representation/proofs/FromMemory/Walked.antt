@@ -47,12 +47,14 @@ module _ (m : List ℕ) where
       ∙ getD-slotField m k i (slotWalk-below k h n i b)
 
   -- what holds of every walk holds of each chain and of each queue
-  each-chain : (P : List ℕ → Type 0) → ((h n : ℕ) → sizes m .slots < n → P (walk (slotField m chainLinkAt) h n)) → (a n : ℕ) → Each P (map (readChain m) (from a n))
+  each-chain : (P : List ℕ → Type 0) → ((h n : ℕ) → sizes m .slots < n → P (walk (slotField m chainLinkAt) h n)) → (a n : ℕ)
+      → Each P (map (readChain m) (from a n))
   unfolding from
   each-chain P f a zero = tt
   each-chain P f a (suc n) = (f (at m (headsAt + a)) _ (omega arith), each-chain P f (suc a) n)
 
-  each-lane : (P : List ℕ → Type 0) → ((h n : ℕ) → sizes m .slots < n → P (walk (slotField m queueLinkAt) h n)) → (a n : ℕ) → Each P (concatMap laneQueues (map (readLane m) (from a n)))
+  each-lane : (P : List ℕ → Type 0) → ((h n : ℕ) → sizes m .slots < n → P (walk (slotField m queueLinkAt) h n)) → (a n : ℕ)
+      → Each P (concatMap laneQueues (map (readLane m) (from a n)))
   unfolding concatMap from readLane
   each-lane P f a zero = tt
   each-lane P f a (suc n) = (f _ _ (omega arith), (f _ _ (omega arith), (f _ _ (omega arith), each-lane P f (suc a) n)))
@@ -71,10 +73,14 @@ module _ (m : List ℕ) where
 
   chained-below : (i : ℕ) → 0 < count i chained → i < sizes m .slots
   unfolding readChains state
-  chained-below = each-below (sizes m .slots) (readChains m) (each-chain (λ xs. (i : ℕ) → 0 < count i xs → i < sizes m .slots) (λ h n g. slotWalk-below chainLinkAt h n) 0 chainCount)
+  chained-below =
+      each-below (sizes m .slots) (readChains m) (each-chain (λ xs. (i : ℕ) → 0 < count i xs → i < sizes m .slots)
+      (λ h n g. slotWalk-below chainLinkAt h n) 0 chainCount)
 
   queued-below : (i : ℕ) → 0 < count i queued → i < sizes m .slots
-  queued-below = each-below (sizes m .slots) (allQueues (state m)) (each-queue (λ xs. (i : ℕ) → 0 < count i xs → i < sizes m .slots) (λ h n g. slotWalk-below queueLinkAt h n))
+  queued-below =
+      each-below (sizes m .slots) (allQueues (state m))
+      (each-queue (λ xs. (i : ℕ) → 0 < count i xs → i < sizes m .slots) (λ h n g. slotWalk-below queueLinkAt h n))
 
 -- ---- in a legal memory
 
@@ -108,7 +114,8 @@ module _ (m : List ℕ) (l : Legal m) where
       elim (decLt 0 (count i (chained m))) [
         | yes p ↦
             successorIn-each (slotWord m chainLinkAt) (sizes m .slots) (readChains m)
-            (each-chain m (λ xs. length xs ≤ sizes m .slots → (i d : ℕ) → 0 < count i xs → successor xs i d ≡ slotWord m chainLinkAt i) (slotWalk-successor m chainLinkAt (l .facts .chainLinks)) 0 chainCount)
+            (each-chain m (λ xs. length xs ≤ sizes m .slots → (i d : ℕ) → 0 < count i xs → successor xs i d ≡ slotWord m chainLinkAt i)
+            (slotWalk-successor m chainLinkAt (l .facts .chainLinks)) 0 chainCount)
             (omega (arith, length-standing, length-append (chained m) (queued m))) i _ p
         | no p ↦
             successorIn-out (readChains m) i _ (omega arith)
@@ -121,7 +128,8 @@ module _ (m : List ℕ) (l : Legal m) where
       elim (decLt 0 (count i (queued m))) [
         | yes p ↦
             successorIn-each (slotWord m queueLinkAt) (sizes m .slots) (allQueues (state m))
-            (each-queue m (λ xs. length xs ≤ sizes m .slots → (i d : ℕ) → 0 < count i xs → successor xs i d ≡ slotWord m queueLinkAt i) (slotWalk-successor m queueLinkAt (l .facts .queueLinks)))
+            (each-queue m (λ xs. length xs ≤ sizes m .slots → (i d : ℕ) → 0 < count i xs → successor xs i d ≡ slotWord m queueLinkAt i)
+            (slotWalk-successor m queueLinkAt (l .facts .queueLinks)))
             (omega (arith, length-standing, length-append (chained m) (queued m))) i none p
         | no p ↦ successorIn-out (allQueues (state m)) i none (omega arith) ∙ sym (l .facts .queueLinksRest i b (omega arith))
       ]

@@ -67,7 +67,8 @@ module _ (s : State) (l : length (s .engine .lanes) ≡ laneCount (s .sizes)) wh
   concat-flags : concat rows ≡ map isPending lanes
   concat-flags =
       concat-rows (λ (i : ℕ). laneAt (s .engine) i .pending) M C
-      ∙ map-from-getD (λ (i : ℕ). laneAt (s .engine) i .pending) false (map isPending lanes) (C * M) (length-map lanes isPending ∙ l) (λ i b. sym (List·getD-map isPending lanes i freshLane))
+      ∙ map-from-getD (λ (i : ℕ). laneAt (s .engine) i .pending) false (map isPending lanes) (C * M)
+      (length-map lanes isPending ∙ l) (λ i b. sym (List·getD-map isPending lanes i freshLane))
 
   -- the cabinet mask is the level above the lane masks
   cabinetMask-upper : cabinetMask s ≡ mask (upper rows)
@@ -114,7 +115,16 @@ module _ (s : State) (l : length (s .engine .lanes) ≡ laneCount (s .sizes)) wh
     awaited-lowest =
         first-pendingFrom 0 lanes
         ∙ ap (λ (b : Bool). cond b (0 + firstTrue (map isPending lanes)) none) (some-flags ∙ h)
-        ∙ omega (arith, ap firstTrue concat-flags, firstTrue-concat M rows (each-map (λ r. length r ≡ M) row (from 0 C) (λ c. length-map-from (pendingAt s c) 0 M)) some-upper, first-row, place, mul-comm M lowest, ap (λ (c : ℕ). M * c) lowest-first)
+        ∙ omega (
+          arith,
+          ap firstTrue concat-flags,
+          firstTrue-concat M rows
+              (each-map (λ r. length r ≡ M) row (from 0 C) (λ c. length-map-from (pendingAt s c) 0 M)) some-upper,
+          first-row,
+          place,
+          mul-comm M lowest,
+          ap (λ (c : ℕ). M * c) lowest-first,
+        )
       where
         first-row : firstTrue (getD rows (firstTrue (upper rows)) []) ≡ firstTrue (row lowest)
         first-row = ap (λ (c : ℕ). firstTrue (getD rows c [])) (sym lowest-first) ∙ ap firstTrue (getD-map-below row C lowest [] lowest-lt)

@@ -1,5 +1,5 @@
 -- A memory that holds the words of a well-formed state is legal.
-use Prim.Native.Nat.{ℕ, _+_, _-_, _^_, _≤_, _<_}
+use Prim.Native.Nat.{ℕ, _+_, _^_, _≤_, _<_}
 use mathlib.Core.Path.{_≡_, sym, ap, _∙_, subst}
 use mathlib.Core.Bool.{true, false, not}
 use mathlib.Core.List.{List, [], _∷_}
@@ -9,10 +9,12 @@ use lib.Dec.{eqb}
 use Rattle.model.specs.Word.{none}
 use Rattle.model.specs.Lists.{concat, count}
 use Rattle.model.specs.State.{Sizes, isRunning, isHeld, Engine, Product, Table, State}
-use Rattle.model.specs.Layout.{depositAt, materialAt, lastOffset, queueWidth, currentOffset, doneOffset, cabinetMaskAt, lookupBit, snapshotBit, flagsAt, queuesAt, positionAt, chainLinkAt, queueLinkAt, slotAddress, total}
+use Rattle.model.specs.Layout.{depositAt, materialAt, lastOffset, queueWidth, currentOffset, doneOffset, cabinetMaskAt, lookupBit}
+use Rattle.model.specs.Layout.{snapshotBit, flagsAt, queuesAt, positionAt, chainLinkAt, queueLinkAt, slotAddress, total}
 use Rattle.model.specs.Engine.{laneAt, runs}
 use Rattle.model.specs.Table.{productAt}
-use Rattle.model.specs.Memory.{at, sizes, wide, flag, flags, contents, lookupCode, cabinetMask, pendingAt, isNotZero, laneWords, slotWords, slotWord, allQueues, readProduct}
+use Rattle.model.specs.Memory.{at, sizes, wide, flag, flags, contents, lookupCode, cabinetMask, pendingAt}
+use Rattle.model.specs.Memory.{isNotZero, laneWords, slotWords, slotWord, allQueues, readProduct}
 use Rattle.model.specs.Rules.{wrongCode, wrongProduct}
 use Rattle.model.specs.Legal.{legal, codeOf, periodRuns}
 use Rattle.laws.specs.Tests.{not-not}
@@ -31,9 +33,11 @@ use Rattle.representation.proofs.FromState.Periods.{cabinetMask-from, f
 use Rattle.representation.proofs.FromState.RereadQueues.{sized}
 use Rattle.representation.proofs.FromState.Reread.{product-is, reread-sized, at-sizes}
 use Rattle.representation.proofs.FromState.LawfulGenerations.{largest-fits, lane-near, global-near, at-rest}
-use Rattle.representation.proofs.FromState.LawfulLanes.{contents-fit, heads, freeEnds, globalEnds, word, laneEnds, lookup-code, code-fits, flag-word, snapshot-rest, lookup-rest, bare, in-section, with-bit}
+use Rattle.representation.proofs.FromState.LawfulLanes.{contents-fit, heads, freeEnds, globalEnds, word, laneEnds, lookup-code, code-fits}
+use Rattle.representation.proofs.FromState.LawfulLanes.{flag-word, snapshot-rest, lookup-rest, bare, in-section, with-bit}
 
-module _ (e : Engine) (t : Table) (m : List ℕ) (w : WellFormed (sized e t m)) (holds : Image (sizes m) m (value (sized e t m))) (long : total (sizes m) ≤ length m) where
+module _ (e : Engine) (t : Table) (m : List ℕ) (w : WellFormed (sized e t m)) (holds : Image (sizes m) m (value (sized e t m)))
+    (long : total (sizes m) ≤ length m) where
   abbrev z : Sizes
   z = sizes m
 
@@ -51,10 +55,12 @@ module _ (e : Engine) (t : Table) (m : List ℕ) (w : WellFormed (sized e t m)) 
 
   -- ---- slots
 
-  product-right-at : (i : ℕ) → i < z .slots → wrongProduct (wide m (slotAddress z i)) (at m (slotAddress z i + depositAt)) (at m (slotAddress z i + materialAt)) ≡ false
+  product-right-at : (i : ℕ) → i < z .slots
+      → wrongProduct (wide m (slotAddress z i)) (at m (slotAddress z i + depositAt)) (at m (slotAddress z i + materialAt)) ≡ false
   unfolding readProduct
   product-right-at i b =
-      ap (λ (p : Product). wrongProduct (p .code) (p .deposit) (p .material)) (product-is e t m w holds i b) ∙ product-right (productAt (t .products) i) (w .table .inRange i)
+      ap (λ (p : Product). wrongProduct (p .code) (p .deposit) (p .material)) (product-is e t m w holds i b)
+      ∙ product-right (productAt (t .products) i) (w .table .inRange i)
 
   free-blank : (x : ℕ) → 0 < count x (t .free) → Blank m x
   unfolding readProduct slotWords
@@ -65,7 +71,9 @@ module _ (e : Engine) (t : Table) (m : List ℕ) (w : WellFormed (sized e t m)) 
         code = ap (λ (q : Product). q .code) p;
         deposit = ap (λ (q : Product). q .deposit) p;
         material = ap (λ (q : Product). q .material) p;
-        link = holds (slot x chainLinkAt) (h, omega arith) ∙ successorIn-out (t .chains) x _ (omega (arith, stands s w x)) ∙ w .unlinked x (omega (arith, stands s w x));
+        link =
+            holds (slot x chainLinkAt) (h, omega arith) ∙ successorIn-out (t .chains) x _ (omega (arith, stands s w x))
+            ∙ w .unlinked x (omega (arith, stands s w x));
       }
 
   chainLink-word : (i : ℕ) → i < z .slots → SlotOrNone (z .slots) (slotWord m chainLinkAt i)
@@ -81,7 +89,12 @@ module _ (e : Engine) (t : Table) (m : List ℕ) (w : WellFormed (sized e t m)) 
   all-facts : Facts m s
   unfolding flags laneWords slotWords
   all-facts = record {
-    flags = λ i b. omega (arith, word e t m w holds long i b flagsAt (omega arith), mask-lt (laneAt e i .online ∷ laneAt e i .reading ∷ isRunning (laneAt e i .lookup) ∷ isHeld (laneAt e i .snapshot) ∷ []));
+    flags =
+        λ i b. omega (
+          arith,
+          word e t m w holds long i b flagsAt (omega arith),
+          mask-lt (laneAt e i .online ∷ laneAt e i .reading ∷ isRunning (laneAt e i .lookup) ∷ isHeld (laneAt e i .snapshot) ∷ []),
+        );
     cabinetMask = subst (λ (x : ℕ). x < 2 ^ z .cabinets) (sym (mask-word ∙ cabinetMask-from s)) (mask-from-lt _ (z .cabinets));
     laneMasks = λ c b. subst (λ (x : ℕ). x < 2 ^ z .places) (sym (holds (mask c) b)) (mask-from-lt (pendingAt s c) (z .places));
     heads = heads e t m w holds long;
@@ -106,7 +119,9 @@ module _ (e : Engine) (t : Table) (m : List ℕ) (w : WellFormed (sized e t m)) 
       done = sym (ap (at m) (omega arith) ∙ word e t m w holds long i b (queuesAt + doneOffset + lastOffset) (omega arith));
     };
     onChain = λ k b. w .table .onChain k;
-    codes = distinct-map-intro (codeOf s) (concat (t .chains)) (chain-once s w) (λ x y a b. w .table .distinct x y (omega (arith, stands s w x)) (omega (arith, stands s w y)));
+    codes =
+        distinct-map-intro (codeOf s) (concat (t .chains)) (chain-once s w)
+        (λ x y a b. w .table .distinct x y (omega (arith, stands s w x)) (omega (arith, stands s w y)));
     snapshotsRest = λ i b h. snapshot-rest e t m w holds long i b (sym (flag-word e t m w holds long i b snapshotBit) ∙ h);
     lookupsRest = λ i b h. lookup-rest e t m w holds long i b (sym (flag-word e t m w holds long i b lookupBit) ∙ h);
     globalRest = at-rest e _ _ (e .global) (w .generations .global);
@@ -120,6 +135,7 @@ module _ (e : Engine) (t : Table) (m : List ℕ) (w : WellFormed (sized e t m)) 
     largest = largest-fits e (periodRuns m) runs-is (w .generations .word) (w .generations .largest);
     lanesNear = λ i. lane-near e (periodRuns m) (laneAt e i) runs-is (w .generations .word) (w .generations .largest) (w .generations .lanes i);
     globalNear = global-near e (w .generations .word) (w .generations .global);
+    extra = λ i. w .fits i .extra;
   }
 
   lawful-sized : legal m ≡ true

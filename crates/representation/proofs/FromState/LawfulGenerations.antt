@@ -1,8 +1,8 @@
 -- The generations of a well-formed state's engine are as legality asks.
-use Prim.Native.Nat.{ℕ, _-_, _<_}
+use Prim.Native.Nat.{ℕ, _<_}
 use mathlib.Core.Path.{_≡_, sym, ap₂, _∙_}
 use mathlib.Core.Logic.{_⊎_, inl, inr}
-use mathlib.Core.Bool.{Bool, true, false, not}
+use mathlib.Core.Bool.{Bool, true, false}
 use native.Mathlib.Omega.{arith}
 use lib.Dec.{eqb}
 use borrow.Author.Tests.{eq-eqb}
@@ -36,7 +36,8 @@ module _ (e : Engine) where
   soon-not-later : (g : ℕ) → g ≡ up (e .current) → e .largest ≡ up (e .current) → later g (e .largest) ≡ false
   soon-not-later g p q = ap₂ later p q ∙ later-self (up-word (e .current))
 
-  pub lane-near : (b : Bool) (l : Lane) → b ≡ runs e → e .current < wordLimit → Level e → Strict e l → isEmpty (l .queues .current) ≡ false → Near (e .current) (e .largest) b l
+  pub lane-near : (b : Bool) (l : Lane) → b ≡ runs e → e .current < wordLimit → Level e → Strict e l → isEmpty (l .queues .current) ≡ false
+      → Near (e .current) (e .largest) b l
   lane-near b l r w v (noneA a d) h = clash a h
   lane-near b l r w v (old a d) h = record {
     near = inl (omega (arith, d .word, d .before));

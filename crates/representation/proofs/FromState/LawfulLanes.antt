@@ -1,15 +1,16 @@
 -- A memory that holds the words of a well-formed state: its contents, and its ends and lanes as legality asks.
-use Prim.Native.Nat.{ℕ, zero, suc, _+_, _-_, _≤_, _<_}
+use Prim.Native.Nat.{ℕ, zero, suc, _+_, _≤_, _<_}
 use mathlib.Core.Path.{_≡_, refl, sym, ap, ap₂, _∙_, subst}
 use mathlib.Core.Bool.{Bool, true, false}
 use mathlib.Core.List.{List, [], _∷_}
 use native.Mathlib.Omega.{arith}
-use native.Mathlib.Decide.{decLt}
 use lib.ListN.{length, getD, List·getD-append}
 use Rattle.model.specs.State.{Sizes, laneCount, Lookup, idle, running, isRunning, Snapshot, unheld, held, isHeld, Queues, Lane, Engine, Table, State}
-use Rattle.model.specs.Layout.{maxCode, kinds, chainCount, contentsLength, lastOffset, currentOffset, doneOffset, queueWidth, headsAt, freeAt, globalQueuesAt, flagsAt, snapshotAt, queuesAt, lookupAt, positionAt, laneLength, laneAddress, total}
+use Rattle.model.specs.Layout.{maxCode, kinds, chainCount, contentsLength, lastOffset, currentOffset, doneOffset, queueWidth, headsAt, freeAt}
+use Rattle.model.specs.Layout.{globalQueuesAt, flagsAt, snapshotAt, queuesAt, lookupAt, positionAt, laneLength, laneAddress, total}
 use Rattle.model.specs.Engine.{laneAt}
-use Rattle.model.specs.Memory.{at, low as lowWord, high as highWord, sizes, wide, wholeOf, flag, contents, lookupCode, lookupPosition, snapshotCount, cabinetMask, laneWords, laneWord}
+use Rattle.model.specs.Memory.{at, low as lowWord, high as highWord, sizes, wide, wholeOf, flag, contents}
+use Rattle.model.specs.Memory.{lookupCode, lookupPosition, snapshotCount, cabinetMask, laneWords, laneWord}
 use Rattle.laws.specs.Tests.{clash}
 use Rattle.laws.specs.ListLaws.{take-map-from, map-from-getD}
 use Rattle.representation.proofs.WellFormed.{WellFormed, LookupFits, SnapshotFits, SlotOrNone}
@@ -20,7 +21,8 @@ use Rattle.representation.proofs.FromState.Standing.{head-range, free-e
 use Rattle.representation.proofs.FromState.RereadQueues.{sized}
 use Rattle.representation.proofs.FromState.RereadLanes.{flag-is, wholeOf-low-high}
 
-module _ (e : Engine) (t : Table) (m : List ℕ) (w : WellFormed (sized e t m)) (holds : Image (sizes m) m (value (sized e t m))) (long : total (sizes m) ≤ length m) where
+module _ (e : Engine) (t : Table) (m : List ℕ) (w : WellFormed (sized e t m)) (holds : Image (sizes m) m (value (sized e t m)))
+    (long : total (sizes m) ≤ length m) where
   abbrev z : Sizes
   z = sizes m
 
@@ -33,7 +35,8 @@ module _ (e : Engine) (t : Table) (m : List ℕ) (w : WellFormed (sized e t m)) 
     inRange = w .sizes;
     agree =
         take-map-from m contentsLength (omega arith)
-        ∙ map-from-getD (at m) 0 (contents z) contentsLength refl (λ i b. holds (top i) (omega arith) ∙ List·getD-append (contents z) (e .current ∷ e .largest ∷ cabinetMask s ∷ []) 0 i b);
+        ∙ map-from-getD (at m) 0 (contents z) contentsLength refl
+        (λ i b. holds (top i) (omega arith) ∙ List·getD-append (contents z) (e .current ∷ e .largest ∷ cabinetMask s ∷ []) 0 i b);
     long = long;
   }
 
@@ -92,7 +95,8 @@ module _ (e : Engine) (t : Table) (m : List ℕ) (w : WellFormed (sized e t m)) 
 
     pub lookup-code : wide m (laneAddress z i + lookupAt) ≡ lookupCode (l .lookup)
     unfolding laneWords
-    lookup-code = ap₂ wholeOf (word lookupAt (omega arith)) (ap (at m) (omega arith) ∙ word (lookupAt + 1) (omega arith)) ∙ wholeOf-low-high (lookupCode (l .lookup))
+    lookup-code =
+        ap₂ wholeOf (word lookupAt (omega arith)) (ap (at m) (omega arith) ∙ word (lookupAt + 1) (omega arith)) ∙ wholeOf-low-high (lookupCode (l .lookup))
 
     pub code-fits : lookupCode (l .lookup) ≤ maxCode
     unfolding lookupCode

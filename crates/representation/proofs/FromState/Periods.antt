@@ -53,7 +53,8 @@ module _ (s : State) where
       where
         clear : (i : ℕ) → i < laneCount (s .sizes) → cabinetMask s ≡ 0 → laneMask s (i / M) ≡ 0
         clear i b p =
-            eqb-true (laneMask s (i / M)) 0 (not-false (eqb (laneMask s (i / M)) 0) (sym (flag-cabinetMask (i / M) (cabinet-below i b)) ∙ ap (flag (i / M)) p ∙ flag-zero (i / M)))
+            eqb-true (laneMask s (i / M)) 0 (not-false (eqb (laneMask s (i / M)) 0)
+            (sym (flag-cabinetMask (i / M) (cabinet-below i b)) ∙ ap (flag (i / M)) p ∙ flag-zero (i / M)))
 
         still : cabinetMask s ≡ 0 → runs e ≡ false
         still p = any-false-intro freshLane isPending (e .lanes) (λ i. elim (decLt i (laneCount (s .sizes))) [
@@ -64,4 +65,5 @@ module _ (s : State) where
         moving : (b : Bool) → runs e ≡ b → cabinetMask s ≢ 0 → runs e ≡ true
         moving true q h = q
         moving false q h =
-            absurd (h (cabinetMask-from ∙ mask-from-none cabinetFlag C (λ c b. ap isNotZero (mask-from-none (pendingAt s c) M (λ p k. none-pending e q (c * M + p))))))
+            absurd (h (cabinetMask-from ∙ mask-from-none cabinetFlag C
+            (λ c b. ap isNotZero (mask-from-none (pendingAt s c) M (λ p k. none-pending e q (c * M + p))))))

@@ -9,7 +9,8 @@ use lib.ListN.{getD}
 use Rattle.model.specs.Word.{none}
 use Rattle.model.specs.Lists.{from, concat, count}
 use Rattle.model.specs.State.{Sizes, Engine, Table, State}
-use Rattle.model.specs.Layout.{cabinetsAt, placesAt, slotsAt, currentGenerationAt, largestGenerationAt, freeAt, depositAt, materialAt, chainLinkAt, slotLength, slotAddress}
+use Rattle.model.specs.Layout.{cabinetsAt, placesAt, slotsAt, currentGenerationAt, largestGenerationAt}
+use Rattle.model.specs.Layout.{freeAt, depositAt, materialAt, chainLinkAt, slotLength, slotAddress}
 use Rattle.model.specs.Table.{blank, productAt}
 use Rattle.model.specs.Memory.{at, contents, sizes, wholeOf, slotWords, slotWord, readProduct, readLink, state}
 use Rattle.laws.specs.ListLaws.{map-from-getD}
@@ -65,7 +66,12 @@ module _ (e : Engine) (t : Table) (m : List ℕ) where
     unfolding contents state
     reread-sized = λ i. record {
       sizes = z;
-      engine = record { current = holds (top currentGenerationAt) (omega arith) i; largest = holds (top largestGenerationAt) (omega arith) i; lanes = lanes-are e t m w holds i; global = global-is e t m w holds i };
+      engine = record {
+        current = holds (top currentGenerationAt) (omega arith) i;
+        largest = holds (top largestGenerationAt) (omega arith) i;
+        lanes = lanes-are e t m w holds i;
+        global = global-is e t m w holds i;
+      };
       table = record {
         chains = chains-are e t m w holds i;
         free = queue-is e t m w holds freeAt 0 (holds (end 0) (omega arith)) i;
@@ -79,10 +85,15 @@ module _ (e : Engine) (t : Table) (m : List ℕ) where
 module _ (s : State) (m : List ℕ) (holds : Image (s .sizes) m (value s)) where
   sizes-are : sizes m ≡ s .sizes
   unfolding contents
-  sizes-are = λ i. record { cabinets = holds (top cabinetsAt) (omega arith) i; places = holds (top placesAt) (omega arith) i; slots = holds (top slotsAt) (omega arith) i }
+  sizes-are = λ i. record {
+    cabinets = holds (top cabinetsAt) (omega arith) i;
+    places = holds (top placesAt) (omega arith) i;
+    slots = holds (top slotsAt) (omega arith) i;
+  }
 
   -- what holds of every state of the memory's sizes holds of s
-  pub at-sizes : (P : State → Type 0) → (WellFormed (sized (s .engine) (s .table) m) → Image (sizes m) m (value (sized (s .engine) (s .table) m)) → P (sized (s .engine) (s .table) m))
+  pub at-sizes : (P : State → Type 0)
+      → (WellFormed (sized (s .engine) (s .table) m) → Image (sizes m) m (value (sized (s .engine) (s .table) m)) → P (sized (s .engine) (s .table) m))
       → WellFormed s → P s
   at-sizes P f w = subst (λ (z : Sizes). WellFormed (of z) → Image z m (value (of z)) → P (of z)) sizes-are f w holds
     where

@@ -7,11 +7,14 @@ use native.Mathlib.Omega.{arith}
 use lib.ListN.{length, getD}
 use Rattle.model.specs.Lists.{first, from, concatMap}
 use Rattle.model.specs.State.{Sizes, laneCount, Lookup, idle, running, Snapshot, unheld, held, Lane, Engine, Table, isHeld, isRunning}
-use Rattle.model.specs.Layout.{kinds, currentOffset, doneOffset, onlineBit, readingBit, lookupBit, snapshotBit, quiescentAt, snapshotAt, generationAt, queuesAt, lookupAt, positionAt, laneLength, laneAddress}
+use Rattle.model.specs.Layout.{kinds, currentOffset, doneOffset, onlineBit, readingBit, lookupBit, snapshotBit, quiescentAt}
+use Rattle.model.specs.Layout.{snapshotAt, generationAt, queuesAt, lookupAt, positionAt, laneLength, laneAddress}
 use Rattle.model.specs.Engine.{laneAt, freshLane}
-use Rattle.model.specs.Memory.{at, sizes, wholeOf, low, high, flag, flags, lookupCode, lookupPosition, snapshotCount, laneWords, laneQueues, maskWord, readQueues, readLane, readLookup, readCounts, readSnapshot}
-use Rattle.laws.specs.ListLaws.{map-from-getD}
+use Rattle.model.specs.Memory.{at, sizes, wholeOf, low, high, flag, flags, lookupCode, lookupPosition, snapshotCount, laneWords}
+use Rattle.model.specs.Memory.{laneWord, laneQueues, maskWord, readQueues, readLane, readLookup, readCounts, readSnapshot}
+use Rattle.laws.specs.ListLaws.{map-from-getD, map-from-alike}
 use Rattle.laws.specs.Masks.{flag-mask}
+use Rattle.representation.proofs.ExtraWords.{extraAt, extraCount, extraWords, lane-path}
 use Rattle.representation.proofs.WellFormed.{WellFormed, SnapshotFits}
 use Rattle.representation.proofs.Addresses.Fields.{mask, lane, value}
 use Rattle.representation.proofs.Addresses.Writes.{Image}
@@ -66,9 +69,15 @@ module _ (e : Engine) (t : Table) (m : List ℕ) where
       queues-are =
           let there = three (e .lanes) i (omega (arith, w .lanes)) in
           λ j. record {
-            next = (queue-is e t m w holds (a + queuesAt) (suc (suc (suc (suc (triple i))))) (word queuesAt (omega arith) _ (omega arith) ∙ ap first (sym (there .next))) ∙ there .next) j;
-            current = (queue-is e t m w holds (a + queuesAt + currentOffset) (suc (suc (suc (suc (suc (triple i)))))) (word (queuesAt + currentOffset) (omega arith) _ (omega arith) ∙ ap first (sym (there .current))) ∙ there .current) j;
-            done = (queue-is e t m w holds (a + queuesAt + doneOffset) (suc (suc (suc (suc (suc (suc (triple i))))))) (word (queuesAt + doneOffset) (omega arith) _ (omega arith) ∙ ap first (sym (there .done))) ∙ there .done) j;
+            next =
+                (queue-is e t m w holds (a + queuesAt) (suc (suc (suc (suc (triple i)))))
+                (word queuesAt (omega arith) _ (omega arith) ∙ ap first (sym (there .next))) ∙ there .next) j;
+            current =
+                (queue-is e t m w holds (a + queuesAt + currentOffset) (suc (suc (suc (suc (suc (triple i))))))
+                (word (queuesAt + currentOffset) (omega arith) _ (omega arith) ∙ ap first (sym (there .current))) ∙ there .current) j;
+            done =
+                (queue-is e t m w holds (a + queuesAt + doneOffset) (suc (suc (suc (suc (suc (suc (triple i)))))))
+                (word (queuesAt + doneOffset) (omega arith) _ (omega arith) ∙ ap first (sym (there .done))) ∙ there .done) j;
             generation = word generationAt (omega arith) (a + generationAt) refl j;
           }
 
@@ -79,7 +88,8 @@ module _ (e : Engine) (t : Table) (m : List ℕ) where
       counts-are : readCounts m (a + quiescentAt) ≡ l .quiescent
       unfolding laneWords
       counts-are =
-          (λ j. word 1 (omega arith) (a + quiescentAt) refl j ∷ word 2 (omega arith) (a + quiescentAt + 1) (omega arith) j ∷ word 3 (omega arith) (a + quiescentAt + 2) (omega arith) j ∷ word 4 (omega arith) (a + quiescentAt + 3) (omega arith) j ∷ [])
+          (λ j. word 1 (omega arith) (a + quiescentAt) refl j ∷ word 2 (omega arith) (a + quiescentAt + 1) (omega arith) j
+          ∷ word 3 (omega arith) (a + quiescentAt + 2) (omega arith) j ∷ word 4 (omega arith) (a + quiescentAt + 3) (omega arith) j ∷ [])
           ∙ four-counts (l .quiescent) (w .fits i .counts .four)
 
       lookup-is : (k : Lookup) → l .lookup ≡ k → readLookup m (a + lookupAt) (isRunning k) ≡ k
@@ -87,7 +97,8 @@ module _ (e : Engine) (t : Table) (m : List ℕ) where
       lookup-is idle q = refl
       lookup-is (running c p) q =
           ap₂ running
-          (ap₂ wholeOf (word lookupAt (omega arith) (a + lookupAt) refl ∙ ap (λ (k : Lookup). low (lookupCode k)) q) (word (lookupAt + 1) (omega arith) (a + lookupAt + 1) (omega arith) ∙ ap (λ (k : Lookup). high (lookupCode k)) q)
+          (ap₂ wholeOf (word lookupAt (omega arith) (a + lookupAt) refl ∙ ap (λ (k : Lookup). low (lookupCode k)) q)
+          (word (lookupAt + 1) (omega arith) (a + lookupAt + 1) (omega arith) ∙ ap (λ (k : Lookup). high (lookupCode k)) q)
           ∙ wholeOf-low-high c)
           (word positionAt (omega arith) (a + lookupAt + 2) (omega arith) ∙ ap lookupPosition q)
 
@@ -96,7 +107,8 @@ module _ (e : Engine) (t : Table) (m : List ℕ) where
       snapshot-is unheld q f = refl
       snapshot-is (held c) q f =
           ap held
-          ((λ j. count-at 5 (a + snapshotAt) 0 (omega arith) (omega arith) refl j ∷ count-at 6 (a + snapshotAt + 1) 1 (omega arith) (omega arith) refl j ∷ count-at 7 (a + snapshotAt + 2) 2 (omega arith) (omega arith) refl j ∷ count-at 8 (a + snapshotAt + 3) 3 (omega arith) (omega arith) refl j ∷ [])
+          ((λ j. count-at 5 (a + snapshotAt) 0 (omega arith) (omega arith) refl j ∷ count-at 6 (a + snapshotAt + 1) 1 (omega arith) (omega arith) refl j
+          ∷ count-at 7 (a + snapshotAt + 2) 2 (omega arith) (omega arith) refl j ∷ count-at 8 (a + snapshotAt + 3) 3 (omega arith) (omega arith) refl j ∷ [])
           ∙ four-counts c (f .1 .four))
         where
           count-at : (k x j : ℕ) → k < laneLength → x ≡ a + k → getD (laneWords l) k 0 ≡ snapshotCount (l .snapshot) j → at m x ≡ getD c j 0
@@ -104,19 +116,21 @@ module _ (e : Engine) (t : Table) (m : List ℕ) where
 
       pending-is : flag (i % z .places) (maskWord m (i / z .places)) ≡ l .pending
       pending-is =
-          ap (flag (i % z .places)) (holds (mask (i / z .places)) (cabinet-below (sized e t m) (fit (sized e t m) w .somePlaces) i b)) ∙ flag-laneMask (sized e t m) (fit (sized e t m) w .somePlaces) i
+          ap (flag (i % z .places)) (holds (mask (i / z .places)) (cabinet-below (sized e t m) (fit (sized e t m) w .somePlaces) i b))
+          ∙ flag-laneMask (sized e t m) (fit (sized e t m) w .somePlaces) i
+
+      extra-are : extraWords (readLane m i) ≡ extraWords l
+      unfolding readLane laneWords from
+      extra-are = map-from-alike (laneWord m i) (λ (k : ℕ). getD (laneWords l) k 0) extraAt extraCount (λ k u v. word k (omega arith) (a + k) refl)
 
       lane-is : readLane m i ≡ l
       unfolding readLane
-      lane-is = λ j. record {
-        online = flag-is onlineBit j;
-        reading = flag-is readingBit j;
-        lookup = (ap (readLookup m (a + lookupAt)) (flag-is lookupBit) ∙ lookup-is (l .lookup) refl) j;
-        quiescent = counts-are j;
-        snapshot = (ap (readSnapshot m (a + snapshotAt)) (flag-is snapshotBit) ∙ snapshot-is (l .snapshot) refl (w .fits i .snapshot)) j;
-        pending = pending-is j;
-        queues = queues-are j;
-      }
+      lane-is =
+          lane-path (flag-is onlineBit) (flag-is readingBit)
+          (ap (readLookup m (a + lookupAt)) (flag-is lookupBit) ∙ lookup-is (l .lookup) refl)
+          counts-are
+          (ap (readSnapshot m (a + snapshotAt)) (flag-is snapshotBit) ∙ snapshot-is (l .snapshot) refl (w .fits i .snapshot))
+          pending-is queues-are extra-are
 
     pub lanes-are : map (readLane m) (from 0 (laneCount z)) ≡ e .lanes
     lanes-are = map-from-getD (readLane m) freshLane (e .lanes) (laneCount z) (w .lanes) lane-is

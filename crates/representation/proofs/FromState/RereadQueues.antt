@@ -26,7 +26,8 @@ module _ (links : List ℕ) (n : ℕ) (xss : List (List ℕ)) (rest : ℕ → �
     (once : (i : ℕ) → count i (concat xss) ≤ 1) (below : (i : ℕ) → 0 < count i (concat xss) → i < n)
     (links-are : (i : ℕ) → i < n → getD links i none ≡ successorIn xss i (rest i)) where
   walked : (j steps : ℕ) → n < steps → walk links (first (getD xss j [])) steps ≡ getD xss j []
-  walked j steps enough = walk-back links xs steps (omega arith) (omega (arith, length-at-most n xs inside most)) (λ i b. omega (arith, inside i b)) (linked links xs most next)
+  walked j steps enough =
+      walk-back links xs steps (omega arith) (omega (arith, length-at-most n xs inside most)) (λ i b. omega (arith, inside i b)) (linked links xs most next)
     where
       xs : List ℕ
       xs = getD xss j []
@@ -64,7 +65,8 @@ module _ (e : Engine) (t : Table) (m : List ℕ) where
     unfolding readChains slotWords
     chains-are =
         map-from-getD (readChain m) [] (t .chains) chainCount (w .table .chains)
-        (λ k b. walk-link chainLinkAt (t .chains) (λ i. getD (t .links) i none) (chain-once sized w) (chain-below sized w) (λ i p. holds (slot i chainLinkAt) (p, omega arith))
+        (λ k b. walk-link chainLinkAt (t .chains) (λ i. getD (t .links) i none) (chain-once sized w)
+        (chain-below sized w) (λ i p. holds (slot i chainLinkAt) (p, omega arith))
         k (at m (headsAt + k)) _ (holds (head k) b) (omega arith))
 
     pub queue-is : (a k : ℕ) → at m a ≡ first (getD (allQueues sized) k []) → readQueue m a ≡ getD (allQueues sized) k []

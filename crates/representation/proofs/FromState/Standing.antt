@@ -39,8 +39,12 @@ pub count-queues : (x : ℕ) (s : State) → count x (concat (allQueues s)) ≡ 
 unfolding concat
 count-queues x s =
     let ls = concatMap laneQueues (s .engine .lanes) in
-    omega
-    (arith, count-append x (s .table .free) (concat (queuesOf (s .engine .global) ++ ls)), count-queuesOf x (s .engine .global) ls, count-lanes x (s .engine .lanes))
+    omega (
+      arith,
+      count-append x (s .table .free) (concat (queuesOf (s .engine .global) ++ ls)),
+      count-queuesOf x (s .engine .global) ls,
+      count-lanes x (s .engine .lanes),
+    )
 
 -- ---- a well-formed state
 

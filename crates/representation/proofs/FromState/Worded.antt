@@ -20,10 +20,12 @@ use Rattle.laws.specs.ListLaws.{getD-right}
 use Rattle.laws.specs.Elements.{Each, each-getD}
 use Rattle.laws.specs.Masks.{mask-lt, mask-from-lt}
 use Rattle.representation.proofs.Discipline.Ages.{none as noneA, old, now, soon, Level, rests, goes, Strict, Clean}
-use Rattle.representation.proofs.WellFormed.{Word, WellFormed, LookupFits, SnapshotFits, SlotOrNone}
+use Rattle.representation.proofs.ExtraWords.{Word, extra-words}
+use Rattle.representation.proofs.WellFormed.{WellFormed, LookupFits, SnapshotFits, SlotOrNone}
 use Rattle.representation.proofs.Addresses.Fields.{Field, top, head, end, mask as maskF, lane, slot, Inside, value, place, topWords, endWords}
 use Rattle.representation.proofs.Addresses.Writes.{length-words, words-field}
-use Rattle.representation.proofs.FromState.Standing.{fit, head-range, chainLink-range, queueLink-range, position-range, free-ends, global-ends, lane-ends}
+use Rattle.representation.proofs.FromState.Standing.{fit, head-range, chainLink-range, queueLink-range}
+use Rattle.representation.proofs.FromState.Standing.{position-range, free-ends, global-ends, lane-ends}
 use Rattle.representation.proofs.FromState.Periods.{cabinetMask-from}
 
 module _ (s : State) (w : WellFormed s) where
@@ -119,13 +121,14 @@ module _ (s : State) (w : WellFormed s) where
       & slot-word _ (r .current .first) & slot-word _ (r .current .last)
       & slot-word _ (r .done .first) & slot-word _ (r .done .last)
       & k .low & k .high & slot-word _ (position-range s w i)
-      & tt
+      & extra-words l (f .extra)
 
   slot-words : (x : ℕ) → Each Word (slotWords s x)
   unfolding slotWords
   slot-words x =
       let f = w .table .inRange x in
-      omega arith & omega (arith, f .code) & omega (arith, f .deposit) & omega (arith, f .material) & slot-word _ (chainLink-range s w x) & slot-word _ (queueLink-range s w x) & tt
+      omega arith & omega (arith, f .code) & omega (arith, f .deposit) & omega (arith, f .material)
+      & slot-word _ (chainLink-range s w x) & slot-word _ (queueLink-range s w x) & tt
 
   value-word : (f : Field) → Inside z f → Word (value s f)
   unfolding contents laneWords slotWords

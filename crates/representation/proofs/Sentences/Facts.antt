@@ -8,12 +8,15 @@ use lib.ListN.{length, getD, take}
 use Rattle.model.specs.Word.{wordLimit, none, up, down, later}
 use Rattle.model.specs.Lists.{isEmpty, last, concat, count, distinct}
 use Rattle.model.specs.State.{Sizes, laneCount, isRunning, isHeld, Queues, Lane, State}
-use Rattle.model.specs.Layout.{maxCabinets, maxPlaces, maxSlots, kinds, chainCount, contentsLength, lastOffset, currentOffset, doneOffset, cabinetMaskAt, headsAt, freeAt, globalQueuesAt, lookupBit, snapshotBit, flagCount, flagsAt, snapshotAt, queuesAt, lookupAt, positionAt, depositAt, materialAt, chainLinkAt, queueLinkAt, laneAddress, slotAddress, total}
+use Rattle.model.specs.Layout.{maxCabinets, maxPlaces, maxSlots, kinds, chainCount, contentsLength, lastOffset, currentOffset, doneOffset}
+use Rattle.model.specs.Layout.{cabinetMaskAt, headsAt, freeAt, globalQueuesAt, lookupBit, snapshotBit, flagCount, flagsAt, snapshotAt, queuesAt}
+use Rattle.model.specs.Layout.{lookupAt, positionAt, depositAt, materialAt, chainLinkAt, queueLinkAt, laneAddress, slotAddress, total}
 use Rattle.model.specs.Engine.{laneAt}
 use Rattle.model.specs.Table.{chainNumber}
 use Rattle.model.specs.Rules.{wrongCode, wrongProduct}
 use Rattle.model.specs.Memory.{at, wide, sizes, laneWord, slotWord, maskWord, state, contents, allQueues, flag, isNotZero}
 use Rattle.model.specs.Legal.{sizesFit, codeOf, cabinetBits, largestFits, periodRuns}
+use Rattle.representation.proofs.ExtraWords.{ExtraFits}
 use Rattle.representation.proofs.WellFormed.{SlotOrNone}
 
 -- ---- sizes
@@ -113,7 +116,8 @@ module _ (m : List ℕ) (s : State) where
     pub onChain : (k : ℕ) → k < chainCount → (x : ℕ) → 0 < count x (getD (s .table .chains) k []) → chainNumber (codeOf s x) ≡ k
     pub codes : distinct (map (codeOf s) (concat (s .table .chains))) ≡ true
     -- unused words hold their rest value
-    pub snapshotsRest : (i : ℕ) → i < laneCount (sizes m) → flag snapshotBit (laneWord m i flagsAt) ≡ false → (k : ℕ) → k < kinds → laneWord m i (snapshotAt + k) ≡ 0
+    pub snapshotsRest : (i : ℕ) → i < laneCount (sizes m) → flag snapshotBit (laneWord m i flagsAt) ≡ false → (k : ℕ) → k < kinds
+        → laneWord m i (snapshotAt + k) ≡ 0
     pub lookupsRest : (i : ℕ) → i < laneCount (sizes m) → flag lookupBit (laneWord m i flagsAt) ≡ false → LookupRest m i
     pub globalRest : isEmpty (s .engine .global .current) ≡ true → s .engine .global .generation ≡ 0
     pub lanesRest : (i : ℕ) → isEmpty (laneAt (s .engine) i .queues .current) ≡ true → laneAt (s .engine) i .queues .generation ≡ 0
@@ -132,9 +136,12 @@ module _ (m : List ℕ) (s : State) where
     pub largest : largestFits (s .engine .current) (s .engine .largest) (periodRuns m) ≡ true
     -- a lane's current queue has a generation one before, at, or one after the current, not later than the largest requested, and one before under
     -- a running period only with its bit set
-    pub lanesNear : (i : ℕ) → isEmpty (laneAt (s .engine) i .queues .current) ≡ false → Near (s .engine .current) (s .engine .largest) (periodRuns m) (laneAt (s .engine) i)
+    pub lanesNear : (i : ℕ) → isEmpty (laneAt (s .engine) i .queues .current) ≡ false
+        → Near (s .engine .current) (s .engine .largest) (periodRuns m) (laneAt (s .engine) i)
     -- the global one's is at or one after, again not later than the largest requested
     pub globalNear : isEmpty (s .engine .global .current) ≡ false → NearGlobal (s .engine .current) (s .engine .largest) (s .engine .global)
+    -- the words of lanes after their lookups
+    pub extra : (i : ℕ) → ExtraFits (laneAt (s .engine) i)
 
 -- ---- legal
 

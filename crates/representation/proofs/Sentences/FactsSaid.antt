@@ -9,16 +9,23 @@ use lib.ListN.{getD}
 use lib.Dec.{eqb, ltb}
 use borrow.Author.Tests.{eq-eqb, eqb-true, ne-eqb, ltb-true, not-true}
 use Rattle.model.specs.Word.{none, up, down, later}
-use Rattle.model.specs.Lists.{all, every, isEmpty, from, concat, member}
+use Rattle.model.specs.Lists.{all, every, isEmpty, concat, member}
 use Rattle.model.specs.State.{laneCount, isRunning, isHeld, Queues, Lane, State}
-use Rattle.model.specs.Layout.{lastOffset, currentOffset, doneOffset, cabinetMaskAt, headsAt, freeAt, globalQueuesAt, lookupBit, snapshotBit, flagCount, flagsAt, snapshotAt, queuesAt, lookupAt, positionAt, depositAt, materialAt, chainLinkAt, queueLinkAt, laneAddress, slotAddress}
+use Rattle.model.specs.Layout.{lastOffset, currentOffset, doneOffset, cabinetMaskAt, headsAt, freeAt, globalQueuesAt}
+use Rattle.model.specs.Layout.{lookupBit, snapshotBit, flagCount, flagsAt, snapshotAt, queuesAt, lookupAt, positionAt}
+use Rattle.model.specs.Layout.{depositAt, materialAt, chainLinkAt, queueLinkAt, laneAddress, slotAddress}
 use Rattle.model.specs.Engine.{freshLane, laneAt}
 use Rattle.model.specs.Rules.{wrongCode, wrongProduct}
 use Rattle.model.specs.Memory.{at, wide, sizes, laneWord, slotWord, maskWord, allQueues, flag, isNotZero}
-use Rattle.model.specs.Legal.{implies, laneNumbers, slotNumbers, cabinetNumbers, slotOrNone, endsInRange, queuesInRange, flagsInRange, masksInRange, linkSentences, linksInRange, fieldsInRange, standsOnce, lastsAt, lastsAgree, onTheirChains, noCodeTwice, snapshotsAtRest, lookupsAtRest, generationAtRest, generationsAtRest, queueLinksAtRest, noneQueued, offLanes, lookupsInSections, snapshotsPending, cabinetBits, freeBlank, laneGenerationFits, globalGenerationFits, periodRuns, largestAgrees, laneGenerations, globalGeneration, sentences}
+use Rattle.model.specs.Legal.{implies, laneNumbers, slotNumbers, slotOrNone, endsInRange, queuesInRange, flagsInRange}
+use Rattle.model.specs.Legal.{masksInRange, linkSentences, linksInRange, fieldsInRange, standsOnce, lastsAt, lastsAgree, onTheirChains}
+use Rattle.model.specs.Legal.{noCodeTwice, snapshotsAtRest, lookupsAtRest, generationAtRest, generationsAtRest, queueLinksAtRest}
+use Rattle.model.specs.Legal.{noneQueued, offLanes, lookupsInSections, snapshotsPending, cabinetBits, freeBlank, laneGenerationFits}
+use Rattle.model.specs.Legal.{globalGenerationFits, periodRuns, largestAgrees, laneGenerations, globalGeneration, sentences}
 use Rattle.laws.specs.Tests.{_&_, clash, and-true, and-intro, or-cases, or-else, Every, every-true, every-intro, all-from, all-below, all-getD}
 use Rattle.laws.specs.Elements.{isEmpty-true}
 use Rattle.laws.specs.Counts.{all-count, member-false}
+use Rattle.representation.proofs.ExtraWords.{extra-said}
 use Rattle.representation.proofs.Sentences.Ranges.{slotOrNone-true}
 use Rattle.representation.proofs.Sentences.Facts.{EndsInRange, QueuesInRange, Lasts, LookupRest, Bare, Blank, Near, NearGlobal, Facts}
 
@@ -51,7 +58,8 @@ module _ (m : List ℕ) (s : State) where
   pub lasts-intro : (a : ℕ) (q : Queues) → Lasts m a q → lastsAt m a q ≡ true
   lasts-intro a q l = every-intro _ (eq-eqb _ _ (l .next) & eq-eqb _ _ (l .current) & eq-eqb _ _ (l .done) & tt)
 
-  lookupRest-true : (i : ℕ) → every (eqb (laneWord m i lookupAt) 0 ∷ eqb (laneWord m i (lookupAt + 1)) 0 ∷ eqb (laneWord m i positionAt) none ∷ []) ≡ true → LookupRest m i
+  lookupRest-true : (i : ℕ) → every (eqb (laneWord m i lookupAt) 0 ∷ eqb (laneWord m i (lookupAt + 1)) 0 ∷ eqb (laneWord m i positionAt) none ∷ []) ≡ true
+      → LookupRest m i
   lookupRest-true i h =
       let (low, (high, (position, rest))) = every-true _ h in
       record { low = eqb-true _ _ low; high = eqb-true _ _ high; position = eqb-true _ _ position }
@@ -71,7 +79,12 @@ module _ (m : List ℕ) (s : State) where
         done = isEmpty-true (q .done) (c .1);
       }
 
-  blank-true : (x : ℕ) → (eqb (wide m (slotAddress (sizes m) x)) 0 && eqb (at m (slotAddress (sizes m) x + depositAt)) 0 && eqb (at m (slotAddress (sizes m) x + materialAt)) 0 && eqb (at m (slotAddress (sizes m) x + chainLinkAt)) none) ≡ true → Blank m x
+  abbrev blank : ℕ → Bool
+  blank x =
+      let b = slotAddress (sizes m) x in
+      eqb (wide m b) 0 && eqb (at m (b + depositAt)) 0 && eqb (at m (b + materialAt)) 0 && eqb (at m (b + chainLinkAt)) none
+
+  blank-true : (x : ℕ) → blank x ≡ true → Blank m x
   blank-true x h =
       let b = slotAddress (sizes m) x in
       let u = and-true (eqb (wide m b) 0 && eqb (at m (b + depositAt)) 0 && eqb (at m (b + materialAt)) 0) (eqb (at m (b + chainLinkAt)) none) h in
@@ -110,16 +123,25 @@ module _ (m : List ℕ) (s : State) where
   bit-true true x e = ap not (ne-eqb x 0 (λ q. omega (arith, ltb-true 0 x e)))
   bit-true false x e = ap not e
 
+  abbrev productRight : ℕ → Bool
+  productRight i = let b = slotAddress (sizes m) i in not (wrongProduct (wide m b) (at m (b + depositAt)) (at m (b + materialAt)))
+
+  abbrev lookupRight : ℕ → Bool
+  lookupRight i = not (wrongCode (wide m (laneAddress (sizes m) i + lookupAt)))
+
   pub facts : Every (sentences m s) → Facts m s
-  unfolding flagsInRange masksInRange linksInRange fieldsInRange standsOnce lastsAgree onTheirChains noCodeTwice snapshotsAtRest lookupsAtRest generationsAtRest queueLinksAtRest offLanes lookupsInSections snapshotsPending cabinetBits freeBlank largestAgrees laneGenerations globalGeneration isEmpty isRunning isHeld
-  facts (flagged, (masked, (linked, (fielded, (once, (lasts, (chains, (codes, (snapshots, (lookups, (rests, (lines, (off, (sections, (helds, (bits, (free, (largest, (lanes, (global, end)))))))))))))))))))) =
-      let masks = and-true (ltb (at m cabinetMaskAt) (2 ^ sizes m .cabinets)) (all (λ (c : ℕ). ltb (maskWord m c) (2 ^ sizes m .places)) (cabinetNumbers m)) masked in
+  unfolding flagsInRange masksInRange linksInRange fieldsInRange standsOnce lastsAgree onTheirChains noCodeTwice snapshotsAtRest lookupsAtRest generationsAtRest
+      queueLinksAtRest offLanes lookupsInSections snapshotsPending cabinetBits freeBlank largestAgrees laneGenerations globalGeneration isEmpty isRunning isHeld
+  facts said =
+      let (flagged, (masked, (linked, (fielded, (once, (lasts, (chains, (codes, others)))))))) = said in
+      let (snapshots, (lookups, (rests, (lines, (off, (sections, (helds, (bits, (free, (largest, (lanes, (global, extra)))))))))))) = others in
+      let masks = and-true _ _ masked in
       let (heads, (freeEnds, (globalEnds, (laneLinks, (chainLinks, (queueLinks, rest)))))) = every-true (linkSentences m) linked in
-      let fields = and-true (all (λ (i : ℕ). let b = slotAddress (sizes m) i in not (wrongProduct (wide m b) (at m (b + depositAt)) (at m (b + materialAt)))) (slotNumbers m)) (all (λ (i : ℕ). not (wrongCode (wide m (laneAddress (sizes m) i + lookupAt)))) (laneNumbers m)) fielded in
+      let fields = and-true (all productRight (slotNumbers m)) (all lookupRight (laneNumbers m)) fielded in
       let (freeLast, (globalLasts, (laneLasts, rest))) = every-true _ lasts in
-      let resting = and-true (generationAtRest (s .engine .global)) (all (λ (l : Lane). generationAtRest (l .queues)) (s .engine .lanes)) rests in
+      let resting = and-true _ _ rests in
       let ofLane : (i : ℕ) → i < laneCount (sizes m) → (queuesInRange m (laneWord m i) queuesAt ≡ true) × (slotOrNone m (laneWord m i positionAt) ≡ true) =
-      λ i b. and-true (queuesInRange m (laneWord m i) queuesAt) (slotOrNone m (laneWord m i positionAt)) (all-below _ _ i laneLinks b) in
+      λ i b. and-true _ _ (all-below _ _ i laneLinks b) in
       record {
         flags = λ i b. ltb-true (laneWord m i flagsAt) (2 ^ flagCount) (all-below _ _ i flagged b);
         cabinetMask = ltb-true (at m cabinetMaskAt) (2 ^ sizes m .cabinets) (masks .0);
@@ -139,17 +161,25 @@ module _ (m : List ℕ) (s : State) where
         laneLasts = λ i b. lasts-true (laneAddress (sizes m) i + queuesAt) (laneAt (s .engine) i .queues) (all-below _ _ i laneLasts b);
         onChain = λ k b x c. eqb-true _ k (all-count _ (getD (s .table .chains) k []) (all-below _ _ k chains b) x c);
         codes = codes;
-        snapshotsRest = λ i b e k l. eqb-true _ 0 (all-from _ snapshotAt _ k (or-else (flag snapshotBit (laneWord m i flagsAt)) _ (all-below _ _ i snapshots b) e) l);
+        snapshotsRest =
+            λ i b e k l. eqb-true _ 0 (all-from _ snapshotAt _ k (or-else (flag snapshotBit (laneWord m i flagsAt)) _ (all-below _ _ i snapshots b) e) l);
         lookupsRest = λ i b e. lookupRest-true i (or-else (flag lookupBit (laneWord m i flagsAt)) _ (all-below _ _ i lookups b) e);
         globalRest = rest-true (s .engine .global) (resting .0);
         lanesRest = λ i. rest-true (laneAt (s .engine) i .queues) (all-getD freshLane _ (s .engine .lanes) refl (resting .1) i);
-        queueLinksRest = λ i b e. eqb-true _ none (or-else (member i (concat (allQueues s))) _ (all-below _ _ i lines b) (member-false i (concat (allQueues s)) e));
+        queueLinksRest =
+            λ i b e. eqb-true _ none (or-else (member i (concat (allQueues s))) _ (all-below _ _ i lines b) (member-false i (concat (allQueues s)) e));
         off = λ i e. bare-true (laneAt (s .engine) i) (or-else (laneAt (s .engine) i .online) _ (all-getD freshLane _ (s .engine .lanes) refl off i) e);
-        sections = λ i. implies-true (isRunning (laneAt (s .engine) i .lookup)) (laneAt (s .engine) i .reading) (all-getD freshLane _ (s .engine .lanes) refl sections i);
-        snapshots = λ i. implies-true (isHeld (laneAt (s .engine) i .snapshot)) (laneAt (s .engine) i .pending) (all-getD freshLane _ (s .engine .lanes) refl helds i);
+        sections =
+            λ i. implies-true (isRunning (laneAt (s .engine) i .lookup))
+            (laneAt (s .engine) i .reading) (all-getD freshLane _ (s .engine .lanes) refl sections i);
+        snapshots =
+            λ i. implies-true (isHeld (laneAt (s .engine) i .snapshot)) (laneAt (s .engine) i .pending) (all-getD freshLane _ (s .engine .lanes) refl helds i);
         cabinetBits = λ c b. bit-true (flag c (at m cabinetMaskAt)) (maskWord m c) (all-below _ _ c bits b);
         free = λ x b. blank-true x (all-count _ (s .table .free) free x b);
         largest = largest;
-        lanesNear = λ i. near-true (s .engine .current) (s .engine .largest) (periodRuns m) (laneAt (s .engine) i) (all-getD freshLane _ (s .engine .lanes) refl lanes i);
+        lanesNear =
+            λ i. near-true (s .engine .current) (s .engine .largest) (periodRuns m)
+            (laneAt (s .engine) i) (all-getD freshLane _ (s .engine .lanes) refl lanes i);
         globalNear = nearGlobal-true (s .engine .current) (s .engine .largest) (s .engine .global) global;
+        extra = extra-said m s extra;
       }

@@ -12,12 +12,18 @@ use borrow.Author.Tests.{eq-eqb, eqb-true, lt-ltb, not-false}
 use Rattle.model.specs.Word.{none, up, down, later}
 use Rattle.model.specs.Lists.{every, isEmpty, concat, count, member}
 use Rattle.model.specs.State.{isRunning, isHeld, Queues, Lane, State}
-use Rattle.model.specs.Layout.{lastOffset, currentOffset, doneOffset, cabinetMaskAt, headsAt, freeAt, globalQueuesAt, lookupBit, snapshotBit, flagCount, flagsAt, snapshotAt, queuesAt, lookupAt, positionAt, chainLinkAt, queueLinkAt, laneAddress}
+use Rattle.model.specs.Layout.{lastOffset, currentOffset, doneOffset, cabinetMaskAt, headsAt, freeAt, globalQueuesAt, lookupBit, snapshotBit}
+use Rattle.model.specs.Layout.{flagCount, flagsAt, snapshotAt, queuesAt, lookupAt, positionAt, chainLinkAt, queueLinkAt, laneAddress}
 use Rattle.model.specs.Engine.{freshLane, laneAt}
 use Rattle.model.specs.Memory.{at, sizes, laneWord, slotWord, maskWord, allQueues, flag, isNotZero}
-use Rattle.model.specs.Legal.{implies, endsInRange, queuesInRange, flagsInRange, masksInRange, linkSentences, linksInRange, fieldsInRange, standsOnce, lastsAgree, onTheirChains, noCodeTwice, snapshotsAtRest, lookupsAtRest, generationAtRest, generationsAtRest, queueLinksAtRest, noneQueued, offLanes, lookupsInSections, snapshotsPending, cabinetBits, freeBlank, laneGenerationFits, globalGenerationFits, periodRuns, largestAgrees, laneGenerations, globalGeneration, sentences}
-use Rattle.laws.specs.Tests.{_&_, and-true, and-intro, or-left, or-right, or-else-intro, Every, every-intro, all-from-intro, all-below-intro, all-getD-intro, same, other, decide}
+use Rattle.model.specs.Legal.{implies, endsInRange, queuesInRange, flagsInRange, masksInRange, linkSentences, linksInRange, fieldsInRange, standsOnce}
+use Rattle.model.specs.Legal.{lastsAgree, onTheirChains, noCodeTwice, snapshotsAtRest, lookupsAtRest, generationAtRest, generationsAtRest}
+use Rattle.model.specs.Legal.{queueLinksAtRest, noneQueued, offLanes, lookupsInSections, snapshotsPending, cabinetBits, freeBlank, laneGenerationFits}
+use Rattle.model.specs.Legal.{globalGenerationFits, periodRuns, largestAgrees, laneGenerations, globalGeneration, sentences}
+use Rattle.laws.specs.Tests.{_&_, and-true, and-intro, or-left, or-right, or-else-intro, Every, every-intro}
+use Rattle.laws.specs.Tests.{all-from-intro, all-below-intro, all-getD-intro, same, other, decide}
 use Rattle.laws.specs.Counts.{all-count-intro, member-true}
+use Rattle.representation.proofs.ExtraWords.{extra-hold}
 use Rattle.representation.proofs.Sentences.Ranges.{slotOrNone-intro}
 use Rattle.representation.proofs.Sentences.Facts.{EndsInRange, QueuesInRange, LookupRest, Bare, Near, NearGlobal, Facts}
 use Rattle.representation.proofs.Sentences.FactsSaid.{implies-intro, lasts-intro}
@@ -70,7 +76,8 @@ module _ (m : List ℕ) (s : State) where
         | no p ↦ or-right (member i xs) (eqb w none) (eq-eqb w none (f (omega arith)))
       ]
 
-  lookupRest-intro : (i : ℕ) → LookupRest m i → every (eqb (laneWord m i lookupAt) 0 ∷ eqb (laneWord m i (lookupAt + 1)) 0 ∷ eqb (laneWord m i positionAt) none ∷ []) ≡ true
+  lookupRest-intro : (i : ℕ) → LookupRest m i
+      → every (eqb (laneWord m i lookupAt) 0 ∷ eqb (laneWord m i (lookupAt + 1)) 0 ∷ eqb (laneWord m i positionAt) none ∷ []) ≡ true
   lookupRest-intro i r = every-intro _ (eq-eqb _ 0 (r .low) & eq-eqb _ 0 (r .high) & eq-eqb _ none (r .position) & tt)
 
   ends-intro : (word : ℕ → ℕ) (k : ℕ) → EndsInRange (sizes m .slots) word k → endsInRange m word k ≡ true
@@ -79,7 +86,8 @@ module _ (m : List ℕ) (s : State) where
 
   queues-intro : (word : ℕ → ℕ) (k : ℕ) → QueuesInRange (sizes m .slots) word k → queuesInRange m word k ≡ true
   queues-intro word k q =
-      and-intro _ _ (and-intro _ _ (ends-intro word k (q .next)) (ends-intro word (k + currentOffset) (q .current))) (ends-intro word (k + doneOffset) (q .done))
+      and-intro _ _ (and-intro _ _ (ends-intro word k (q .next)) (ends-intro word (k + currentOffset) (q .current)))
+      (ends-intro word (k + doneOffset) (q .done))
 
   links-hold : Facts m s → linksInRange m ≡ true
   unfolding linksInRange
@@ -105,26 +113,34 @@ module _ (m : List ℕ) (s : State) where
       & tt)
 
   pub sentences-hold : Facts m s → Every (sentences m s)
-  unfolding flagsInRange masksInRange fieldsInRange standsOnce onTheirChains noCodeTwice snapshotsAtRest lookupsAtRest generationsAtRest queueLinksAtRest offLanes lookupsInSections snapshotsPending cabinetBits freeBlank largestAgrees laneGenerations globalGeneration
+  unfolding flagsInRange masksInRange fieldsInRange standsOnce onTheirChains noCodeTwice snapshotsAtRest lookupsAtRest generationsAtRest queueLinksAtRest
+      offLanes lookupsInSections snapshotsPending cabinetBits freeBlank largestAgrees laneGenerations globalGeneration
   sentences-hold f =
       all-below-intro _ _ (λ i b. lt-ltb (laneWord m i flagsAt) (2 ^ flagCount) (f .flags i b))
-      & and-intro _ _ (lt-ltb (at m cabinetMaskAt) (2 ^ sizes m .cabinets) (f .cabinetMask)) (all-below-intro _ _ (λ c b. lt-ltb (maskWord m c) (2 ^ sizes m .places) (f .laneMasks c b)))
+      & and-intro _ _ (lt-ltb (at m cabinetMaskAt) (2 ^ sizes m .cabinets) (f .cabinetMask))
+      (all-below-intro _ _ (λ c b. lt-ltb (maskWord m c) (2 ^ sizes m .places) (f .laneMasks c b)))
       & links-hold f
       & and-intro _ _ (all-below-intro _ _ (λ i b. ap not (f .products i b))) (all-below-intro _ _ (λ i b. ap not (f .lookupCodes i b)))
       & all-below-intro _ _ (λ i b. eq-eqb _ 1 (f .once i b))
       & lasts-hold f
       & all-below-intro _ _ (λ k b. all-count-intro _ (getD (s .table .chains) k []) (λ x c. eq-eqb _ k (f .onChain k b x c)))
       & f .codes
-      & all-below-intro _ _ (λ i b. or-else-intro (flag snapshotBit (laneWord m i flagsAt)) _ (λ e. all-from-intro _ snapshotAt _ (λ k l. eq-eqb _ 0 (f .snapshotsRest i b e k l))))
+      & all-below-intro _ _ (λ i b. or-else-intro (flag snapshotBit (laneWord m i flagsAt)) _
+      (λ e. all-from-intro _ snapshotAt _ (λ k l. eq-eqb _ 0 (f .snapshotsRest i b e k l))))
       & all-below-intro _ _ (λ i b. or-else-intro (flag lookupBit (laneWord m i flagsAt)) _ (λ e. lookupRest-intro i (f .lookupsRest i b e)))
-      & and-intro _ _ (rest-intro (s .engine .global) (f .globalRest)) (all-getD-intro freshLane _ (s .engine .lanes) (λ i. rest-intro (laneAt (s .engine) i .queues) (f .lanesRest i)))
+      & and-intro _ _ (rest-intro (s .engine .global) (f .globalRest))
+      (all-getD-intro freshLane _ (s .engine .lanes) (λ i. rest-intro (laneAt (s .engine) i .queues) (f .lanesRest i)))
       & all-below-intro _ _ (λ i b. member-rest i (concat (allQueues s)) (slotWord m queueLinkAt i) (f .queueLinksRest i b))
-      & all-getD-intro freshLane _ (s .engine .lanes) (λ i. or-else-intro (laneAt (s .engine) i .online) _ (λ e. bare-intro (laneAt (s .engine) i) (f .off i e)))
-      & all-getD-intro freshLane _ (s .engine .lanes) (λ i. implies-intro (isRunning (laneAt (s .engine) i .lookup)) (laneAt (s .engine) i .reading) (f .sections i))
-      & all-getD-intro freshLane _ (s .engine .lanes) (λ i. implies-intro (isHeld (laneAt (s .engine) i .snapshot)) (laneAt (s .engine) i .pending) (f .snapshots i))
+      & all-getD-intro freshLane _ (s .engine .lanes)
+      (λ i. or-else-intro (laneAt (s .engine) i .online) _ (λ e. bare-intro (laneAt (s .engine) i) (f .off i e)))
+      & all-getD-intro freshLane _ (s .engine .lanes)
+      (λ i. implies-intro (isRunning (laneAt (s .engine) i .lookup)) (laneAt (s .engine) i .reading) (f .sections i))
+      & all-getD-intro freshLane _ (s .engine .lanes)
+      (λ i. implies-intro (isHeld (laneAt (s .engine) i .snapshot)) (laneAt (s .engine) i .pending) (f .snapshots i))
       & all-below-intro _ _ (λ c b. bit-intro (flag c (at m cabinetMaskAt)) (maskWord m c) (f .cabinetBits c b))
       & all-count-intro _ (s .table .free) (λ x b. let k = f .free x b in rw (k .code, k .deposit, k .material, k .link))
       & f .largest
-      & all-getD-intro freshLane _ (s .engine .lanes) (λ i. near-intro (s .engine .current) (s .engine .largest) (periodRuns m) (laneAt (s .engine) i) (f .lanesNear i))
+      & all-getD-intro freshLane _ (s .engine .lanes)
+      (λ i. near-intro (s .engine .current) (s .engine .largest) (periodRuns m) (laneAt (s .engine) i) (f .lanesNear i))
       & nearGlobal-intro (s .engine .current) (s .engine .largest) (s .engine .global) (f .globalNear)
-      & tt
+      & extra-hold m s (f .extra)
