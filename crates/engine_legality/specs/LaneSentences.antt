@@ -10,10 +10,7 @@ use Rattle.model.specs.Layout.{currentGenerationAt, largestGenerationAt, cabine
 use Rattle.model.specs.Rules.{wrongCode}
 use Rattle.model.specs.Memory.{at, wide, maskWord, flag}
 use Rattle.model.specs.Legal.{implies, largestFits, periodRuns}
-
--- a slot's number or none
-abbrev pub slotOrNone : ℕ → ℕ → Bool
-slotOrNone S x = ltb x S || eqb x none
+use Rattle.words.specs.Links.{slotOrNone}
 
 module _ (m : List ℕ) (S a : ℕ) where
   -- first and last of the queue whose ends stand at a are in range

@@ -22,7 +22,7 @@ fn lane_in_range(m: &[u32], b: usize, slots: u32) -> bool
 {
     crate::globals::fits_in(m[b], FLAG_COUNT)
         & (crate::links::queues_fit(m, b + words::QUEUES_AT, slots)
-            & crate::links::link_fits(m[b + words::POSITION_AT], slots))
+            & words::links::link_fits(m[b + words::POSITION_AT], slots))
 }
 
 // The lookup code is in range.

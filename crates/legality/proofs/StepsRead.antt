@@ -19,7 +19,8 @@ use Rattle.laws.specs.Tests.{every-true, every-intro, and-true, and-intro, all-
 use Rattle.laws.specs.ListLaws.{length-map-from, getD-map-below}
 use Rattle.laws.specs.Walks.{walk-stop, walk-on, stop, on, step}
 use Rattle.laws.specs.Counts.{count-append}
-use Rattle.slot_places.specs.Slots.{slotOrNone, queuedFits}
+use Rattle.words.specs.Links.{slotOrNone}
+use Rattle.slot_places.specs.Slots.{queuedFits}
 use Rattle.slot_places.specs.WalkSteps.{Step, check, slotsOf, several, queueCount, walks, chainSteps, linkSteps, queueSteps, laneSteps}
 use Rattle.slot_places.proofs.StepLaws.{slotsOf-append}
 use Rattle.slot_places.proofs.Marked.{checks, Right, look, stop as ended}

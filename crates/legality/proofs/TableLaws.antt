@@ -19,7 +19,8 @@ use Rattle.laws.specs.ListLaws.{getD-replicate-default}
 use Rattle.laws.specs.Counts.{count-append}
 use Rattle.distinct_codes.specs.Cells.{cellsOf, spread, codeAt, held, Places}
 use Rattle.distinct_codes.proofs.CellLaws.{meets-told, meets-twice}
-use Rattle.slot_places.specs.Slots.{slotOrNone, productInRange, chainedFits, queuedFits}
+use Rattle.words.specs.Links.{slotOrNone}
+use Rattle.slot_places.specs.Slots.{productInRange, chainedFits, queuedFits}
 use Rattle.slot_places.specs.WalkSteps.{Step, Outcome, spoilt, painted, run, slotsOf, several, queueCount, chainSteps, linkSteps, queueSteps, laneSteps, unmarked, Counted, Ready, entersAll, Enters, Runs}
 use Rattle.slot_places.proofs.StepLaws.{unlike, going, run-append, unmarked-all, unmarked-none, unmarked-some}
 use Rattle.slot_places.proofs.Marked.{checks, marks-are, marks-most, marks-checked, Spoilt, failed, doubled, spoilt-why}

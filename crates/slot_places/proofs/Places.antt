@@ -15,7 +15,7 @@ use Rattle.model.specs.Layout.{slotLength}
 use Rattle.model.specs.Memory.{at}
 use Rattle.laws.specs.Tests.{same, other, decide, and-true, and-intro, or-cases, or-left, or-right, clash}
 use Rattle.laws.specs.Counts.{count-append}
-use Rattle.slot_places.specs.Slots.{slotOrNone}
+use Rattle.words.specs.Links.{slotOrNone}
 use Rattle.slot_places.specs.WalkSteps.{Step, put, check, slotsOf, several, walks}
 use Rattle.slot_places.proofs.StepLaws.{slotsOf-append}
 use Rattle.slot_places.proofs.Marked.{checks, Right, stop, mark, look}

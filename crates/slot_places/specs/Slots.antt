@@ -1,17 +1,14 @@
 -- One slot's part of legality's sentences where it stands, for a slot whose words begin at b. A link that is followed needs no test here: the
 -- walk tests it, and the last of a walk is none.
 use Prim.Native.Nat.{ℕ, _+_, _*_, _%_}
-use mathlib.Core.Bool.{Bool, not, cond, _&&_, _||_}
+use mathlib.Core.Bool.{Bool, not, cond, _&&_}
 use mathlib.Core.List.{List}
-use lib.Dec.{ltb, eqb}
+use lib.Dec.{eqb}
 use Rattle.model.specs.Word.{none}
 use Rattle.model.specs.Layout.{chainCount, depositAt, materialAt, chainLinkAt, queueLinkAt, slotLength}
 use Rattle.model.specs.Rules.{wrongProduct}
 use Rattle.model.specs.Memory.{at, wide}
-
--- a slot's number or none
-abbrev pub slotOrNone : ℕ → ℕ → Bool
-slotOrNone slots x = ltb x slots || eqb x none
+use Rattle.words.specs.Links.{slotOrNone}
 
 module _ (m : List ℕ) (b : ℕ) where
   abbrev pub productInRange : Bool

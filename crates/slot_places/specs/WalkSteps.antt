@@ -11,7 +11,8 @@ use Rattle.model.specs.Lists.{last}
 use Rattle.model.specs.Layout.{maxSlots, headsAt, lastOffset, queueWidth, queuesAt, slotLength, chainLinkAt, queueLinkAt}
 use Rattle.model.specs.Memory.{at}
 use Rattle.distinct_codes.specs.Cells.{cellsOf, spread, codeAt, Held, clash, held, meets, Room}
-use Rattle.slot_places.specs.Slots.{slotOrNone, chainedFits, queuedFits}
+use Rattle.words.specs.Links.{slotOrNone}
+use Rattle.slot_places.specs.Slots.{chainedFits, queuedFits}
 
 -- ---- steps
 

@@ -1,0 +1,2 @@
+-- `Links` has what a link may be.
+pub mod Links
