@@ -11,30 +11,10 @@ use Rattle.model.specs.Lists.{all, from}
 use Rattle.model.specs.Layout.{cabinetsAt, placesAt, slotsAt, currentOffset, currentGenerationAt, largestGenerationAt, cabinetMaskAt, globalQueuesAt, globalGenerationAt, laneLength, laneAddress, lanesBody}
 use Rattle.model.specs.Memory.{at, flag, sizes, maskWord, state, readLane, readQueues}
 use Rattle.model.specs.Legal.{flagsInRange, masksInRange, snapshotsAtRest, lookupsAtRest, generationAtRest, generationsAtRest, offLanes, lookupsInSections, snapshotsPending, cabinetBits, largestFits, globalGenerationFits, periodRuns, largestAgrees, laneGenerations, globalGeneration}
-use Rattle.laws.specs.Tests.{_&_, Every, every-true, every-intro, and-true, and-intro, all-below, all-below-intro}
+use Rattle.laws.specs.Tests.{_&_, Every, iff-eq, every-true, every-intro, and-true, and-intro, all-below, all-below-intro, all-map-below, all-map-intro}
 use Rattle.engine_legality.specs.LaneSentences.{emptyFirst, laneFits, cabinetLanes, allLanes, cabinetFits, allCabinets, globalFits, globalWordsFit}
 use Rattle.engine_legality.specs.WordSentences.{engineLegal}
 use Rattle.engine_legality.proofs.LaneLaws.{laneSentences, empty-queue, laneTest, lane-said, said-lane}
-
--- ---- tests of a mapped list
-
-module _ {A : Type 0} (p : A → Bool) (f : ℕ → A) where
-  all-map : (xs : List ℕ) → all p (map f xs) ≡ all (λ (i : ℕ). p (f i)) xs
-  unfolding all
-  all-map [] = refl
-  all-map (x ∷ xs) = ap (λ (b : Bool). p (f x) && b) (all-map xs)
-
-  pub all-map-below : (n i : ℕ) → all p (map f (from 0 n)) ≡ true → i < n → p (f i) ≡ true
-  all-map-below n i h = all-below (λ (i : ℕ). p (f i)) n i (sym (all-map (from 0 n)) ∙ h)
-
-  pub all-map-intro : (n : ℕ) → ((i : ℕ) → i < n → p (f i) ≡ true) → all p (map f (from 0 n)) ≡ true
-  all-map-intro n h = all-map (from 0 n) ∙ all-below-intro (λ (i : ℕ). p (f i)) n h
-
--- two tests that hold together are equal
-pub iff-eq : (a b : Bool) → (a ≡ true → b ≡ true) → (b ≡ true → a ≡ true) → a ≡ b
-iff-eq true b f g = sym (f refl)
-iff-eq false true f g = g refl
-iff-eq false false f g = refl
 
 -- ---- the lanes, cabinet by cabinet
 

@@ -3,7 +3,7 @@ use Prim.Native.Nat.{ℕ, zero, suc, _+_, _<_}
 use mathlib.Core.Path.{_≡_, refl, sym, ap, ap₂, _∙_}
 use mathlib.Core.Logic.{_⊎_, inl, inr, _≢_}
 use mathlib.Core.Bool.{Bool, true, false, not, cond, _&&_, _||_}
-use mathlib.Core.List.{List, [], _∷_}
+use mathlib.Core.List.{List, [], _∷_, map}
 use native.Mathlib.Omega.{arith}
 use lib.ListN.{getD}
 use lib.Dec.{T, eqb}
@@ -24,6 +24,20 @@ bool-cases false = inr refl
 -- a test does not hold and fail
 pub clash {ℓ} : {C : Type ℓ} {b : Bool} → b ≡ true → b ≡ false → C
 clash p q = let z : _≡_ {A = ℕ} 0 1 = cc in absurd (omega arith)
+
+pub unlike : false ≡ true → ⊥
+unlike e = clash e refl
+
+-- a test that cannot hold fails
+pub refuted : (b : Bool) → (b ≡ true → ⊥) → false ≡ b
+refuted true h = absurd (h refl)
+refuted false h = refl
+
+-- two tests that hold together are equal
+pub iff-eq : (a b : Bool) → (a ≡ true → b ≡ true) → (b ≡ true → a ≡ true) → a ≡ b
+iff-eq true b f g = sym (f refl)
+iff-eq false true f g = g refl
+iff-eq false false f g = refl
 
 pub true-T : (b : Bool) → b ≡ true → T b
 true-T true h = tt
@@ -146,6 +160,19 @@ module _ {A : Type 0} (d : A) (p : A → Bool) where
   unfolding all
   all-getD-intro [] h = refl
   all-getD-intro (x ∷ xs) h = and-intro (p x) (all p xs) (h 0) (all-getD-intro xs (λ i. h (suc i)))
+
+-- of a mapped list
+module _ {A : Type 0} (p : A → Bool) (f : ℕ → A) where
+  all-map : (xs : List ℕ) → all p (map f xs) ≡ all (λ (i : ℕ). p (f i)) xs
+  unfolding all
+  all-map [] = refl
+  all-map (x ∷ xs) = ap (λ (b : Bool). p (f x) && b) (all-map xs)
+
+  pub all-map-below : (n i : ℕ) → all p (map f (from 0 n)) ≡ true → i < n → p (f i) ≡ true
+  all-map-below n i h = all-below (λ (i : ℕ). p (f i)) n i (sym (all-map (from 0 n)) ∙ h)
+
+  pub all-map-intro : (n : ℕ) → ((i : ℕ) → i < n → p (f i) ≡ true) → all p (map f (from 0 n)) ≡ true
+  all-map-intro n h = all-map (from 0 n) ∙ all-below-intro (λ (i : ℕ). p (f i)) n h
 
 -- ---- equal lists
 

@@ -6,10 +6,9 @@ use mathlib.Core.List.{List}
 use Rattle.model.specs.Lists.{every}
 use Rattle.model.specs.Memory.{state}
 use Rattle.model.specs.Legal.{contentsAgree, linksInRange, fieldsInRange, sentences, legal}
-use Rattle.laws.specs.Tests.{_&_, every-true, every-intro, and-true, and-intro}
+use Rattle.laws.specs.Tests.{_&_, iff-eq, every-true, every-intro, and-true, and-intro}
 use Rattle.engine_legality.specs.WordSentences.{engineLegal}
 use Rattle.legality.specs.Parts.{tableLegal}
-use Rattle.engine_legality.proofs.EngineLaws.{iff-eq}
 
 module _ (m : List ℕ) where
   -- the sentences are those of the two parts

@@ -14,7 +14,7 @@ use Rattle.model.specs.Lists.{every, from, count, last, distinct, concat}
 use Rattle.model.specs.Layout.{slotsAt, maxSlots, chainCount, queueWidth, currentOffset, doneOffset, lastOffset, headsAt, freeAt, globalQueuesAt, masksAt, queuesAt, positionAt, depositAt, materialAt, chainLinkAt, queueLinkAt, slotLength, laneLength, slotsBody, laneAddress, lanesBody}
 use Rattle.model.specs.Memory.{at, wide, sizes, slotWord, laneWord, readChain, readChains, readQueue}
 use Rattle.model.specs.Legal.{endsInRange, queuesInRange, laneLinksInRange, slotOrNone as inRange}
-use Rattle.laws.specs.Tests.{every-true, and-true, and-intro, or-left, or-right, all-below, clash}
+use Rattle.laws.specs.Tests.{unlike, refuted, every-true, and-true, and-intro, or-left, or-right, all-below, clash}
 use Rattle.laws.specs.ListLaws.{getD-replicate-default}
 use Rattle.laws.specs.Counts.{count-append}
 use Rattle.distinct_codes.specs.Cells.{cellsOf, spread, codeAt, held, Places}
@@ -22,18 +22,13 @@ use Rattle.distinct_codes.proofs.CellLaws.{meets-told, meets-twice}
 use Rattle.words.specs.Links.{slotOrNone}
 use Rattle.slot_places.specs.Slots.{productInRange, chainedFits, queuedFits}
 use Rattle.slot_places.specs.WalkSteps.{Step, Outcome, spoilt, painted, run, slotsOf, several, queueCount, chainSteps, linkSteps, queueSteps, laneSteps, unmarked, Counted, Ready, entersAll, Enters, Runs}
-use Rattle.slot_places.proofs.StepLaws.{unlike, going, run-append, unmarked-all, unmarked-none, unmarked-some}
+use Rattle.slot_places.proofs.StepLaws.{going, run-append, unmarked-all, unmarked-none, unmarked-some}
 use Rattle.slot_places.proofs.Marked.{checks, marks-are, marks-most, marks-checked, Spoilt, failed, doubled, spoilt-why}
 use Rattle.slot_places.proofs.Places.{Told, checks-both, both-check, told-append, told-several, several-check, check-several, walks-begin, walks-told, told-walks}
 use Rattle.engine_legality.specs.WordSentences.{engineLegal}
 use Rattle.legality.specs.Parts.{Table, tableLegal, queuedSteps, Lent}
 use Rattle.legality.proofs.StepsRead.{S, base, laneTotal, chainPart, freePart, threeSteps, lanePart, queuedPart, chain-slots, chains-are, free-count, retired-count, all-count, steps-right, queue-last, steps-lasts, lasts-steps}
 use Rattle.legality.proofs.TableSaid.{chainedCount, freeCount, retiredCount, TableSaid, chain-below, queue-below-at, chain-chained, table-said, said-table}
-
--- a test that cannot hold fails
-refuted : (b : Bool) → (b ≡ true → ⊥) → false ≡ b
-refuted true h = absurd (h refl)
-refuted false h = refl
 
 -- the last of slots below n, or none
 last-fits : (n : ℕ) (xs : List ℕ) → ((x : ℕ) → 0 < count x xs → x < n) → slotOrNone n (last xs) ≡ true

@@ -18,16 +18,10 @@ use Rattle.model.specs.Memory.{at, wide, sizes, slotWord, slotField, walk, read
 use Rattle.model.specs.Legal.{endsInRange, queuesInRange, codeOf, standsOnce, lastsAgree, onTheirChains, noCodeTwice, queueLinksAtRest, freeBlank}
 use Rattle.laws.specs.Tests.{every-true, every-intro, or-cases, or-left, or-right, all-below, all-below-intro, clash}
 use Rattle.laws.specs.ListLaws.{length-map-from, getD-map-below}
-use Rattle.laws.specs.Counts.{count-append, count-concat-getD, member-true, member-false, all-count, all-count-intro}
+use Rattle.laws.specs.Counts.{count-append, count-concat-getD, member-true, member-false, all-count, all-count-intro, map-alike}
 use Rattle.laws.specs.Walks.{walk-below}
 use Rattle.legality.specs.Parts.{tableLegal}
 use Rattle.legality.proofs.StepsRead.{retiredQueues}
-
--- two functions that agree on the members of a list
-map-alike : (f g : ℕ → ℕ) (xs : List ℕ) → ((x : ℕ) → 0 < count x xs → f x ≡ g x) → map f xs ≡ map g xs
-unfolding count
-map-alike f g [] h = refl
-map-alike f g (x ∷ xs) h = ap₂ _∷_ (h x (rw (eq-eqb x x refl) (omega arith))) (map-alike f g xs (λ y b. h y (omega arith)))
 
 module _ (m : List ℕ) where
   abbrev pub chainedCount : ℕ → ℕ

@@ -17,7 +17,7 @@ use Rattle.model.specs.Rules.{fresh}
 use Rattle.model.specs.Memory.{words, contents, globalWords, laneMask, laneMasks, pendingAt, cabinetMask, isNotZero, laneWords, laneWordsAt, allQueues, slotWords, flags, snapshotCount, lookupCode, lookupPosition}
 use Rattle.model.specs.Calls.{stored}
 use Rattle.laws.specs.Tests.{same, other, decide}
-use Rattle.laws.specs.ListLaws.{getD-replicate-default}
+use Rattle.laws.specs.ListLaws.{getD-replicate-default, map-constant, last-from}
 use Rattle.laws.specs.Masks.{mask-from-none}
 use Rattle.representation.proofs.Addresses.Writes.{length-words}
 use Rattle.set_up.specs.Written.{Written, after, renamed, written-front, rows, rows-alike, length-rows}
@@ -50,12 +50,6 @@ freshSlotWords n i = replicate chainLinkAt 0 ++ (none ∷ linkAfter n i ∷ [])
 
 -- ---- they are the words of the fresh state
 
--- the last of n numbers
-last-from : (a n : ℕ) → last (from a (suc n)) ≡ a + n
-unfolding last from
-last-from a zero = omega arith
-last-from a (suc n) = last-from (suc a) n ∙ omega arith
-
 first-from : (a n : ℕ) → first (from (suc a) n) ≡ linkAfter (a + suc n) a
 unfolding first from
 first-from a zero = rw (le-ltb (a + 1) (a + 1) (omega arith))
@@ -72,11 +66,6 @@ successor-from a (suc n) i d h k =
           let q : suc a + n ≡ a + suc n = omega arith in
           rw t (successor-from (suc a) n i d (omega arith) (omega arith) ∙ ap (λ (x : ℕ). linkAfter x i) q)
     ]
-
-map-constant : (g : ℕ → ℕ) (a n v : ℕ) → ((k : ℕ) → g k ≡ v) → replicate n v ≡ map g (from a n)
-unfolding from
-map-constant g a zero v h = refl
-map-constant g a (suc n) v h = rw (h a) (ap (λ (r : List ℕ). v ∷ r) (map-constant g (suc a) n v h))
 
 mask-of-zeros : (n : ℕ) → mask (map isNotZero (replicate n 0)) ≡ 0
 unfolding mask bit

@@ -7,16 +7,11 @@ use native.Mathlib.Nat.{mul-suc}
 use lib.ListN.{length, set, drop, replicate, length-append, replicate-append-replicate}
 use lib.Seq.{sets, sets-eq}
 use Rattle.model.specs.Lists.{concatMap, from}
+use Rattle.laws.specs.Stores.{sets-append}
 
 -- n is m with the words ws from a on
 pub record Written (m : List ℕ) (a : ℕ) (ws : List ℕ) (n : List ℕ) : Type 0 where
   pub is : n ≡ sets m a ws
-
-sets-append : (xs ys m : List ℕ) (a : ℕ) → sets (sets m a xs) (a + length xs) ys ≡ sets m a (xs ++ ys)
-sets-append [] ys m a = let e : a + 0 ≡ a = omega arith in rw e
-sets-append (x ∷ xs) ys m a =
-    let e : a + suc (length xs) ≡ suc a + length xs = omega arith in
-    ap (λ (i : ℕ). sets (sets (set m a x) (suc a) xs) i ys) e ∙ sets-append xs ys (set m a x) (suc a)
 
 pub nothing : (m : List ℕ) (a : ℕ) → Written m a [] m
 nothing m a = record { is = refl }

@@ -8,11 +8,12 @@ use lib.ListN.{getD, set, length, take}
 use Rattle.model.specs.Word.{none}
 use Rattle.model.specs.Layout.{maxSlots, headsAt, slotLength, chainLinkAt}
 use Rattle.model.specs.Memory.{at}
+use Rattle.laws.specs.Tests.{unlike}
 use Rattle.distinct_codes.specs.Cells.{cellsOf, spread, codeAt, Held, held, meets, Room, Meets}
 use Rattle.distinct_codes.proofs.CellLaws.{meets-clash, meets-append}
 use Rattle.slot_places.specs.Slots.{chainedFits}
 use Rattle.slot_places.specs.WalkSteps.{Step, Outcome, met, run, slotsOf, several, chainSteps, Counted, Ready, entersAll, Enters, spoils, repeats, passes}
-use Rattle.slot_places.proofs.StepLaws.{unlike, going, run-append, slotsOf-append, several-on, several-done, Going, going-start, going-ends, going-astray, going-twice, going-next, going-unfit, going-left, going-on}
+use Rattle.slot_places.proofs.StepLaws.{going, run-append, slotsOf-append, several-on, several-done, Going, going-start, going-ends, going-astray, going-twice, going-next, going-unfit, going-left, going-on}
 
 module _ (m : List ℕ) (base slots : ℕ) (few : Bool) where
   abbrev enters : List ℕ → Held → Held

@@ -11,9 +11,10 @@ use Rattle.model.specs.Word.{none}
 use Rattle.model.specs.Lists.{last}
 use Rattle.model.specs.Layout.{lastOffset, slotLength, queueLinkAt}
 use Rattle.model.specs.Memory.{at}
+use Rattle.laws.specs.Tests.{unlike}
 use Rattle.slot_places.specs.Slots.{queuedFits}
 use Rattle.slot_places.specs.WalkSteps.{Step, check, Outcome, met, run, slotsOf, several, linkSteps, queueSteps, Counted, Runs, Walks, spoils, passes}
-use Rattle.slot_places.proofs.StepLaws.{unlike, going, run-append, several-on, several-done, Going, going-start, going-ends, going-astray, going-twice, going-unfit, going-left, going-on}
+use Rattle.slot_places.proofs.StepLaws.{going, run-append, several-on, several-done, Going, going-start, going-ends, going-astray, going-twice, going-unfit, going-left, going-on}
 
 -- the last of a list, d where it has none
 unfoldable pub lastFrom : ℕ → List ℕ → ℕ

@@ -14,9 +14,6 @@ use Rattle.model.specs.Memory.{at}
 use Rattle.laws.specs.Tests.{same, other, decide}
 use Rattle.slot_places.specs.WalkSteps.{Step, put, check, Outcome, spoilt, painted, met, run, slotsOf, several, walks, unmarked, Counted}
 
-pub unlike : false ≡ true → ⊥
-unlike e = let z : _≡_ {A = ℕ} 0 1 = cc in omega arith
-
 -- ---- how many slots have no mark
 
 unmarked-above : (n : ℕ) (s : List ℕ) (i v : ℕ) → n ≤ i → unmarked n (set s i v) ≡ unmarked n s

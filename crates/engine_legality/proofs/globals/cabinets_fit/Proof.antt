@@ -7,7 +7,7 @@ use Rattle.model.specs.Lists.{all, from}
 use Rattle.model.specs.Layout.{cabinetMaskAt}
 use Rattle.model.specs.Memory.{at, flag, maskWord}
 use Rattle.engine_legality.specs.LaneSentences.{cabinetFits, allCabinets}
-use Rattle.engine_legality.proofs.AskLoops.{all-end}
+use Rattle.laws.specs.Loops.{all-end}
 use Rattle.engine_legality.proofs.LaneLoops.{cabinets-fails, cabinets-on}
 use borrow.Author.Needs.{needs}
 use Rattle.engine_legality.proofs.globals.cabinets_fit.Statement.{statement}
