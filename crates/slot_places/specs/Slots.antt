@@ -2,6 +2,7 @@
 -- walk tests it, and the last of a walk is none.
 use Prim.Native.Nat.{ℕ, _+_, _*_, _%_}
 use mathlib.Core.Bool.{Bool, not, cond, _&&_}
+use mathlib.Core.Path.{_≡_}
 use mathlib.Core.List.{List}
 use lib.Dec.{eqb}
 use Rattle.model.specs.Word.{none}
@@ -11,6 +12,14 @@ use Rattle.model.specs.Memory.{at, wide}
 use Rattle.words.specs.Links.{slotOrNone}
 
 module _ (m : List ℕ) (b : ℕ) where
+  -- its words
+  pub record SlotAt (code deposit material chain queue : ℕ) : Type 0 where
+    pub codeIs : code ≡ wide m b
+    pub depositIs : deposit ≡ at m (b + depositAt)
+    pub materialIs : material ≡ at m (b + materialAt)
+    pub chainIs : chain ≡ at m (b + chainLinkAt)
+    pub queueIs : queue ≡ at m (b + queueLinkAt)
+
   abbrev pub productInRange : Bool
   productInRange = not (wrongProduct (wide m b) (at m (b + depositAt)) (at m (b + materialAt)))
 
