@@ -129,7 +129,7 @@ fn table_fits(m: &[u32]) -> bool
     requires { ⌜ Fits (now m) × (engineLegal (now m) ≡ true) ⌝ }
     ensures { λ r. ⌜ r ≡ tableLegal (now (m .entry)) ⌝ }
 {
-    let lanes = words::index(engine_legality::contents::lane_count(
+    let lanes = words::index(words::contents::lane_count(
         m[words::CABINETS_AT],
         m[words::PLACES_AT],
     ));

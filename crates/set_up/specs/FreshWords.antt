@@ -10,7 +10,7 @@ use borrow.Author.Tests.{lt-ltb, le-ltb}
 use Rattle.model.specs.Word.{none}
 use Rattle.model.specs.Lists.{first, last, from, successor, successorIn, mask, bit}
 use Rattle.model.specs.State.{Sizes, laneCount, Lane, isRunning, isHeld}
-use Rattle.model.specs.Layout.{chainCount, version, total, contentsLength, queuesWidth, globalBody, globalLength, masksAt, onlineBit, quiescentAt, queuesAt, lookupAt, positionAt, laneLength, chainLinkAt, slotLength, lanesBody}
+use Rattle.model.specs.Layout.{chainCount, total, contentsLength, queuesWidth, globalBody, globalLength, masksAt, onlineBit, quiescentAt, queuesAt, lookupAt, positionAt, laneLength, chainLinkAt, slotLength}
 use Rattle.model.specs.Engine.{freshLane, laneAt}
 use Rattle.model.specs.Table.{blank, linkOf}
 use Rattle.model.specs.Rules.{fresh}
@@ -126,15 +126,6 @@ module _ (z : Sizes) where
       ≡ words (fresh z)
   unfolding words fresh
   fresh-words h = ap₂ _++_ (ap₂ _++_ (ap₂ _++_ (ap (λ (ws : List ℕ). contents z ++ ws) (global-is h)) masks-are) lanes-are) slots-are
-
-  -- the contents as they are written: lanes is the number of lanes
-  pub contents-are : (lanes : ℕ) → lanes ≡ laneCount z
-      → (version ∷ z .cabinets ∷ z .places ∷ z .slots
-      ∷ globalBody ∷ globalLength ∷ masksAt ∷ z .cabinets
-      ∷ lanesBody z ∷ (laneLength * lanes) ∷ (lanesBody z + laneLength * lanes) ∷ (slotLength * z .slots) ∷ [])
-      ≡ contents z
-  unfolding contents
-  contents-are lanes e = rw e
 
   pub length-contents : length (contents z) ≡ contentsLength
   unfolding contents
