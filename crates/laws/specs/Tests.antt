@@ -55,6 +55,10 @@ pub and-intro : (a b : Bool) → a ≡ true → b ≡ true → (a && b) ≡ true
 and-intro true b p q = q
 and-intro false b p q = p
 
+pub and-assoc : (a b c : Bool) → ((a && b) && c) ≡ (a && (b && c))
+and-assoc true b c = refl
+and-assoc false b c = refl
+
 pub and-true-right : (a : Bool) → (a && true) ≡ a
 and-true-right true = refl
 and-true-right false = refl
@@ -173,6 +177,35 @@ module _ {A : Type 0} (p : A → Bool) (f : ℕ → A) where
 
   pub all-map-intro : (n : ℕ) → ((i : ℕ) → i < n → p (f i) ≡ true) → all p (map f (from 0 n)) ≡ true
   all-map-intro n h = all-map (from 0 n) ∙ all-below-intro (λ (i : ℕ). p (f i)) n h
+
+-- tests of each number: all tests of each, and each test of all
+module _ (is : List ℕ) where
+  all-and : (f g : ℕ → Bool) → (all f is && all g is) ≡ all (λ (i : ℕ). f i && g i) is
+  unfolding all
+  all-and f g = go is
+    where
+      turn : (a b c d : Bool) → ((a && b) && (c && d)) ≡ ((a && c) && (b && d))
+      turn true true c d = refl
+      turn true false true d = refl
+      turn true false false d = refl
+      turn false b c d = refl
+
+      go : (is : List ℕ) → (all f is && all g is) ≡ all (λ (i : ℕ). f i && g i) is
+      go [] = refl
+      go (i ∷ is) = turn (f i) (all f is) (g i) (all g is) ∙ ap (λ (b : Bool). (f i && g i) && b) (go is)
+
+  all-true : all (λ (i : ℕ). true) is ≡ true
+  unfolding all
+  all-true = go is
+    where
+      go : (is : List ℕ) → all (λ (i : ℕ). true) is ≡ true
+      go [] = refl
+      go (i ∷ is) = go is
+
+  pub every-all : (fs : List (ℕ → Bool)) → every (map (λ (f : ℕ → Bool). all f is) fs) ≡ all (λ (i : ℕ). every (map (λ (f : ℕ → Bool). f i) fs)) is
+  unfolding every
+  every-all [] = sym all-true
+  every-all (f ∷ fs) = ap (λ (b : Bool). all f is && b) (every-all fs) ∙ all-and f (λ (i : ℕ). every (map (λ (f : ℕ → Bool). f i) fs))
 
 -- ---- equal lists
 

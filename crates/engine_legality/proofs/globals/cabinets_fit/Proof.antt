@@ -1,5 +1,5 @@
 -- The loop's invariant: the cabinets from c on decide. The measure: the cabinets left. A turn takes the first of them, with its bit of the cabinet mask.
-use Prim.Native.Nat.{ℕ, _+_, _*_}
+use Prim.Native.Nat.{ℕ, _+_}
 use mathlib.Core.Path.{_≡_, refl, ap, _∙_}
 use native.Mathlib.Omega.{arith}
 use borrow.Author.Tests.{not-true, not-false}
