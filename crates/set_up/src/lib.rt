@@ -14,11 +14,6 @@ ghost use Rattle.set_up.specs.FreshWords.{freshGlobal, freshLaneWords, l
 // the largest generation and the cabinet mask
 const REST_LENGTH: usize = words::HEADS_AT - words::LARGEST_GENERATION_AT;
 
-// a lane's counts, its snapshot's, and the generation; the code of its lookup
-const COUNTS_LENGTH: usize = words::QUEUES_AT - words::QUIESCENT_AT;
-
-const CODE_LENGTH: usize = words::POSITION_AT - words::LOOKUP_AT;
-
 // a fresh lane is on
 const FRESH_FLAGS: u32 = 1;
 
@@ -50,15 +45,14 @@ fn write_global(m: &mut [u32], slots: u32)
     fill(m, words::GLOBAL_GENERATION_AT, 1, 0);
 }
 
-// Writes a lane's record from at on.
+// Writes a lane's record from at on: all words 0 but for the flags and the links.
 fn write_lane(m: &mut [u32], at: usize)
     requires { ⌜ at + laneLength ≤ length (now m) ⌝ }
     ensures { λ _. ⌜ Written (now (m .entry)) at (freshLaneWords 0) (now (m .exit)) ⌝ }
 {
+    fill(m, at, words::LANE_LENGTH, 0);
     fill(m, at, 1, FRESH_FLAGS);
-    fill(m, at + words::QUIESCENT_AT, COUNTS_LENGTH, 0);
     fill(m, at + words::QUEUES_AT, words::QUEUES_WIDTH, words::NONE);
-    fill(m, at + words::LOOKUP_AT, CODE_LENGTH, 0);
     fill(m, at + words::POSITION_AT, 1, words::NONE);
 }
 
@@ -84,13 +78,13 @@ fn link_after(slots: u32, i: u32) -> u32
     if i + 1 < slots { i + 1 } else { words::NONE }
 }
 
-// Writes the record of slot i from at on.
+// Writes the record of slot i from at on: all words 0 but for the links.
 fn write_slot(m: &mut [u32], at: usize, slots: u32, i: u32)
     requires { ⌜ (at + slotLength ≤ length (now m)) × (i + 1 ≤ slots) ⌝ }
     ensures { λ _. ⌜ Written (now (m .entry)) at (freshSlotWords slots i) (now (m .exit)) ⌝ }
 {
     let link = link_after(slots, i);
-    fill(m, at, words::CHAIN_LINK_AT, 0);
+    fill(m, at, words::SLOT_LENGTH, 0);
     fill(m, at + words::CHAIN_LINK_AT, 1, words::NONE);
     fill(m, at + words::QUEUE_LINK_AT, 1, link);
 }

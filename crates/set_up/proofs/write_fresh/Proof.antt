@@ -4,7 +4,7 @@ use native.Mathlib.Omega.{arith}
 use borrow.Author.Needs.{needs}
 use Rattle.model.specs.Calls.{sized}
 use Rattle.representation.proofs.Sentences.Split.{sizes-fit}
-use Rattle.set_up.specs.FreshWords.{all-written}
+use Rattle.set_up.proofs.FreshLaws.{all-written}
 use Rattle.set_up.proofs.SetUpLaws.{sizes-small}
 use Rattle.set_up.proofs.write_fresh.Statement.{statement}
 use Rattle.set_up.proofs.write_fresh.Tie as tie
