@@ -32,7 +32,8 @@ fn walk_queues(
     marks: &mut [u8],
 ) -> slot_places::queue::Queued
     requires { ⌜ Counted (now m) base slots (now marks) left × (masksAt ≤ length (now m)) × (lane + laneLength * lanes ≤ length (now m)) ⌝ }
-    ensures { λ r. ⌜ Runs (now (m .entry)) base slots (queuedSteps (now (m .entry)) base lane lanes slots) (now (marks .entry)) (r .ok) (r .left) (now (marks .exit)) ⌝ }
+    ensures { λ r. ⌜ Runs (now (m .entry)) base slots (queuedSteps (now (m .entry)) base lane lanes slots) (now (marks .entry)) (r .ok) (r .left)
+        (now (marks .exit)) ⌝ }
 {
     let f = slot_places::queue::queues(m, base, slots, words::FREE_AT, 1, true, left, marks);
     if !f.ok {
