@@ -158,7 +158,8 @@ module _ (f g : ℕ → ℕ) where
   alike : {N N′ : ℕ → ℕ} {k a : List ℕ} → ((c : ℕ) → N c ≡ N′ c) → Stands N k a → Stands N′ k a
   alike h s = record { told = λ c. sym (h c) ∙ s .told c; aside = s .aside; size = s .size }
 
-  stands-on : (xs : List ℕ) (N : ℕ → ℕ) (k a l b : List ℕ) → Stands N k a → meets f g xs (held k a) ≡ held l b → Stands (λ (c : ℕ). N c + count c (map f xs)) l b
+  stands-on : (xs : List ℕ) (N : ℕ → ℕ) (k a l b : List ℕ) → Stands N k a → meets f g xs (held k a) ≡ held l b
+      → Stands (λ (c : ℕ). N c + count c (map f xs)) l b
   unfolding meets count
   stands-on [] N k a l b s e =
       let x : k ≡ l = cc in
@@ -166,7 +167,8 @@ module _ (f g : ℕ → ℕ) where
       subst (λ (z : List ℕ). Stands (λ (c : ℕ). N c + 0) z b) x (subst (λ (z : List ℕ). Stands (λ (c : ℕ). N c + 0) k z) y (alike (λ c. omega arith) s))
   stands-on (x ∷ xs) N k a l b s e = go (λ j d t e. stands-on xs (λ (c : ℕ). N c + one x c) j d l b t e) (meet f g x (held k a)) (next N k a s x) e
     where
-      go : ((j d : List ℕ) → Stands (λ (c : ℕ). N c + one x c) j d → meets f g xs (held j d) ≡ held l b → Stands (λ (c : ℕ). N c + one x c + count c (map f xs)) l b)
+      go : ((j d : List ℕ) → Stands (λ (c : ℕ). N c + one x c) j d → meets f g xs (held j d) ≡ held l b
+          → Stands (λ (c : ℕ). N c + one x c + count c (map f xs)) l b)
           → (h : Held) → Next N k a s x h → meets f g xs h ≡ held l b → Stands (λ (c : ℕ). N c + (one x c + count c (map f xs))) l b
       go ih clash (twice t) e = absurd (never (sym (meets-clash f g xs) ∙ e))
       go ih (held j d) (on t) e = alike (λ c. omega arith) (ih j d t e)

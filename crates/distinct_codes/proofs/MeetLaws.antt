@@ -20,7 +20,8 @@ take-snoc [] n i h = absurd (omega arith)
 take-snoc (x ∷ a) zero i h = refl
 take-snoc (x ∷ a) (suc n) i h = let e : suc n + 1 ≡ suc (n + 1) = omega arith in rw e (ap (λ (xs : List ℕ). x ∷ xs) (take-snoc a n i (omega arith)))
 
-module _ (m : List ℕ) (base : ℕ) (few : Bool) (i : ℕ) (k a : List ℕ) (n : ℕ) (r : Room m base few k a n) (p v : ℕ) (e : p ≡ spread (cellsOf few) (codeAt m base i)) (h : v ≡ getD k p 0) where
+module _ (m : List ℕ) (base : ℕ) (few : Bool) (i : ℕ) (k a : List ℕ) (n : ℕ) (r : Room m base few k a n) (p v : ℕ)
+    (e : p ≡ spread (cellsOf few) (codeAt m base i)) (h : v ≡ getD k p 0) where
   abbrev f : ℕ → ℕ
   f = codeAt m base
 

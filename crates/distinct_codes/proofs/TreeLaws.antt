@@ -51,7 +51,8 @@ module _ (R : ℕ) (f : ℕ → ℕ) (n : ℕ) (k : List ℕ) where
 
   past : {p d t v : ℕ} → getD k p 0 ≡ suc v → (t ≡ v → ⊥) → Path R k p d t → Path R k (R + branches * v + d % branches) (d / branches) t
   past e h (here g) = absurd (h (omega arith))
-  past {d = d} {t = t} {v = v} e h (down {v = w} g r) = let q : w ≡ v = omega arith in subst (λ (u : ℕ). Path R k (R + branches * u + d % branches) (d / branches) t) q r
+  past {d = d} {t = t} {v = v} e h (down {v = w} g r) =
+      let q : w ≡ v = omega arith in subst (λ (u : ℕ). Path R k (R + branches * u + d % branches) (d / branches) t) q r
 
   pub way-on : {p d v : ℕ} → Way p d → getD k p 0 ≡ suc v → (f v ≡ f n → ⊥) → Way (R + branches * v + d % branches) (d / branches)
   way-on {v = v} w e h = record {
@@ -178,7 +179,8 @@ module _ (R c : ℕ) (f : ℕ → ℕ) where
         never : distinct (map f (from 0 N)) ≡ true → ⊥
         never d =
             let u : old .slot < n = omega (arith, s .shape .within (old .cell), old .stands) in
-            let e : old .slot ≡ n = distinct-map f (from 0 N) d (old .slot) n (omega (arith, count-from (old .slot) 0 N (omega arith) (omega arith))) (omega (arith, count-from n 0 N (omega arith) (omega arith))) (old .equal) in
+            let e : old .slot ≡ n = distinct-map f (from 0 N) d (old .slot) n (omega (arith, count-from (old .slot) 0 N (omega arith) (omega arith)))
+            (omega (arith, count-from n 0 N (omega arith) (omega arith))) (old .equal) in
             omega arith
 
   pub sofar-end : (n : ℕ) (k : List ℕ) → Sofar n k → (N : ℕ) → N ≤ n → true ≡ distinct (map f (from 0 N))

@@ -60,8 +60,10 @@ pub fn meet(
     aside: &mut [u16],
     n: usize,
 ) -> Met
-    requires { ⌜ (base + slotLength * i + slotLength ≤ length (now m)) × (i < maxSlots) × (n < length (now aside)) × Room (now m) base few (now cells) (now aside) n ⌝ }
-    ensures { λ r. ⌜ Meets (now (m .entry)) base few i (now (cells .entry)) (now (aside .entry)) n (r .ok) (r .count) (now (cells .exit)) (now (aside .exit)) ⌝ }
+    requires { ⌜ (base + slotLength * i + slotLength ≤ length (now m)) × (i < maxSlots) × (n < length (now aside))
+        × Room (now m) base few (now cells) (now aside) n ⌝ }
+    ensures { λ r. ⌜ Meets (now (m .entry)) base few i (now (cells .entry)) (now (aside .entry)) n (r .ok) (r .count) (now (cells .exit))
+        (now (aside .exit)) ⌝ }
 {
     let code = words::code_at(m, base + words::SLOT_LENGTH * i);
     let p = spread(code, few);

@@ -61,8 +61,10 @@ fn digits_of(code: u64, few: bool) -> u64
 // Number i is entered by its code, that of the slot aside[i]; false where one entered before has that
 // code.
 fn enter(m: &[u32], base: usize, aside: &[u16], i: usize, few: bool, cells: &mut [u16]) -> bool
-    requires { ⌜ Places (now m) base (now aside) (i + 1) × (i < maxSlots) × (cellsOf few + branches * i < length (now cells)) × Shape (cellsOf few) i (now cells) ⌝ }
-    ensures { λ r. ⌜ Entered (cellsOf few) (λ (t : ℕ). codeAt (now (m .entry)) base (getD (now (aside .entry)) t 0)) i (now (cells .entry)) r (now (cells .exit)) ⌝ }
+    requires { ⌜ Places (now m) base (now aside) (i + 1) × (i < maxSlots) × (cellsOf few + branches * i < length (now cells))
+        × Shape (cellsOf few) i (now cells) ⌝ }
+    ensures { λ r. ⌜ Entered (cellsOf few) (λ (t : ℕ). codeAt (now (m .entry)) base (getD (now (aside .entry)) t 0)) i (now (cells .entry)) r
+        (now (cells .exit)) ⌝ }
 {
     let code = words::code_at(m, base + words::SLOT_LENGTH * cells::node(aside[i]));
     let from = roots(few);

@@ -3,38 +3,22 @@
 use Prim.Native.Nat.{ℕ, zero, suc, _+_, _*_, _/_, _%_, _^_, _≤_, _<_}
 use mathlib.Core.Bool.{Bool, true, false, cond, _&&_}
 use mathlib.Core.Path.{_≡_, refl, ap, ap₂, sym, _∙_}
-use mathlib.Core.List.{List, [], _∷_, map}
+use mathlib.Core.List.{List}
 use native.Mathlib.Omega.{arith}
-use native.Mathlib.Nat.{suc-mul, mul-le-mul-right, mul-add-mod-self-right, mul-add-div-right, mod-eq-of-lt, div-eq-of-lt, mul-comm, mul-assoc, mul-add, mod-lt, div-lt-iff-lt-mul, div-add-mod'}
+use native.Mathlib.Nat.{suc-mul, mul-le-mul-right, mul-add-mod-self-right, mul-add-div-right, mod-eq-of-lt, div-eq-of-lt, mul-comm, mul-assoc}
+use native.Mathlib.Nat.{mul-add, mod-lt, div-lt-iff-lt-mul, div-add-mod'}
 use lib.Dec.{ltb, eqb}
-use Rattle.model.specs.Lists.{all, from}
-use Rattle.model.specs.Layout.{cabinetsAt, placesAt, slotsAt, currentOffset, currentGenerationAt, largestGenerationAt, cabinetMaskAt, globalQueuesAt, globalGenerationAt, laneLength, laneAddress, lanesBody}
+use Rattle.model.specs.Layout.{cabinetsAt, placesAt, slotsAt, currentOffset, currentGenerationAt, largestGenerationAt, cabinetMaskAt, globalQueuesAt}
+use Rattle.model.specs.Layout.{globalGenerationAt, laneLength, laneAddress, lanesBody}
 use Rattle.model.specs.Memory.{at, flag, sizes, maskWord, state, readLane, readQueues}
-use Rattle.model.specs.Legal.{flagsInRange, masksInRange, snapshotsAtRest, lookupsAtRest, generationAtRest, generationsAtRest, offLanes, lookupsInSections, snapshotsPending, cabinetBits, largestFits, globalGenerationFits, periodRuns, largestAgrees, laneGenerations, globalGeneration}
-use Rattle.laws.specs.Tests.{_&_, Every, every-true, every-intro, and-true, and-intro, all-below, all-below-intro}
-use Rattle.engine_legality.specs.LaneSentences.{emptyFirst, laneFits, cabinetLanes, allLanes, cabinetFits, allCabinets, globalFits, globalWordsFit}
+use Rattle.model.specs.Legal.{laneNumbers, flagsInRange, masksInRange, generationAtRest, generationsAtRest, offLanes, lookupsInSections, snapshotsPending}
+use Rattle.model.specs.Legal.{cabinetBits, largestFits, globalGenerationFits, periodRuns, largestAgrees, laneGenerations, globalGeneration}
+use Rattle.laws.specs.Tests.{_&_, Every, iff-eq, every-true, every-intro, and-true, and-intro, all-below, all-below-intro, all-map-below}
+use Rattle.laws.specs.Tests.{all-map-intro, every-all}
+use Rattle.engine_legality.specs.LaneSentences.{laneRests, emptyFirst, laneFits, cabinetLanes, allLanes, cabinetFits, allCabinets, globalFits}
+use Rattle.engine_legality.specs.LaneSentences.{globalWordsFit}
 use Rattle.engine_legality.specs.WordSentences.{engineLegal}
 use Rattle.engine_legality.proofs.LaneLaws.{laneSentences, empty-queue, laneTest, lane-said, said-lane}
-
--- ---- tests of a mapped list
-
-module _ {A : Type 0} (p : A → Bool) (f : ℕ → A) where
-  all-map : (xs : List ℕ) → all p (map f xs) ≡ all (λ (i : ℕ). p (f i)) xs
-  unfolding all
-  all-map [] = refl
-  all-map (x ∷ xs) = ap (λ (b : Bool). p (f x) && b) (all-map xs)
-
-  pub all-map-below : (n i : ℕ) → all p (map f (from 0 n)) ≡ true → i < n → p (f i) ≡ true
-  all-map-below n i h = all-below (λ (i : ℕ). p (f i)) n i (sym (all-map (from 0 n)) ∙ h)
-
-  pub all-map-intro : (n : ℕ) → ((i : ℕ) → i < n → p (f i) ≡ true) → all p (map f (from 0 n)) ≡ true
-  all-map-intro n h = all-map (from 0 n) ∙ all-below-intro (λ (i : ℕ). p (f i)) n h
-
--- two tests that hold together are equal
-pub iff-eq : (a b : Bool) → (a ≡ true → b ≡ true) → (b ≡ true → a ≡ true) → a ≡ b
-iff-eq true b f g = sym (f refl)
-iff-eq false true f g = g refl
-iff-eq false false f g = refl
 
 -- ---- the lanes, cabinet by cabinet
 
@@ -117,8 +101,6 @@ module _ (m : List ℕ) where
       engineLegal
       flagsInRange
       masksInRange
-      snapshotsAtRest
-      lookupsAtRest
       generationsAtRest
       offLanes
       lookupsInSections
@@ -130,8 +112,8 @@ module _ (m : List ℕ) where
       state
       cabinetFits
   engine-said h =
-      let (flagged, (masked, (linked, (coded, (snapshots, (lookups, (rested, rest₇))))))) = every-true _ h in
-      let (off, (sections, (held, (bits, (largest, (aged, (global, _))))))) = rest₇ in
+      let (flagged, (masked, (linked, (coded, (words, (rested, rest₆)))))) = every-true _ h in
+      let (off, (sections, (held, (bits, (largest, (aged, (global, _))))))) = rest₆ in
       let masks = and-true _ _ masked in
       let rests = and-true _ _ rested in
       record {
@@ -139,12 +121,11 @@ module _ (m : List ℕ) where
             all-below _ _ i flagged b
             & all-below _ _ i linked b
             & all-below _ _ i coded b
-            & all-below _ _ i snapshots b
-            & all-below _ _ i lookups b
-            & all-map-below _ (readLane m) _ i (rests .1) b
+            & all-below _ _ i (sym (every-all (laneNumbers m) (laneRests m)) ∙ words) b
             & all-map-below _ (readLane m) _ i off b
             & all-map-below _ (readLane m) _ i sections b
             & all-map-below _ (readLane m) _ i held b
+            & all-map-below _ (readLane m) _ i (rests .1) b
             & all-map-below _ (readLane m) _ i aged b
             & tt;
         mask = masks .0;
@@ -159,8 +140,6 @@ module _ (m : List ℕ) where
       engineLegal
       flagsInRange
       masksInRange
-      snapshotsAtRest
-      lookupsAtRest
       generationsAtRest
       offLanes
       lookupsInSections
@@ -178,15 +157,14 @@ module _ (m : List ℕ) where
       & and-intro _ _ (s .mask) masked
       & all-below-intro _ _ (λ i b. l i b .1 .0)
       & all-below-intro _ _ (λ i b. l i b .1 .1 .0)
-      & all-below-intro _ _ (λ i b. l i b .1 .1 .1 .0)
-      & all-below-intro _ _ (λ i b. l i b .1 .1 .1 .1 .0)
-      & and-intro _ _ (s .rest) (all-map-intro _ (readLane m) _ (λ i b. l i b .1 .1 .1 .1 .1 .0))
+      & (every-all (laneNumbers m) (laneRests m) ∙ all-below-intro _ _ (λ i b. l i b .1 .1 .1 .0))
+      & and-intro _ _ (s .rest) (all-map-intro _ (readLane m) _ (λ i b. l i b .1 .1 .1 .1 .1 .1 .1 .0))
+      & all-map-intro _ (readLane m) _ (λ i b. l i b .1 .1 .1 .1 .0)
+      & all-map-intro _ (readLane m) _ (λ i b. l i b .1 .1 .1 .1 .1 .0)
       & all-map-intro _ (readLane m) _ (λ i b. l i b .1 .1 .1 .1 .1 .1 .0)
-      & all-map-intro _ (readLane m) _ (λ i b. l i b .1 .1 .1 .1 .1 .1 .1 .0)
-      & all-map-intro _ (readLane m) _ (λ i b. l i b .1 .1 .1 .1 .1 .1 .1 .1 .0)
       & all-below-intro _ _ (λ c b. cabinet-split _ _ _ (s .cabinets c b) .1)
       & s .largest
-      & all-map-intro _ (readLane m) _ (λ i b. l i b .1 .1 .1 .1 .1 .1 .1 .1 .1 .0)
+      & all-map-intro _ (readLane m) _ (λ i b. l i b .1 .1 .1 .1 .1 .1 .1 .1 .0)
       & s .generation
       & tt
       )

@@ -1,21 +1,22 @@
 -- One lane: the tests of the check are the sentences of legality, for the lane that a memory reads. Each test is its sentence, since both look at the
--- same words; the ten are joined by truth.
+-- same words; together they are all of them in a row.
 use Prim.Native.Nat.{ℕ, _+_, _/_, _%_, _^_}
 use mathlib.Core.Bool.{Bool, true, false, not, cond, _&&_, _||_}
 use mathlib.Core.Path.{_≡_, refl, ap, ap₂, sym, _∙_}
-use mathlib.Core.List.{List, [], _∷_}
+use mathlib.Core.List.{List, [], _∷_, map}
 use native.Mathlib.Omega.{arith}
 use lib.Dec.{leb, ltb, eqb}
-use Rattle.model.specs.Word.{none, up, down, later}
+use Rattle.model.specs.Word.{up, down, later}
 use Rattle.model.specs.Lists.{all, every, from, isEmpty}
 use Rattle.model.specs.State.{isRunning, isHeld}
-use Rattle.model.specs.Layout.{kinds, placesAt, slotsAt, lastOffset, currentOffset, currentGenerationAt, largestGenerationAt, onlineBit, readingBit, lookupBit, snapshotBit, flagCount, flagsAt, snapshotAt, generationAt, queuesAt, lookupAt, positionAt, laneAddress}
+use Rattle.model.specs.Layout.{placesAt, slotsAt, lastOffset, currentOffset, currentGenerationAt, largestGenerationAt}
+use Rattle.model.specs.Layout.{onlineBit, readingBit, lookupBit, snapshotBit, flagCount, flagsAt, generationAt, queuesAt, lookupAt, positionAt, laneAddress}
 use Rattle.model.specs.Rules.{wrongCode}
 use Rattle.model.specs.Memory.{at, wide, flag, sizes, maskWord, laneWord, walk, readQueue, readLookup, readSnapshot, readLane}
 use Rattle.model.specs.Legal.{implies, slotOrNone, endsInRange, queuesInRange, laneLinksInRange, generationAtRest, noneQueued, laneGenerationFits, periodRuns}
-use Rattle.laws.specs.Tests.{Every, and-true, and-intro}
+use Rattle.laws.specs.Tests.{Every, and-assoc, and-true-right, every-true, every-intro}
 use Rattle.laws.specs.ListLaws.{length-map-from}
-use Rattle.engine_legality.specs.LaneSentences.{endsFit, queuesFit, snapshotBlank, lookupBlank, emptyFirst, noneQueuedAt, laneFits}
+use Rattle.engine_legality.specs.LaneSentences.{endsFit, queuesFit, wordsAtRest, laneAtRest, laneRests, emptyFirst, noneQueuedAt, laneFits}
 
 -- ---- an empty queue
 
@@ -61,13 +62,8 @@ module _ (m : List ℕ) (i : ℕ) where
   abbrev pub lookupCodeSaid : Bool
   lookupCodeSaid = not (wrongCode (wide m (laneAddress (sizes m) i + lookupAt)))
 
-  abbrev pub snapshotRestSaid : Bool
-  snapshotRestSaid = flag snapshotBit (laneWord m i flagsAt) || all (λ (k : ℕ). eqb (laneWord m i k) 0) (from snapshotAt kinds)
-
-  abbrev pub lookupRestSaid : Bool
-  lookupRestSaid =
-      flag lookupBit (laneWord m i flagsAt)
-      || every (eqb (laneWord m i lookupAt) 0 ∷ eqb (laneWord m i (lookupAt + 1)) 0 ∷ eqb (laneWord m i positionAt) none ∷ [])
+  abbrev pub wordsSaid : Bool
+  wordsSaid = every (map (λ (f : ℕ → Bool). f i) (laneRests m))
 
   abbrev pub generationRestSaid : Bool
   generationRestSaid = generationAtRest (readLane m i .queues)
@@ -84,10 +80,11 @@ module _ (m : List ℕ) (i : ℕ) where
   abbrev pub generationSaid : Bool
   generationSaid = laneGenerationFits (at m currentGenerationAt) (at m largestGenerationAt) (periodRuns m) (readLane m i)
 
+  -- in the order of the check
   abbrev pub laneSentences : List Bool
   laneSentences =
-      flagsSaid ∷ laneLinksInRange m i ∷ lookupCodeSaid ∷ snapshotRestSaid ∷ lookupRestSaid ∷ generationRestSaid
-      ∷ offSaid ∷ sectionSaid ∷ pendingSaid ∷ generationSaid ∷ []
+      flagsSaid ∷ laneLinksInRange m i ∷ lookupCodeSaid ∷ wordsSaid
+      ∷ offSaid ∷ sectionSaid ∷ pendingSaid ∷ generationRestSaid ∷ generationSaid ∷ []
 
   -- ---- each as the check tests it
 
@@ -109,13 +106,9 @@ module _ (m : List ℕ) (i : ℕ) where
   links-eq : (queuesFit m S (b + queuesAt) && slotOrNone m (at m (b + positionAt))) ≡ laneLinksInRange m i
   links-eq = ap (λ (x : Bool). x && slotOrNone m (at m (b + positionAt))) (queues-at m b queuesAt)
 
-  snapshot-eq : (flag snapshotBit (at m b) || snapshotBlank m b) ≡ snapshotRestSaid
-  unfolding all from
-  snapshot-eq = ap (λ (x : ℕ). flag snapshotBit x || snapshotBlank m b) zero-word
-
-  lookup-eq : (flag lookupBit (at m b) || lookupBlank m b) ≡ lookupRestSaid
-  unfolding every
-  lookup-eq = ap (λ (x : ℕ). flag lookupBit x || lookupBlank m b) zero-word
+  words-eq : laneAtRest m b ≡ wordsSaid
+  unfolding all every from
+  words-eq = ap (λ (x : ℕ). wordsAtRest m b (flag snapshotBit x) (flag lookupBit x)) zero-word
 
   -- the generation, and whether the current queue is empty
   abbrev g : ℕ
@@ -159,57 +152,27 @@ module _ (m : List ℕ) (i : ℕ) where
 
 -- ---- together
 
--- ten tests, grouped as the check groups them
-split-ten : (a b c d e f g h i j : Bool) → ((((a && b) && c) && (d && e)) && ((g && h) && i) && (f && j)) ≡ true
-    → Every (a ∷ b ∷ c ∷ d ∷ e ∷ f ∷ g ∷ h ∷ i ∷ j ∷ [])
-split-ten a b c d e f g h i j t =
-    let t₁ = and-true _ _ t in
-    let t₂ = and-true _ _ (t₁ .0) in
-    let t₃ = and-true _ _ (t₂ .0) in
-    let t₄ = and-true _ _ (t₃ .0) in
-    let t₅ = and-true _ _ (t₄ .0) in
-    let t₆ = and-true _ _ (t₃ .1) in
-    let t₇ = and-true _ _ (t₂ .1) in
-    let t₈ = and-true _ _ (t₇ .0) in
-    let t₉ = and-true _ _ (t₁ .1) in
-    (t₅ .0, (t₅ .1, (t₄ .1, (t₆ .0, (t₆ .1, (t₉ .0, (t₈ .0, (t₈ .1, (t₇ .1, (t₉ .1, tt))))))))))
-
-join-ten : (a b c d e f g h i j : Bool) → Every (a ∷ b ∷ c ∷ d ∷ e ∷ f ∷ g ∷ h ∷ i ∷ j ∷ [])
-    → ((((a && b) && c) && (d && e)) && ((g && h) && i) && (f && j)) ≡ true
-join-ten a b c d e f g h i j s =
-    let s₁ = s .1 in
-    let s₂ = s₁ .1 in
-    let s₃ = s₂ .1 in
-    let s₄ = s₃ .1 in
-    let s₅ = s₄ .1 in
-    let s₆ = s₅ .1 in
-    let s₇ = s₆ .1 in
-    let s₈ = s₇ .1 in
-    let s₉ = s₈ .1 in
-    let range = and-intro _ _ (and-intro _ _ (s .0) (s₁ .0)) (s₂ .0) in
-    let rest = and-intro _ _ (s₃ .0) (s₄ .0) in
-    let agrees = and-intro _ _ (and-intro _ _ (s₆ .0) (s₇ .0)) (s₈ .0) in
-    and-intro _ _ (and-intro _ _ (and-intro _ _ range rest) agrees) (and-intro _ _ (s₅ .0) (s₉ .0))
+-- the tests, grouped as the check groups them, in a row
+in-a-row : (a b c d e f g h i : Bool) → ((((a && b) && c) && d) && ((e && f) && g) && (h && i)) ≡ every (a ∷ b ∷ c ∷ d ∷ e ∷ f ∷ g ∷ h ∷ i ∷ [])
+unfolding every
+in-a-row a b c d e f g h i = simp (and-assoc, and-true-right)
 
 module _ (m : List ℕ) (i : ℕ) where
   -- the check's test of lane i
   abbrev pub laneTest : Bool
   laneTest = laneFits m (at m slotsAt) (laneAddress (sizes m) i) (flag (i % at m placesAt) (maskWord m (i / at m placesAt)))
 
-  -- the ten as one
-  lane-eq : laneTest
-      ≡ ((((flagsSaid m i && laneLinksInRange m i) && lookupCodeSaid m i) && (snapshotRestSaid m i && lookupRestSaid m i))
-      && ((offSaid m i && sectionSaid m i) && pendingSaid m i)
-      && (generationRestSaid m i && generationSaid m i))
-  unfolding laneFits
+  lane-eq : laneTest ≡ every (laneSentences m i)
+  unfolding laneFits every
   lane-eq =
       let range = ap (λ (x : Bool). x && lookupCodeSaid m i) (ap₂ _&&_ (flags-eq m i) (links-eq m i)) in
-      let rest = ap₂ _&&_ (snapshot-eq m i) (lookup-eq m i) in
       let agrees = ap₂ _&&_ (ap₂ _&&_ (off-eq m i) (section-eq m i)) (pending-eq m i) in
-      ap₂ _&&_ (ap₂ _&&_ (ap₂ _&&_ range rest) agrees) (ap₂ _&&_ (rest-eq m i) (generation-eq m i))
+      ap₂ _&&_ (ap₂ _&&_ (ap₂ _&&_ range (words-eq m i)) agrees) (ap₂ _&&_ (rest-eq m i) (generation-eq m i))
+      ∙ in-a-row (flagsSaid m i) (laneLinksInRange m i) (lookupCodeSaid m i) (wordsSaid m i)
+      (offSaid m i) (sectionSaid m i) (pendingSaid m i) (generationRestSaid m i) (generationSaid m i)
 
   pub lane-said : laneTest ≡ true → Every (laneSentences m i)
-  lane-said t = split-ten _ _ _ _ _ _ _ _ _ _ (sym lane-eq ∙ t)
+  lane-said t = every-true _ (sym lane-eq ∙ t)
 
   pub said-lane : Every (laneSentences m i) → laneTest ≡ true
-  said-lane s = lane-eq ∙ join-ten _ _ _ _ _ _ _ _ _ _ s
+  said-lane s = lane-eq ∙ every-intro _ s

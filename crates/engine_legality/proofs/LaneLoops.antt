@@ -9,7 +9,7 @@ use Rattle.model.specs.Lists.{all, from}
 use Rattle.model.specs.Layout.{maxCabinets, maxPlaces, laneLength}
 use Rattle.model.specs.Memory.{flag, maskWord}
 use Rattle.engine_legality.specs.LaneSentences.{laneFits, cabinetFits}
-use Rattle.engine_legality.proofs.AskLoops.{all-fails, all-on}
+use Rattle.laws.specs.Loops.{all-fails, all-on}
 
 -- f asks of a with its bit t of the word, and r answered
 module _ (f : ℕ → Bool → Bool) (word a n : ℕ) (w : Bool) (inv : all (λ (p : ℕ). f p (flag p word)) (from a n) ≡ w) (h : 0 < n)

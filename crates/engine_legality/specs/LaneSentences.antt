@@ -2,18 +2,17 @@
 -- words. An empty queue is one whose first is no slot's number.
 use Prim.Native.Nat.{ℕ, _+_, _*_, _^_}
 use mathlib.Core.Bool.{Bool, true, not, cond, _&&_, _||_}
-use mathlib.Core.List.{List}
+use mathlib.Core.List.{List, [], _∷_}
 use lib.Dec.{leb, ltb, eqb}
 use Rattle.model.specs.Word.{none, up, down, later}
-use Rattle.model.specs.Lists.{all, from}
-use Rattle.model.specs.Layout.{currentGenerationAt, largestGenerationAt, cabinetMaskAt, globalQueuesAt, globalGenerationAt, onlineBit, readingBit, lookupBit, snapshotBit, flagCount, snapshotAt, generationAt, queuesAt, currentOffset, doneOffset, lastOffset, lookupAt, positionAt, laneLength}
+use Rattle.model.specs.Lists.{all, every, from}
+use Rattle.model.specs.Layout.{currentGenerationAt, largestGenerationAt, cabinetMaskAt, globalQueuesAt, globalGenerationAt, onlineBit, readingBit}
+use Rattle.model.specs.Layout.{lookupBit, snapshotBit, flagCount}
+use Rattle.model.specs.Layout.{kinds, flagsAt, snapshotAt, generationAt, queuesAt, currentOffset, doneOffset, lastOffset, lookupAt, positionAt, laneLength}
 use Rattle.model.specs.Rules.{wrongCode}
-use Rattle.model.specs.Memory.{at, wide, maskWord, flag}
+use Rattle.model.specs.Memory.{at, wide, laneWord, maskWord, flag}
 use Rattle.model.specs.Legal.{implies, largestFits, periodRuns}
-
--- a slot's number or none
-abbrev pub slotOrNone : ℕ → ℕ → Bool
-slotOrNone S x = ltb x S || eqb x none
+use Rattle.words.specs.Links.{slotOrNone}
 
 module _ (m : List ℕ) (S a : ℕ) where
   -- first and last of the queue whose ends stand at a are in range
@@ -45,9 +44,20 @@ module _ (m : List ℕ) (b : ℕ) where
   abbrev pub lookupBlank : Bool
   lookupBlank = eqb (at m (b + lookupAt)) 0 && (eqb (at m (b + (lookupAt + 1))) 0 && (eqb (at m (b + positionAt)) none && true))
 
--- those that are not used do
-abbrev pub laneAtRest : List ℕ → ℕ → Bool
-laneAtRest m b = (flag snapshotBit (at m b) || snapshotBlank m b) && (flag lookupBit (at m b) || lookupBlank m b)
+  -- those that are not used do, where a snapshot is held or not and a lookup runs or not
+  abbrev pub wordsAtRest : Bool → Bool → Bool
+  wordsAtRest held running = (held || snapshotBlank) && ((running || lookupBlank) && true)
+
+  abbrev pub laneAtRest : Bool
+  laneAtRest = wordsAtRest (flag snapshotBit (at m b)) (flag lookupBit (at m b))
+
+-- the same of lane i, a test a sentence
+abbrev pub laneRests : List ℕ → List (ℕ → Bool)
+laneRests m =
+    (λ (i : ℕ). flag snapshotBit (laneWord m i flagsAt) || all (λ (k : ℕ). eqb (laneWord m i k) 0) (from snapshotAt kinds))
+    ∷ (λ (i : ℕ). flag lookupBit (laneWord m i flagsAt)
+    || every (eqb (laneWord m i lookupAt) 0 ∷ eqb (laneWord m i (lookupAt + 1)) 0 ∷ eqb (laneWord m i positionAt) none ∷ []))
+    ∷ []
 
 -- the queue whose first is x is empty
 abbrev pub emptyFirst : ℕ → ℕ → Bool

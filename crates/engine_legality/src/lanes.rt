@@ -3,7 +3,8 @@ ghost use mathlib.Core.Path.{_≡_};
 ghost use Prim.Native.Nat.{_+_, _*_, _≤_};
 ghost use lib.ListN.{length};
 ghost use Rattle.model.specs.Layout.{maxCabinets, maxPlaces, masksAt, laneLength};
-ghost use Rattle.engine_legality.specs.LaneSentences.{laneInRange, lookupInRange, snapshotBlank, lookupBlank, laneAtRest, noneQueuedAt, laneAgrees, laneFits, cabinetLanes, allLanes};
+ghost use Rattle.engine_legality.specs.LaneSentences.{laneInRange, lookupInRange, wordsAtRest, laneAtRest, noneQueuedAt, laneAgrees, laneFits};
+ghost use Rattle.engine_legality.specs.LaneSentences.{cabinetLanes, allLanes};
 
 // how many flags a lane has
 const FLAG_COUNT: u32 = words::SNAPSHOT + 1;
@@ -22,7 +23,7 @@ fn lane_in_range(m: &[u32], b: usize, slots: u32) -> bool
 {
     crate::globals::fits_in(m[b], FLAG_COUNT)
         & (crate::links::queues_fit(m, b + words::QUEUES_AT, slots)
-            & crate::links::link_fits(m[b + words::POSITION_AT], slots))
+            & words::links::link_fits(m[b + words::POSITION_AT], slots))
 }
 
 // The lookup code is in range.
@@ -33,25 +34,21 @@ fn lookup_in_range(m: &[u32], b: usize) -> bool
     !(words::code_at(m, b + words::LOOKUP_AT) > words::MAX_CODE)
 }
 
-// The snapshot's words hold their rest value.
-fn snapshot_blank(m: &[u32], b: usize) -> bool
+// The words that hold a rest value do, of a lane that holds a snapshot or not and runs a lookup or not.
+fn words_at_rest(m: &[u32], b: usize, held: bool, running: bool) -> bool
     requires { ⌜ b + laneLength ≤ length (now m) ⌝ }
-    ensures { λ r. ⌜ r ≡ snapshotBlank (now (m .entry)) b ⌝ }
+    ensures { λ r. ⌜ r ≡ wordsAtRest (now (m .entry)) b held running ⌝ }
 {
-    (m[b + words::SNAPSHOT_AT] == 0)
-        & ((m[b + (words::SNAPSHOT_AT + 1)] == 0)
-            & ((m[b + (words::SNAPSHOT_AT + 2)] == 0)
-                & ((m[b + (words::SNAPSHOT_AT + 3)] == 0) & true)))
-}
-
-// The lookup's words hold their rest value.
-fn lookup_blank(m: &[u32], b: usize) -> bool
-    requires { ⌜ b + laneLength ≤ length (now m) ⌝ }
-    ensures { λ r. ⌜ r ≡ lookupBlank (now (m .entry)) b ⌝ }
-{
-    (m[b + words::LOOKUP_AT] == 0)
-        & ((m[b + (words::LOOKUP_AT + 1)] == 0)
-            & ((m[b + words::POSITION_AT] == words::NONE) & true))
+    (held
+        | ((m[b + words::SNAPSHOT_AT] == 0)
+            & ((m[b + (words::SNAPSHOT_AT + 1)] == 0)
+                & ((m[b + (words::SNAPSHOT_AT + 2)] == 0)
+                    & ((m[b + (words::SNAPSHOT_AT + 3)] == 0) & true)))))
+        & ((running
+            | ((m[b + words::LOOKUP_AT] == 0)
+                & ((m[b + (words::LOOKUP_AT + 1)] == 0)
+                    & ((m[b + words::POSITION_AT] == words::NONE) & true))))
+            & true)
 }
 
 // A lane's part of "unused words hold their rest value", its generation apart.
@@ -61,7 +58,7 @@ fn lane_at_rest(m: &[u32], b: usize) -> bool
 {
     let held = masks::test(m[b], words::SNAPSHOT);
     let running = masks::test(m[b], words::LOOKUP);
-    (held | snapshot_blank(m, b)) & (running | lookup_blank(m, b))
+    words_at_rest(m, b, held, running)
 }
 
 // The lane's queues are empty.
@@ -130,7 +127,8 @@ fn cabinet_lanes(m: &[u32], b: usize, places: u32, mask: u32, slots: u32) -> boo
 
 // The lanes of all cabinets, the first one's words at b.
 pub fn lanes_fit(m: &[u32], b: usize, cabinets: u32, places: u32, slots: u32) -> bool
-    requires { ⌜ (b + laneLength * (cabinets * places) ≤ length (now m)) × (masksAt + cabinets ≤ length (now m)) × (cabinets ≤ maxCabinets) × (places ≤ maxPlaces) ⌝ }
+    requires { ⌜ (b + laneLength * (cabinets * places) ≤ length (now m)) × (masksAt + cabinets ≤ length (now m)) × (cabinets ≤ maxCabinets)
+        × (places ≤ maxPlaces) ⌝ }
     ensures { λ r. ⌜ r ≡ allLanes (now (m .entry)) slots cabinets places b ⌝ }
 {
     let stride = words::LANE_LENGTH * (places as usize);

@@ -1,9 +1,9 @@
 -- How often a number stands in a list: "in" is a count above 0, "not in" a count of 0, so that omega combines them.
 use Prim.Native.Nat.{ℕ, zero, suc, _+_, _≤_, _<_}
 use mathlib.Core.Bool.{Bool, true, false, cond}
-use mathlib.Core.Path.{_≡_, refl, ap, _∙_}
+use mathlib.Core.Path.{_≡_, refl, ap, ap₂, _∙_}
 use mathlib.Core.Logic.{_⊎_, inl, inr, _≢_}
-use mathlib.Core.List.{List, [], _∷_, _++_}
+use mathlib.Core.List.{List, [], _∷_, _++_, map}
 use native.Mathlib.Omega.{arith}
 use native.Mathlib.Decide.{decLt}
 use lib.ListN.{getD, length}
@@ -156,3 +156,9 @@ pub all-count-intro : (p : ℕ → Bool) (xs : List ℕ) → ((x : ℕ) → 0 < 
 unfolding all count
 all-count-intro p [] h = refl
 all-count-intro p (x ∷ xs) h = and-intro (p x) (all p xs) (h x (omega (arith, count-self x xs))) (all-count-intro p xs (λ y b. h y (omega arith)))
+
+-- two functions that agree on the members of a list
+pub map-alike : (f g : ℕ → ℕ) (xs : List ℕ) → ((x : ℕ) → 0 < count x xs → f x ≡ g x) → map f xs ≡ map g xs
+unfolding count
+map-alike f g [] h = refl
+map-alike f g (x ∷ xs) h = ap₂ _∷_ (h x (rw (eqb-self x) (omega arith))) (map-alike f g xs (λ y b. h y (omega arith)))

@@ -9,7 +9,7 @@ use lib.ListN.{getD, length, set, take, replicate, length-map}
 use lib.Seq.{getD-append-add, getD-set-same, getD-set-other, getD-take, ext-getD, length-take-le}
 use lib.Dec.{eqb}
 use borrow.Author.Tests.{eq-eqb, ne-eqb}
-use Rattle.model.specs.Lists.{update, concatMap, from}
+use Rattle.model.specs.Lists.{update, concatMap, from, last}
 use Rattle.laws.specs.Tests.{same, other, decide}
 use Rattle.laws.specs.Elements.{getD-map}
 
@@ -94,7 +94,18 @@ getD-from a zero i d h = absurd (omega arith)
 getD-from a (suc n) zero d h = omega arith
 getD-from a (suc n) (suc i) d h = omega (arith, getD-from (suc a) n i d (omega arith))
 
+-- the last of n + 1 numbers
+pub last-from : (a n : ℕ) → last (from a (suc n)) ≡ a + n
+unfolding last from
+last-from a zero = omega arith
+last-from a (suc n) = last-from (suc a) n ∙ omega arith
+
 module _ {A : Type 0} where
+  pub map-constant : (g : ℕ → A) (a n : ℕ) (v : A) → ((k : ℕ) → g k ≡ v) → replicate n v ≡ map g (from a n)
+  unfolding from
+  map-constant g a zero v h = refl
+  map-constant g a (suc n) v h = rw (h a) (ap (λ (r : List A). v ∷ r) (map-constant g (suc a) n v h))
+
   pub length-map-from : (g : ℕ → A) (a n : ℕ) → length (map g (from a n)) ≡ n
   length-map-from g a n = length-map (from a n) g ∙ length-from a n
 

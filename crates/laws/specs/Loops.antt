@@ -1,11 +1,12 @@
--- What a loop knows of the elements that it has met: their sum, and whether one of them has a property.
+-- What a loop knows of the elements that it has met: their sum, whether one of them has a property, and whether all have. Each turn takes the first of
+-- those that are left.
 use Prim.Native.Nat.{ℕ, zero, suc, _+_, _*_, _-_, _≤_, _<_}
 use mathlib.Core.Path.{_≡_, refl, ap, sym, _∙_}
 use native.Mathlib.Omega.{arith}
-use mathlib.Core.Bool.{Bool, true, false, _||_}
+use mathlib.Core.Bool.{Bool, true, false, _&&_, _||_}
 use mathlib.Core.List.{List, [], _∷_}
 use lib.ListN.{length, getD, drop, drop-of-length-le}
-use Rattle.model.specs.Lists.{from, any}
+use Rattle.model.specs.Lists.{from, all, any}
 use Rattle.laws.specs.ListLaws.{map-from-alike}
 use Rattle.laws.specs.Sums.{sum, sum-of-map}
 
@@ -82,3 +83,28 @@ module _ {A : Type 0} (p : A → Bool) (d : A) where
     pub any-none : (n : ℕ) → length xs ≡ n → n ≤ i → false ≡ any p xs
     unfolding any
     any-none n e h = sym (ap (any p) (drop-of-length-le xs {i = i} (omega arith))) ∙ inv
+
+-- ---- whether all have p: of a, a + 1, .. n are left, and w is what `all` says of them
+
+module _ (p : ℕ → Bool) (a n : ℕ) (w : Bool) (inv : all p (from a n) ≡ w) where
+  pub all-end : n ≤ 0 → true ≡ w
+  unfolding all from
+  all-end h = let e : n ≡ 0 = omega arith in sym (ap (λ (k : ℕ). all p (from a k)) e) ∙ inv
+
+  module _ (h : 0 < n) where
+    one : all p (from a n) ≡ (p a && all p (from (a + 1) (n - 1)))
+    unfolding all from
+    one = go n h
+      where
+        go : (n : ℕ) → 0 < n → all p (from a n) ≡ (p a && all p (from (a + 1) (n - 1)))
+        go zero h = absurd (omega arith)
+        go (suc n) h =
+            let e : suc n - 1 ≡ n = omega arith in
+            let f : a + 1 ≡ suc a = omega arith in
+            rw (e, f)
+
+    pub all-fails : (r : Bool) → r ≡ p a → r ≡ false → false ≡ w
+    all-fails r q e = sym (one ∙ ap (λ (b : Bool). b && all p (from (a + 1) (n - 1))) (sym q ∙ e)) ∙ inv
+
+    pub all-on : (r : Bool) → r ≡ p a → r ≡ true → all p (from (a + 1) (n - 1)) ≡ w
+    all-on r q e = sym (one ∙ ap (λ (b : Bool). b && all p (from (a + 1) (n - 1))) (sym q ∙ e)) ∙ inv

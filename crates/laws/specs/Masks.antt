@@ -5,12 +5,12 @@ use mathlib.Core.Path.{_≡_, refl, ap, ap₂, sym, _∙_}
 use mathlib.Core.List.{List, [], _∷_, _++_, map}
 use native.Mathlib.Omega.{arith}
 use native.Mathlib.Decide.{decLt}
-use native.Mathlib.Nat.{div-one, zero-div, mod-eq-of-lt, mul-assoc}
+use native.Mathlib.Nat.{div-one, zero-div, mod-eq-of-lt, mul-assoc, div-eq-of-lt, div-lt-iff-lt-mul}
 use lib.ListN.{length, getD, set, List·getD-eq-default}
-use lib.Pow.{pow-add, shr-shr, mod-pow-add}
+use lib.Pow.{pow-add, pow-pos, shr-shr, mod-pow-add}
 use lib.Bits.{bitOr, or-shifted-r}
-use lib.Dec.{eqb}
-use borrow.Author.Tests.{eq-eqb, ne-eqb}
+use lib.Dec.{eqb, ltb}
+use borrow.Author.Tests.{eq-eqb, ne-eqb, lt-ltb, le-ltb}
 use Rattle.model.specs.Lists.{any, from, mask, bit}
 use Rattle.model.specs.Memory.{flag}
 use Rattle.laws.specs.Tests.{clash, same, other, decide}
@@ -47,6 +47,16 @@ pub bit-pow : (b : Bool) (p : ℕ) → bit b * 2 ^ suc p ≡ 2 * (bit b * 2 ^ p)
 unfolding bit
 bit-pow true p = omega (arith, pow-twice p)
 bit-pow false p = omega arith
+
+-- a word is below 2 ^ n where a shift by n leaves nothing of it
+pub shr-zero : (w n : ℕ) → eqb (w / 2 ^ n) 0 ≡ ltb w (2 ^ n)
+shr-zero w n =
+    elim (decLt w (2 ^ n)) [
+      | yes h ↦ eq-eqb _ _ (div-eq-of-lt h) ∙ sym (lt-ltb _ _ h)
+      | no h ↦
+          ne-eqb (w / 2 ^ n) 0 (λ e. h (omega (arith, div-lt-iff-lt-mul {k = 2 ^ n} {x = w} {y = 1} (pow-pos n) .0 (omega arith))))
+          ∙ sym (le-ltb w (2 ^ n) (omega arith))
+    ]
 
 -- ---- the mask of a list of flags
 

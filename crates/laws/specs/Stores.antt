@@ -11,6 +11,13 @@ use Rattle.laws.specs.Updates.{update-set}
 module _ {A : Type 0} where
   -- ---- runs of stores
 
+  -- a run, then the run after it
+  pub sets-append : (xs ys m : List A) (a : ℕ) → sets (sets m a xs) (a + length xs) ys ≡ sets m a (xs ++ ys)
+  sets-append [] ys m a = let e : a + 0 ≡ a = omega arith in rw e
+  sets-append (x ∷ xs) ys m a =
+      let e : a + suc (length xs) ≡ suc a + length xs = omega arith in
+      ap (λ (i : ℕ). sets (sets (set m a x) (suc a) xs) i ys) e ∙ sets-append xs ys (set m a x) (suc a)
+
   -- a store below a run of stores
   pub set-sets-below : (ys m : List A) (i b : ℕ) (x : A) → i < b → set (sets m b ys) i x ≡ sets (set m i x) b ys
   set-sets-below [] m i b x h = refl

@@ -3,7 +3,7 @@ use Prim.Native.Nat.{ℕ, zero, suc, _+_, _<_}
 use mathlib.Core.Path.{_≡_, refl, sym, ap, ap₂, _∙_}
 use mathlib.Core.Logic.{_⊎_, inl, inr, _≢_}
 use mathlib.Core.Bool.{Bool, true, false, not, cond, _&&_, _||_}
-use mathlib.Core.List.{List, [], _∷_}
+use mathlib.Core.List.{List, [], _∷_, map}
 use native.Mathlib.Omega.{arith}
 use lib.ListN.{getD}
 use lib.Dec.{T, eqb}
@@ -25,6 +25,20 @@ bool-cases false = inr refl
 pub clash {ℓ} : {C : Type ℓ} {b : Bool} → b ≡ true → b ≡ false → C
 clash p q = let z : _≡_ {A = ℕ} 0 1 = cc in absurd (omega arith)
 
+pub unlike : false ≡ true → ⊥
+unlike e = clash e refl
+
+-- a test that cannot hold fails
+pub refuted : (b : Bool) → (b ≡ true → ⊥) → false ≡ b
+refuted true h = absurd (h refl)
+refuted false h = refl
+
+-- two tests that hold together are equal
+pub iff-eq : (a b : Bool) → (a ≡ true → b ≡ true) → (b ≡ true → a ≡ true) → a ≡ b
+iff-eq true b f g = sym (f refl)
+iff-eq false true f g = g refl
+iff-eq false false f g = refl
+
 pub true-T : (b : Bool) → b ≡ true → T b
 true-T true h = tt
 true-T false h = clash h refl
@@ -40,6 +54,10 @@ and-true false b h = clash h refl
 pub and-intro : (a b : Bool) → a ≡ true → b ≡ true → (a && b) ≡ true
 and-intro true b p q = q
 and-intro false b p q = p
+
+pub and-assoc : (a b c : Bool) → ((a && b) && c) ≡ (a && (b && c))
+and-assoc true b c = refl
+and-assoc false b c = refl
 
 pub and-true-right : (a : Bool) → (a && true) ≡ a
 and-true-right true = refl
@@ -147,6 +165,48 @@ module _ {A : Type 0} (d : A) (p : A → Bool) where
   unfolding all
   all-getD-intro [] h = refl
   all-getD-intro (x ∷ xs) h = and-intro (p x) (all p xs) (h 0) (all-getD-intro xs (λ i. h (suc i)))
+
+-- of a mapped list
+module _ {A : Type 0} (p : A → Bool) (f : ℕ → A) where
+  all-map : (xs : List ℕ) → all p (map f xs) ≡ all (λ (i : ℕ). p (f i)) xs
+  unfolding all
+  all-map [] = refl
+  all-map (x ∷ xs) = ap (λ (b : Bool). p (f x) && b) (all-map xs)
+
+  pub all-map-below : (n i : ℕ) → all p (map f (from 0 n)) ≡ true → i < n → p (f i) ≡ true
+  all-map-below n i h = all-below (λ (i : ℕ). p (f i)) n i (sym (all-map (from 0 n)) ∙ h)
+
+  pub all-map-intro : (n : ℕ) → ((i : ℕ) → i < n → p (f i) ≡ true) → all p (map f (from 0 n)) ≡ true
+  all-map-intro n h = all-map (from 0 n) ∙ all-below-intro (λ (i : ℕ). p (f i)) n h
+
+-- tests of each number: all tests of each, and each test of all
+module _ (is : List ℕ) where
+  all-and : (f g : ℕ → Bool) → (all f is && all g is) ≡ all (λ (i : ℕ). f i && g i) is
+  unfolding all
+  all-and f g = go is
+    where
+      turn : (a b c d : Bool) → ((a && b) && (c && d)) ≡ ((a && c) && (b && d))
+      turn true true c d = refl
+      turn true false true d = refl
+      turn true false false d = refl
+      turn false b c d = refl
+
+      go : (is : List ℕ) → (all f is && all g is) ≡ all (λ (i : ℕ). f i && g i) is
+      go [] = refl
+      go (i ∷ is) = turn (f i) (all f is) (g i) (all g is) ∙ ap (λ (b : Bool). (f i && g i) && b) (go is)
+
+  all-true : all (λ (i : ℕ). true) is ≡ true
+  unfolding all
+  all-true = go is
+    where
+      go : (is : List ℕ) → all (λ (i : ℕ). true) is ≡ true
+      go [] = refl
+      go (i ∷ is) = go is
+
+  pub every-all : (fs : List (ℕ → Bool)) → every (map (λ (f : ℕ → Bool). all f is) fs) ≡ all (λ (i : ℕ). every (map (λ (f : ℕ → Bool). f i) fs)) is
+  unfolding every
+  every-all [] = sym all-true
+  every-all (f ∷ fs) = ap (λ (b : Bool). all f is && b) (every-all fs) ∙ all-and f (λ (i : ℕ). every (map (λ (f : ℕ → Bool). f i) fs))
 
 -- ---- equal lists
 

@@ -5,16 +5,15 @@ use mathlib.Core.Path.{_≡_, ap, sym, _∙_}
 use mathlib.Core.List.{List}
 use Rattle.model.specs.Lists.{every}
 use Rattle.model.specs.Memory.{state}
-use Rattle.model.specs.Legal.{contentsAgree, linksInRange, fieldsInRange, sentences, legal}
-use Rattle.laws.specs.Tests.{_&_, every-true, every-intro, and-true, and-intro}
+use Rattle.model.specs.Legal.{contentsAgree, linksInRange, fieldsInRange, snapshotsAtRest, lookupsAtRest, sentences, legal}
+use Rattle.laws.specs.Tests.{_&_, iff-eq, every-true, every-intro, and-true, and-intro}
 use Rattle.engine_legality.specs.WordSentences.{engineLegal}
 use Rattle.legality.specs.Parts.{tableLegal}
-use Rattle.engine_legality.proofs.EngineLaws.{iff-eq}
 
 module _ (m : List ℕ) where
   -- the sentences are those of the two parts
   split : every (sentences m (state m)) ≡ true → (engineLegal m && tableLegal m) ≡ true
-  unfolding engineLegal tableLegal linksInRange fieldsInRange
+  unfolding engineLegal tableLegal linksInRange fieldsInRange snapshotsAtRest lookupsAtRest
   split h =
       let (flags, (masks, (linked, (fielded, (once, (lasts, (chained, (codes, (snapshots, (lookups, (generations, rest₁₁))))))))))) = every-true _ h in
       let (queueLinks, (off, (sections, (held, (bits, (blank, (largest, (lanes, (global, _))))))))) = rest₁₁ in
@@ -23,18 +22,19 @@ module _ (m : List ℕ) where
       and-intro _ _
       (every-intro _ (
       flags & masks & laneLinks & lookupCodes
-      & snapshots & lookups & generations
+      & every-intro _ (snapshots & lookups & tt) & generations
       & off & sections & held & bits
       & largest & lanes & global & tt
       ))
       (every-intro _ (heads & free & queues & chainLinks & slotLinks & products & once & lasts & chained & codes & queueLinks & blank & tt))
 
   join : (engineLegal m && tableLegal m) ≡ true → every (sentences m (state m)) ≡ true
-  unfolding engineLegal tableLegal linksInRange fieldsInRange
+  unfolding engineLegal tableLegal linksInRange fieldsInRange snapshotsAtRest lookupsAtRest
   join h =
       let (e, t) = and-true (engineLegal m) (tableLegal m) h in
-      let (flags, (masks, (laneLinks, (lookupCodes, (snapshots, (lookups, (generations, rest₇))))))) = every-true _ e in
-      let (off, (sections, (held, (bits, (largest, (lanes, (global, _))))))) = rest₇ in
+      let (flags, (masks, (laneLinks, (lookupCodes, (rested, (generations, rest₆)))))) = every-true _ e in
+      let (off, (sections, (held, (bits, (largest, (lanes, (global, _))))))) = rest₆ in
+      let (snapshots, (lookups, _)) = every-true _ rested in
       let (heads, (free, (queues, (chainLinks, (slotLinks, (products, (once, (lasts, (chained, (codes, (queueLinks, (blank, _)))))))))))) = every-true _ t in
       every-intro _ (
       flags & masks

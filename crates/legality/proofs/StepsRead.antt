@@ -9,9 +9,11 @@ use native.Mathlib.Numerals.{add-one}
 use lib.Dec.{eqb}
 use borrow.Author.Tests.{le-leb, lt-leb}
 use Rattle.model.specs.Word.{none}
-use Rattle.model.specs.Lists.{all, from, count, last, concat, concatMap}
+use Rattle.model.specs.Lists.{from, count, last, concat, concatMap}
 use Rattle.model.specs.State.{Lane}
-use Rattle.model.specs.Layout.{cabinetsAt, placesAt, slotsAt, chainCount, headsAt, freeAt, globalQueuesAt, globalGenerationAt, generationAt, queuesAt, queueWidth, currentOffset, doneOffset, lastOffset, chainLinkAt, queueLinkAt, slotLength, laneLength, slotsBody, slotAddress, laneAddress, lanesBody}
+use Rattle.model.specs.Layout.{cabinetsAt, placesAt, slotsAt, chainCount, headsAt, freeAt, globalQueuesAt, globalGenerationAt, generationAt, queuesAt}
+use Rattle.model.specs.Layout.{queueWidth, currentOffset, doneOffset, lastOffset, chainLinkAt, queueLinkAt, slotLength, laneLength, slotsBody}
+use Rattle.model.specs.Layout.{slotAddress, laneAddress, lanesBody}
 use Rattle.model.specs.Engine.{laneAt, freshLane}
 use Rattle.model.specs.Memory.{at, sizes, walk, slotField, readChain, readChains, readQueue, readQueues, readLane, queuesOf, laneQueues, state}
 use Rattle.model.specs.Legal.{lastsAt, lastsAgree}
@@ -19,7 +21,8 @@ use Rattle.laws.specs.Tests.{every-true, every-intro, and-true, and-intro, all-
 use Rattle.laws.specs.ListLaws.{length-map-from, getD-map-below}
 use Rattle.laws.specs.Walks.{walk-stop, walk-on, stop, on, step}
 use Rattle.laws.specs.Counts.{count-append}
-use Rattle.slot_places.specs.Slots.{slotOrNone, queuedFits}
+use Rattle.words.specs.Links.{slotOrNone}
+use Rattle.slot_places.specs.Slots.{queuedFits}
 use Rattle.slot_places.specs.WalkSteps.{Step, check, slotsOf, several, queueCount, walks, chainSteps, linkSteps, queueSteps, laneSteps}
 use Rattle.slot_places.proofs.StepLaws.{slotsOf-append}
 use Rattle.slot_places.proofs.Marked.{checks, Right, look, stop as ended}
@@ -43,7 +46,9 @@ module _ (m : List ℕ) where
   walk-slots p k zero i = refl
   walk-slots p k (suc n) i =
       elim (step (slotField m k) i) [
-        | stop q ↦ rw (le-leb S i (omega (arith, length-map-from (λ (j : ℕ). at m (slotAddress (sizes m) j + k)) 0 S)), walks) (sym (walk-stop (slotField m k) i (suc n) q))
+        | stop q ↦
+            rw (le-leb S i (omega (arith, length-map-from (λ (j : ℕ). at m (slotAddress (sizes m) j + k)) 0 S)), walks)
+            (sym (walk-stop (slotField m k) i (suc n) q))
         | on q ↦
             let b : i < S = omega (arith, length-map-from (λ (j : ℕ). at m (slotAddress (sizes m) j + k)) 0 S) in
             let a : base + k + slotLength * i ≡ slotAddress (sizes m) i + k = omega arith in
@@ -118,7 +123,8 @@ module _ (m : List ℕ) where
   free-count i = omega (arith, slots-append i (queueSteps m base S true freeAt) [], slots-queue i true freeAt)
 
   -- three queues, the first of them at a
-  three-count : (i a c : ℕ) → c ≡ a + doneOffset → count i (slotsOf (threeSteps a)) ≡ count i (readQueue m a) + (count i (readQueue m (a + currentOffset)) + count i (readQueue m c))
+  three-count : (i a c : ℕ) → c ≡ a + doneOffset
+      → count i (slotsOf (threeSteps a)) ≡ count i (readQueue m a) + (count i (readQueue m (a + currentOffset)) + count i (readQueue m c))
   unfolding several slotsOf count
   three-count i a c e =
       let q : a + queueWidth + queueWidth ≡ c = omega arith in
@@ -133,7 +139,7 @@ module _ (m : List ℕ) where
         ap (λ (x : ℕ). count i (readQueue m x)) q,
       )
 
-  three-concat : (i : ℕ) (x y z : List ℕ) (r : List (List ℕ)) → count i (concat (x ∷ y ∷ z ∷ r)) ≡ count i x + (count i y + (count i z + count i (concat r)))
+  three-concat : (i : ℕ) (x y z : List ℕ) (r : List (List ℕ)) → count i (concat (x ∷ y ∷ z ∷ r)) ≡ count i x + (count i y + count i z) + count i (concat r)
   unfolding concat
   three-concat i x y z r = omega (arith, count-append i x (y ++ (z ++ concat r)), count-append i y (z ++ concat r), count-append i z (concat r))
 
@@ -145,10 +151,9 @@ module _ (m : List ℕ) where
       let rest = concatMap laneQueues (map (readLane m) (from (suc j) n)) in
       let b = laneAddress (sizes m) j in
       slots-append i (laneSteps m base S a) (several (laneSteps m base S) laneLength (a + laneLength) n)
-      ∙ ap₂ _+_ (ap (λ (x : ℕ). count i (slotsOf (laneSteps m base S x))) e ∙ three-count i (b + queuesAt) (b + queuesAt + doneOffset) refl) (slots-lanes i (suc j) (a + laneLength) n (omega arith))
-      ∙ sym (three-concat i (readQueue m (b + queuesAt)) (readQueue m (b + queuesAt + currentOffset)) (readQueue m (b + queuesAt + doneOffset)) rest
-      ∙ let z : count i (readQueue m (b + queuesAt)) + (count i (readQueue m (b + queuesAt + currentOffset)) + (count i (readQueue m (b + queuesAt + doneOffset)) + count i (concat rest)))
-      ≡ count i (readQueue m (b + queuesAt)) + (count i (readQueue m (b + queuesAt + currentOffset)) + count i (readQueue m (b + queuesAt + doneOffset))) + count i (concat rest) = omega arith in z)
+      ∙ ap₂ _+_ (ap (λ (x : ℕ). count i (slotsOf (laneSteps m base S x))) e ∙ three-count i (b + queuesAt) (b + queuesAt + doneOffset) refl)
+      (slots-lanes i (suc j) (a + laneLength) n (omega arith))
+      ∙ sym (three-concat i (readQueue m (b + queuesAt)) (readQueue m (b + queuesAt + currentOffset)) (readQueue m (b + queuesAt + doneOffset)) rest)
 
   -- the queues other than the free one
   abbrev pub retiredQueues : List (List ℕ)
@@ -158,14 +163,13 @@ module _ (m : List ℕ) where
   retired-count i =
       slots-append i (threeSteps globalQueuesAt) lanePart
       ∙ ap₂ _+_ (three-count i globalQueuesAt (globalQueuesAt + doneOffset) refl) (slots-lanes i 0 (lanesBody (sizes m)) laneTotal (omega arith))
-      ∙ sym (three-concat i (readQueue m globalQueuesAt) (readQueue m (globalQueuesAt + currentOffset)) (readQueue m (globalQueuesAt + doneOffset)) rest
-      ∙ let z : count i (readQueue m globalQueuesAt) + (count i (readQueue m (globalQueuesAt + currentOffset)) + (count i (readQueue m (globalQueuesAt + doneOffset)) + count i (concat rest)))
-      ≡ count i (readQueue m globalQueuesAt) + (count i (readQueue m (globalQueuesAt + currentOffset)) + count i (readQueue m (globalQueuesAt + doneOffset))) + count i (concat rest) = omega arith in z)
+      ∙ sym (three-concat i (readQueue m globalQueuesAt) (readQueue m (globalQueuesAt + currentOffset)) (readQueue m (globalQueuesAt + doneOffset)) rest)
     where
       rest : List (List ℕ)
       rest = concatMap laneQueues (map (readLane m) (from 0 laneTotal))
 
-  pub all-count : (i : ℕ) → count i (slotsOf (chainPart ++ queuedPart)) ≡ count i (concat (readChains m)) + (count i (readQueue m freeAt) + count i (concat retiredQueues))
+  pub all-count : (i : ℕ)
+      → count i (slotsOf (chainPart ++ queuedPart)) ≡ count i (concat (readChains m)) + (count i (readQueue m freeAt) + count i (concat retiredQueues))
   unfolding queuedSteps
   all-count i =
       omega (
@@ -186,25 +190,34 @@ module _ (m : List ℕ) where
   unfolding checks
   queue-last free a h =
       let k = checks-both (linkSteps m base S free a) (check (eqb (last (slotsOf (linkSteps m base S free a))) (at m (a + lastOffset))) ∷ []) h .1 in
-      ap (λ (xs : List ℕ). eqb (last xs) (at m (a + lastOffset))) (sym (link-slots free a)) ∙ and-true (eqb (last (slotsOf (linkSteps m base S free a))) (at m (a + lastOffset))) true k .0
+      ap (λ (xs : List ℕ). eqb (last xs) (at m (a + lastOffset))) (sym (link-slots free a))
+      ∙ and-true (eqb (last (slotsOf (linkSteps m base S free a))) (at m (a + lastOffset))) true k .0
 
   module _ (links : (x : ℕ) → x < S → slotOrNone S (at m (base + queueLinkAt + slotLength * x)) ≡ true) where
-    pub last-queue : (free : Bool) (a : ℕ) → slotOrNone S (at m a) ≡ true → ((x : ℕ) → 0 < count x (readQueue m a) → queuedFits m base S free x ≡ true) → lastGiven a ≡ true
+    pub last-queue : (free : Bool) (a : ℕ) → slotOrNone S (at m a) ≡ true → ((x : ℕ) → 0 < count x (readQueue m a) → queuedFits m base S free x ≡ true)
+        → lastGiven a ≡ true
         → checks (queueSteps m base S free a) ≡ true
     unfolding checks
     last-queue free a h f l =
         both-check (linkSteps m base S free a) (check (eqb (last (slotsOf (linkSteps m base S free a))) (at m (a + lastOffset))) ∷ [])
-        (told-walks m (base + queueLinkAt) S (queuedFits m base S free) links (at m a) (S + 1) h (λ x p. f x (subst (λ (xs : List ℕ). 0 < count x xs) (link-slots free a) p)))
-        (and-intro (eqb (last (slotsOf (linkSteps m base S free a))) (at m (a + lastOffset))) true (ap (λ (xs : List ℕ). eqb (last xs) (at m (a + lastOffset))) (link-slots free a) ∙ l) refl)
+        (told-walks m (base + queueLinkAt) S (queuedFits m base S free) links (at m a) (S + 1) h
+        (λ x p. f x (subst (λ (xs : List ℕ). 0 < count x xs) (link-slots free a) p)))
+        (and-intro (eqb (last (slotsOf (linkSteps m base S free a))) (at m (a + lastOffset))) true
+        (ap (λ (xs : List ℕ). eqb (last xs) (at m (a + lastOffset))) (link-slots free a) ∙ l) refl)
 
   -- ---- three queues
 
   three-lasts : (a g : ℕ) → checks (threeSteps a) ≡ true → lastsAt m a (readQueues m g a) ≡ true
   three-lasts a g h =
-      every-intro _ (given 0 a (omega arith) (omega arith), (given 1 (a + currentOffset) (omega arith) (omega arith), (given 2 (a + doneOffset) (omega arith) (omega arith), tt)))
+      every-intro _ (
+        given 0 a (omega arith) (omega arith),
+        (given 1 (a + currentOffset) (omega arith) (omega arith), (given 2 (a + doneOffset) (omega arith) (omega arith), tt)),
+      )
     where
       given : (j x : ℕ) → j < queueCount → a + queueWidth * j ≡ x → lastGiven x ≡ true
-      given j x b e = subst (λ (y : ℕ). lastGiven y ≡ true) e (queue-last false (a + queueWidth * j) (several-check (queueSteps m base S false) queueWidth a queueCount h j b))
+      given j x b e =
+          subst (λ (y : ℕ). lastGiven y ≡ true) e
+          (queue-last false (a + queueWidth * j) (several-check (queueSteps m base S false) queueWidth a queueCount h j b))
 
   lane-of : (i : ℕ) → i < laneTotal → laneAt (state m .engine) i ≡ readLane m i
   unfolding state
@@ -222,7 +235,8 @@ module _ (m : List ℕ) where
           (
             all-below-intro (λ (i : ℕ). lastsAt m (laneAddress (sizes m) i + queuesAt) (laneAt (state m .engine) i .queues)) laneTotal
                 (λ i b. ap (λ (l : Lane). lastsAt m (laneAddress (sizes m) i + queuesAt) (l .queues)) (lane-of i b)
-                ∙ three-lasts (laneAddress (sizes m) i + queuesAt) (laneAddress (sizes m) i + generationAt) (several-check (laneSteps m base S) laneLength (lanesBody (sizes m)) laneTotal (r .1) i b)),
+                ∙ three-lasts (laneAddress (sizes m) i + queuesAt) (laneAddress (sizes m) i + generationAt)
+                (several-check (laneSteps m base S) laneLength (lanesBody (sizes m)) laneTotal (r .1) i b)),
             tt,
           ),
         ),
@@ -232,7 +246,8 @@ module _ (m : List ℕ) where
 
   module _ (links : (x : ℕ) → x < S → slotOrNone S (at m (base + queueLinkAt + slotLength * x)) ≡ true)
       (retired : (a x : ℕ) → 0 < count x (readQueue m a) → queuedFits m base S false x ≡ true) where
-    lasts-three : (a g : ℕ) → slotOrNone S (at m a) ≡ true → slotOrNone S (at m (a + currentOffset)) ≡ true → slotOrNone S (at m (a + doneOffset)) ≡ true → lastsAt m a (readQueues m g a) ≡ true
+    lasts-three : (a g : ℕ) → slotOrNone S (at m a) ≡ true → slotOrNone S (at m (a + currentOffset)) ≡ true → slotOrNone S (at m (a + doneOffset)) ≡ true
+        → lastsAt m a (readQueues m g a) ≡ true
         → checks (threeSteps a) ≡ true
     lasts-three a g h₀ h₁ h₂ l =
         let e = every-true _ l in
@@ -241,7 +256,8 @@ module _ (m : List ℕ) where
         here : (x y : ℕ) → x ≡ y → slotOrNone S (at m x) ≡ true → lastGiven x ≡ true → checks (queueSteps m base S false y) ≡ true
         here x y q h t = subst (λ (z : ℕ). checks (queueSteps m base S false z) ≡ true) q (last-queue links false x h (retired x) t)
 
-        given : lastGiven a ≡ true → lastGiven (a + currentOffset) ≡ true → lastGiven (a + doneOffset) ≡ true → (j : ℕ) → j < queueCount → checks (queueSteps m base S false (a + queueWidth * j)) ≡ true
+        given : lastGiven a ≡ true → lastGiven (a + currentOffset) ≡ true → lastGiven (a + doneOffset) ≡ true → (j : ℕ) → j < queueCount
+            → checks (queueSteps m base S false (a + queueWidth * j)) ≡ true
         given t₀ t₁ t₂ zero b = here a (a + queueWidth * 0) (omega arith) h₀ t₀
         given t₀ t₁ t₂ (suc zero) b = here (a + currentOffset) (a + queueWidth * 1) (omega arith) h₁ t₁
         given t₀ t₁ t₂ (suc (suc zero)) b = here (a + doneOffset) (a + queueWidth * 2) (omega arith) h₂ t₂
@@ -249,7 +265,8 @@ module _ (m : List ℕ) where
 
     pub lasts-steps : ((x : ℕ) → 0 < count x (readQueue m freeAt) → queuedFits m base S true x ≡ true)
         → slotOrNone S (at m freeAt) ≡ true
-        → slotOrNone S (at m globalQueuesAt) ≡ true → slotOrNone S (at m (globalQueuesAt + currentOffset)) ≡ true → slotOrNone S (at m (globalQueuesAt + doneOffset)) ≡ true
+        → slotOrNone S (at m globalQueuesAt) ≡ true → slotOrNone S (at m (globalQueuesAt + currentOffset)) ≡ true
+        → slotOrNone S (at m (globalQueuesAt + doneOffset)) ≡ true
         → ((i : ℕ) → i < laneTotal
         → (slotOrNone S (at m (laneAddress (sizes m) i + queuesAt)) ≡ true) × (slotOrNone S (at m (laneAddress (sizes m) i + queuesAt + currentOffset)) ≡ true)
         × (slotOrNone S (at m (laneAddress (sizes m) i + queuesAt + doneOffset)) ≡ true))
@@ -258,7 +275,9 @@ module _ (m : List ℕ) where
     lasts-steps blank f g₀ g₁ g₂ h l =
         let e = every-true _ l in
         both-check freePart (threeSteps globalQueuesAt ++ lanePart)
-        (check-several (queueSteps m base S true) queueWidth freeAt 1 (λ j b. let q : freeAt ≡ freeAt + queueWidth * j = omega arith in subst (λ (z : ℕ). checks (queueSteps m base S true z) ≡ true) q (last-queue links true freeAt f blank (e .0))))
+        (check-several (queueSteps m base S true) queueWidth freeAt 1
+        (λ j b. let q : freeAt ≡ freeAt + queueWidth * j = omega arith in subst (λ (z : ℕ). checks (queueSteps m base S true z) ≡ true) q
+        (last-queue links true freeAt f blank (e .0))))
         (both-check (threeSteps globalQueuesAt) lanePart (lasts-three globalQueuesAt globalGenerationAt g₀ g₁ g₂ (e .1 .0))
         (check-several (laneSteps m base S) laneLength (lanesBody (sizes m)) laneTotal (λ i b.
         lasts-three (laneAddress (sizes m) i + queuesAt) (laneAddress (sizes m) i + generationAt)

@@ -10,29 +10,31 @@ use lib.ListN.{getD, length, take, replicate, length-replicate}
 use lib.Dec.{ltb, eqb}
 use borrow.Author.Tests.{eq-eqb, eqb-true, lt-ltb}
 use Rattle.model.specs.Word.{none}
-use Rattle.model.specs.Lists.{every, from, count, last, distinct, concat}
-use Rattle.model.specs.Layout.{slotsAt, maxSlots, chainCount, queueWidth, currentOffset, doneOffset, lastOffset, headsAt, freeAt, globalQueuesAt, masksAt, queuesAt, positionAt, depositAt, materialAt, chainLinkAt, queueLinkAt, slotLength, laneLength, slotsBody, laneAddress, lanesBody}
+use Rattle.model.specs.Lists.{from, count, last, distinct, concat}
+use Rattle.model.specs.Layout.{slotsAt, maxSlots, chainCount, queueWidth, currentOffset, doneOffset, lastOffset, headsAt, freeAt, globalQueuesAt}
+use Rattle.model.specs.Layout.{masksAt, queuesAt, positionAt, depositAt, materialAt, chainLinkAt, queueLinkAt, slotLength, laneLength, slotsBody}
+use Rattle.model.specs.Layout.{laneAddress, lanesBody}
 use Rattle.model.specs.Memory.{at, wide, sizes, slotWord, laneWord, readChain, readChains, readQueue}
 use Rattle.model.specs.Legal.{endsInRange, queuesInRange, laneLinksInRange, slotOrNone as inRange}
-use Rattle.laws.specs.Tests.{every-true, and-true, and-intro, or-left, or-right, all-below, clash}
+use Rattle.laws.specs.Tests.{unlike, refuted, every-true, and-true, and-intro, or-left, or-right, all-below, clash}
 use Rattle.laws.specs.ListLaws.{getD-replicate-default}
 use Rattle.laws.specs.Counts.{count-append}
 use Rattle.distinct_codes.specs.Cells.{cellsOf, spread, codeAt, held, Places}
 use Rattle.distinct_codes.proofs.CellLaws.{meets-told, meets-twice}
-use Rattle.slot_places.specs.Slots.{slotOrNone, productInRange, chainedFits, queuedFits}
-use Rattle.slot_places.specs.WalkSteps.{Step, Outcome, spoilt, painted, run, slotsOf, several, queueCount, chainSteps, linkSteps, queueSteps, laneSteps, unmarked, Counted, Ready, entersAll, Enters, Runs}
-use Rattle.slot_places.proofs.StepLaws.{unlike, going, run-append, unmarked-all, unmarked-none, unmarked-some}
+use Rattle.words.specs.Links.{slotOrNone}
+use Rattle.slot_places.specs.Slots.{productInRange, chainedFits, queuedFits}
+use Rattle.slot_places.specs.WalkSteps.{Step, Outcome, spoilt, painted, run, slotsOf, several, queueCount, chainSteps, linkSteps, queueSteps}
+use Rattle.slot_places.specs.WalkSteps.{laneSteps, unmarked, Counted, Ready, entersAll, Enters, Runs}
+use Rattle.slot_places.proofs.StepLaws.{going, run-append, unmarked-all, unmarked-none, unmarked-some}
 use Rattle.slot_places.proofs.Marked.{checks, marks-are, marks-most, marks-checked, Spoilt, failed, doubled, spoilt-why}
-use Rattle.slot_places.proofs.Places.{Told, checks-both, both-check, told-append, told-several, several-check, check-several, walks-begin, walks-told, told-walks}
+use Rattle.slot_places.proofs.Places.{Told, checks-both, both-check, told-append, told-several, several-check, check-several, walks-begin, walks-told}
+use Rattle.slot_places.proofs.Places.{told-walks}
 use Rattle.engine_legality.specs.WordSentences.{engineLegal}
 use Rattle.legality.specs.Parts.{Table, tableLegal, queuedSteps, Lent}
-use Rattle.legality.proofs.StepsRead.{S, base, laneTotal, chainPart, freePart, threeSteps, lanePart, queuedPart, chain-slots, chains-are, free-count, retired-count, all-count, steps-right, queue-last, steps-lasts, lasts-steps}
-use Rattle.legality.proofs.TableSaid.{chainedCount, freeCount, retiredCount, TableSaid, chain-below, queue-below-at, chain-chained, table-said, said-table}
-
--- a test that cannot hold fails
-refuted : (b : Bool) → (b ≡ true → ⊥) → false ≡ b
-refuted true h = absurd (h refl)
-refuted false h = refl
+use Rattle.legality.proofs.StepsRead.{S, base, laneTotal, chainPart, freePart, threeSteps, lanePart, queuedPart, chain-slots, chains-are}
+use Rattle.legality.proofs.StepsRead.{free-count, retired-count, all-count, steps-right, queue-last, steps-lasts, lasts-steps}
+use Rattle.legality.proofs.TableSaid.{chainedCount, freeCount, retiredCount, TableSaid, chain-below, queue-below-at, chain-chained, table-said}
+use Rattle.legality.proofs.TableSaid.{said-table}
 
 -- the last of slots below n, or none
 last-fits : (n : ℕ) (xs : List ℕ) → ((x : ℕ) → 0 < count x xs → x < n) → slotOrNone n (last xs) ≡ true
@@ -102,11 +104,13 @@ module _ (m : List ℕ) where
         (check-several (chainSteps m (base m) (S m)) 1 0 chainCount (λ j b.
         let e : j ≡ 0 + 1 * j = omega arith in
         subst (λ (k : ℕ). checks (chainSteps m (base m) (S m) k) ≡ true) e
-        (told-walks m (base m + chainLinkAt) (S m) (chainedFits m (base m) j) (λ x l. link-said chainLinkAt x (s .chainLinks x l)) (at m (headsAt + j)) (S m + 1) (s .heads j b)
+        (told-walks m (base m + chainLinkAt) (S m) (chainedFits m (base m) j) (λ x l. link-said chainLinkAt x (s .chainLinks x l)) (at m (headsAt + j))
+        (S m + 1) (s .heads j b)
         (λ x p. chain-fits j b x (subst (λ (xs : List ℕ). 0 < count x xs) (chain-slots m j) p)))))
         (lasts-steps m (λ x l. link-said queueLinkAt x (s .queueLinks x l)) retired-fits (λ x p. s .blank x p)
         (first-fits (at m) freeAt (s .freeEnds)) (firsts .0) (firsts .1) (firsts .2)
-        (λ i b. let f = lane-fits i b in (f .0, end-fits i (queuesAt + currentOffset) _ (omega arith) (f .1), end-fits i (queuesAt + doneOffset) _ (omega arith) (f .2))) (s .lasts))
+        (λ i b. let f = lane-fits i b in
+        (f .0, end-fits i (queuesAt + currentOffset) _ (omega arith) (f .1), end-fits i (queuesAt + doneOffset) _ (omega arith) (f .2))) (s .lasts))
 
   -- ---- tables that pass every check, and in which each slot is met once
 
@@ -128,18 +132,21 @@ module _ (m : List ℕ) where
     queue-told : (free : Bool) (a : ℕ) → Told (Fit free) (queueSteps m (base m) (S m) free a)
     unfolding slotsOf count
     queue-told free a =
-        told-append (Fit free) (linkSteps m (base m) (S m) free a) _ (walks-told m (base m + queueLinkAt) (S m) (queuedFits m (base m) (S m) free) (at m a) (S m + 1)) (λ k i b. absurd (omega arith))
+        told-append (Fit free) (linkSteps m (base m) (S m) free a) _
+        (walks-told m (base m + queueLinkAt) (S m) (queuedFits m (base m) (S m) free) (at m a) (S m + 1)) (λ k i b. absurd (omega arith))
 
     three-told : (a : ℕ) → Told (Fit false) (threeSteps m a)
     three-told a = told-several (queueSteps m (base m) (S m) false) queueWidth (Fit false) (queue-told false) a 3
 
     free-told : (x : ℕ) → 0 < freeCount m x → Fit true x
-    free-told x p = told-several (queueSteps m (base m) (S m) true) queueWidth (Fit true) (queue-told true) freeAt 1 (queued .0) x (omega (arith, free-count m x, p))
+    free-told x p =
+        told-several (queueSteps m (base m) (S m) true) queueWidth (Fit true) (queue-told true) freeAt 1 (queued .0) x (omega (arith, free-count m x, p))
 
     retired-told : (x : ℕ) → 0 < retiredCount m x → Fit false x
     retired-told x p =
         told-append (Fit false) (threeSteps m globalQueuesAt) (lanePart m) (three-told globalQueuesAt)
-        (told-several (laneSteps m (base m) (S m)) laneLength (Fit false) (λ a. three-told (a + queuesAt)) (lanesBody (sizes m)) (laneTotal m)) (queued .1) x (omega (arith, retired-count m x, p))
+        (told-several (laneSteps m (base m) (S m)) laneLength (Fit false) (λ a. three-told (a + queuesAt)) (lanesBody (sizes m)) (laneTotal m)) (queued .1) x
+        (omega (arith, retired-count m x, p))
 
     -- a slot on a chain
     record Linked (k x : ℕ) : Type 0 where
@@ -153,7 +160,8 @@ module _ (m : List ℕ) where
         let e : 0 + 1 * k ≡ k = omega arith in
         let c : checks (chainSteps m (base m) (S m) k) ≡ true =
         subst (λ (j : ℕ). checks (chainSteps m (base m) (S m) j) ≡ true) e (several-check (chainSteps m (base m) (S m)) 1 0 chainCount (parts .0) k b) in
-        let t = walks-told m (base m + chainLinkAt) (S m) (chainedFits m (base m) k) (at m (headsAt + k)) (S m + 1) c x (subst (λ (xs : List ℕ). 0 < count x xs) (sym (chain-slots m k)) p) in
+        let t = walks-told m (base m + chainLinkAt) (S m) (chainedFits m (base m) k) (at m (headsAt + k)) (S m + 1) c x
+        (subst (λ (xs : List ℕ). 0 < count x xs) (sym (chain-slots m k)) p) in
         let u = and-true (eqb (wide m (slotAt x) % chainCount) k && productInRange m (slotAt x)) (eqb (at m (slotAt x + queueLinkAt)) none) (t .0) in
         let v = and-true (eqb (wide m (slotAt x) % chainCount) k) (productInRange m (slotAt x)) (u .0) in
         record { number = v .0; product = v .1; rest = u .1; link = said-link chainLinkAt x (t .1) }
@@ -225,12 +233,14 @@ module _ (m : List ℕ) where
     three-said : (a : ℕ) → checks (threeSteps m a) ≡ true → queuesInRange m (at m) a ≡ true
     three-said a h =
         and-intro (endsInRange m (at m) a && endsInRange m (at m) (a + currentOffset)) (endsInRange m (at m) (a + doneOffset))
-        (and-intro (endsInRange m (at m) a) (endsInRange m (at m) (a + currentOffset)) (given 0 a (omega arith) (omega arith)) (given 1 (a + currentOffset) (omega arith) (omega arith)))
+        (and-intro (endsInRange m (at m) a) (endsInRange m (at m) (a + currentOffset)) (given 0 a (omega arith) (omega arith))
+        (given 1 (a + currentOffset) (omega arith) (omega arith)))
         (given 2 (a + doneOffset) (omega arith) (omega arith))
       where
         given : (j x : ℕ) → j < queueCount → a + queueWidth * j ≡ x → endsInRange m (at m) x ≡ true
         given j x b e =
-            subst (λ (y : ℕ). endsInRange m (at m) y ≡ true) e (ends-said false (a + queueWidth * j) (several-check (queueSteps m (base m) (S m) false) queueWidth a queueCount h j b))
+            subst (λ (y : ℕ). endsInRange m (at m) y ≡ true) e
+            (ends-said false (a + queueWidth * j) (several-check (queueSteps m (base m) (S m) false) queueWidth a queueCount h j b))
 
     head-said : (k : ℕ) → k < chainCount → slotOrNone (S m) (at m (headsAt + k)) ≡ true
     head-said k b =
@@ -269,7 +279,9 @@ module _ (m : List ℕ) where
       mark-is i = omega (arith, marks-are (S m) s t (steps-right m) room h i, zeros i, all-count m i)
 
       left-table : (n : ℕ) → n ≡ unmarked (S m) t → (n ≡ 0 → ⊥) → false ≡ tableLegal m
-      left-table n e z = refuted (tableLegal m) (λ l. let u = unmarked-some (S m) t (λ q. z (e ∙ q)) in omega (arith, table-said m l .once (u .0) (u .1), mark-is (u .0), u .2))
+      left-table n e z =
+          refuted (tableLegal m) (λ l. let u = unmarked-some (S m) t (λ q. z (e ∙ q)) in
+          omega (arith, table-said m l .once (u .0) (u .1), mark-is (u .0), u .2))
 
       decided-table : (n : ℕ) → n ≡ unmarked (S m) t → n ≡ 0 → (r : Bool) → r ≡ distinct (map (codeAt m (base m)) (concat (readChains m))) → r ≡ tableLegal m
       decided-table n e z true q = sym (said-table m (checks-said (marks-checked (S m) s t (steps-right m) h) once (sym q)))
@@ -297,7 +309,9 @@ module _ (m : List ℕ) (base lane n : ℕ) (t : Table m base lane n) (few : Boo
   same-chains = ap (λ (x : ℕ). several (chainSteps m x (at m slotsAt)) 1 0 chainCount) (t .slots)
 
   same-queues : queueSide ≡ queuedPart m
-  same-queues = ap₂ (λ (x y : ℕ). queuedSteps m x y n (at m slotsAt)) (t .slots) (t .lanes) ∙ ap (λ (y : ℕ). queuedSteps m (slotsBody (sizes m)) (lanesBody (sizes m)) y (at m slotsAt)) (t .count)
+  same-queues =
+      ap₂ (λ (x y : ℕ). queuedSteps m x y n (at m slotsAt)) (t .slots) (t .lanes)
+      ∙ ap (λ (y : ℕ). queuedSteps m (slotsBody (sizes m)) (lanesBody (sizes m)) y (at m slotsAt)) (t .count)
 
   same-steps : chainSide ++ queueSide ≡ chainPart m ++ queuedPart m
   same-steps = ap₂ _++_ same-chains same-queues
@@ -339,15 +353,18 @@ module _ (m : List ℕ) (base lane n : ℕ) (t : Table m base lane n) (few : Boo
             spoilt-table m s (l .marks) (l .markRoom) (t .engine)
             (ap (λ (ps : List Step). run ps s) (sym same-steps) ∙ run-append chainSide queueSide s ∙ ap (λ (o : Outcome). going o queueSide) q)
         go false (Enters.repeats q) e =
-            refuted (tableLegal m) (λ z. meets-twice (codeAt m base) (spread (cellsOf few)) k (l .cells) spread-below (slotsOf chainSide) q (codes-same ∙ table-said m z .codes))
+            refuted (tableLegal m) (λ z. meets-twice (codeAt m base) (spread (cellsOf few)) k (l .cells) spread-below (slotsOf chainSide) q
+            (codes-same ∙ table-said m z .codes))
         go true (Enters.passes q f c g) e = absurd (unlike (sym e))
 
     module _ (e : r ≡ true) where
-      passed : (run chainSide s ≡ painted u) × (entersAll m base (at m slotsAt) few chainSide k a 0 ≡ held j (take y b)) × Counted m base (at m slotsAt) u x × Ready m base (at m slotsAt) few j b y x
+      passed : (run chainSide s ≡ painted u) × (entersAll m base (at m slotsAt) few chainSide k a 0 ≡ held j (take y b))
+          × Counted m base (at m slotsAt) u x × Ready m base (at m slotsAt) few j b y x
       passed = go r w e
         where
           go : (r : Bool) → Enters m base (at m slotsAt) few chainSide s k a 0 r x y u j b → r ≡ true
-              → (run chainSide s ≡ painted u) × (entersAll m base (at m slotsAt) few chainSide k a 0 ≡ held j (take y b)) × Counted m base (at m slotsAt) u x × Ready m base (at m slotsAt) few j b y x
+              → (run chainSide s ≡ painted u) × (entersAll m base (at m slotsAt) few chainSide k a 0 ≡ held j (take y b)) × Counted m base (at m slotsAt) u x
+              × Ready m base (at m slotsAt) few j b y x
           go false (Enters.spoils q) e = absurd (unlike e)
           go false (Enters.repeats q) e = absurd (unlike e)
           go true (Enters.passes q f c g) e = (q, f, c, g)

@@ -1,7 +1,7 @@
 -- What the sentences about the slots say, by counts: how often slot i stands on the chains, in the free queue and in the other queues.
 use Prim.Native.Nat.{ℕ, _+_, _%_, _≤_, _<_}
 use mathlib.Core.Bool.{Bool, true, not, _&&_, _||_}
-use mathlib.Core.Path.{_≡_, refl, ap, ap₂, sym, _∙_, subst}
+use mathlib.Core.Path.{_≡_, ap, sym, _∙_, subst}
 use mathlib.Core.List.{List, [], _∷_, _++_, map}
 use native.Mathlib.Omega.{arith}
 use native.Mathlib.Decide.{decLt}
@@ -18,16 +18,10 @@ use Rattle.model.specs.Memory.{at, wide, sizes, slotWord, slotField, walk, read
 use Rattle.model.specs.Legal.{endsInRange, queuesInRange, codeOf, standsOnce, lastsAgree, onTheirChains, noCodeTwice, queueLinksAtRest, freeBlank}
 use Rattle.laws.specs.Tests.{every-true, every-intro, or-cases, or-left, or-right, all-below, all-below-intro, clash}
 use Rattle.laws.specs.ListLaws.{length-map-from, getD-map-below}
-use Rattle.laws.specs.Counts.{count-append, count-concat-getD, member-true, member-false, all-count, all-count-intro}
+use Rattle.laws.specs.Counts.{count-append, count-concat-getD, member-true, member-false, all-count, all-count-intro, map-alike}
 use Rattle.laws.specs.Walks.{walk-below}
 use Rattle.legality.specs.Parts.{tableLegal}
 use Rattle.legality.proofs.StepsRead.{retiredQueues}
-
--- two functions that agree on the members of a list
-map-alike : (f g : ℕ → ℕ) (xs : List ℕ) → ((x : ℕ) → 0 < count x xs → f x ≡ g x) → map f xs ≡ map g xs
-unfolding count
-map-alike f g [] h = refl
-map-alike f g (x ∷ xs) h = ap₂ _∷_ (h x (rw (eq-eqb x x refl) (omega arith))) (map-alike f g xs (λ y b. h y (omega arith)))
 
 module _ (m : List ℕ) where
   abbrev pub chainedCount : ℕ → ℕ
@@ -121,7 +115,8 @@ module _ (m : List ℕ) where
   unfolding standsOnce state
   said-once h =
       all-below-intro (λ (i : ℕ). eqb (count i (concat (readChains m) ++ concat (allQueues (state m)))) 1) S
-      (λ i b. eq-eqb _ _ (count-append i (concat (readChains m)) (concat (allQueues (state m))) ∙ ap (λ (x : ℕ). chainedCount m i + x) (queues-count i) ∙ h i b))
+      (λ i b. eq-eqb _ _ (count-append i (concat (readChains m)) (concat (allQueues (state m)))
+      ∙ ap (λ (x : ℕ). chainedCount m i + x) (queues-count i) ∙ h i b))
 
   abbrev onChain : ℕ → List ℕ → Bool
   onChain k xs = all (λ (i : ℕ). eqb (codeOf (state m) i % chainCount) k) xs
@@ -131,7 +126,8 @@ module _ (m : List ℕ) where
   chains-said t k i b c =
       let t₁ : onChain k (getD (readChains m) k []) ≡ true = all-below (λ (k : ℕ). onChain k (getD (readChains m) k [])) chainCount k t b in
       let t₂ : onChain k (readChain m k) ≡ true = subst (λ (xs : List ℕ). onChain k xs ≡ true) (chain-at k b) t₁ in
-      ap (λ (x : ℕ). x % chainCount) (sym (code-of i (chain-below k i c))) ∙ eqb-true _ _ (all-count (λ (i : ℕ). eqb (codeOf (state m) i % chainCount) k) (readChain m k) t₂ i c)
+      ap (λ (x : ℕ). x % chainCount) (sym (code-of i (chain-below k i c)))
+      ∙ eqb-true _ _ (all-count (λ (i : ℕ). eqb (codeOf (state m) i % chainCount) k) (readChain m k) t₂ i c)
 
   said-chains : ((k i : ℕ) → k < chainCount → 0 < count i (readChain m k) → codeAt m i % chainCount ≡ k) → onTheirChains (state m) ≡ true
   unfolding onTheirChains state

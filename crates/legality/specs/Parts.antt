@@ -5,10 +5,12 @@ use mathlib.Core.Bool.{Bool, true, false, not}
 use mathlib.Core.List.{List, [], _∷_, _++_}
 use lib.ListN.{length, getD}
 use Rattle.model.specs.Lists.{all, every, from}
-use Rattle.model.specs.Layout.{maxSlots, chainCount, headsAt, laneLength, slotLength, queueWidth, freeAt, globalQueuesAt, depositAt, materialAt, chainLinkAt, queueLinkAt, lanesBody, slotsBody, slotAddress}
+use Rattle.model.specs.Layout.{maxSlots, chainCount, headsAt, laneLength, slotLength, queueWidth, freeAt, globalQueuesAt, depositAt, materialAt}
+use Rattle.model.specs.Layout.{chainLinkAt, queueLinkAt, lanesBody, slotsBody, slotAddress}
 use Rattle.model.specs.Rules.{wrongProduct}
 use Rattle.model.specs.Memory.{at, wide, sizes, slotWord, state}
-use Rattle.model.specs.Legal.{slotNumbers, slotOrNone, endsInRange, queuesInRange, standsOnce, lastsAgree, onTheirChains, noCodeTwice, queueLinksAtRest, freeBlank}
+use Rattle.model.specs.Legal.{slotNumbers, slotOrNone, endsInRange, queuesInRange, standsOnce, lastsAgree, onTheirChains, noCodeTwice}
+use Rattle.model.specs.Legal.{queueLinksAtRest, freeBlank}
 use Rattle.slot_places.specs.WalkSteps.{Step, several, queueCount, queueSteps, laneSteps}
 use Rattle.distinct_codes.specs.Cells.{cellsOf}
 use Rattle.engine_legality.specs.WordSentences.{engineLegal}

@@ -32,7 +32,8 @@ fn walk_queues(
     marks: &mut [u8],
 ) -> slot_places::queue::Queued
     requires { ⌜ Counted (now m) base slots (now marks) left × (masksAt ≤ length (now m)) × (lane + laneLength * lanes ≤ length (now m)) ⌝ }
-    ensures { λ r. ⌜ Runs (now (m .entry)) base slots (queuedSteps (now (m .entry)) base lane lanes slots) (now (marks .entry)) (r .ok) (r .left) (now (marks .exit)) ⌝ }
+    ensures { λ r. ⌜ Runs (now (m .entry)) base slots (queuedSteps (now (m .entry)) base lane lanes slots) (now (marks .entry)) (r .ok) (r .left)
+        (now (marks .exit)) ⌝ }
 {
     let f = slot_places::queue::queues(m, base, slots, words::FREE_AT, 1, true, left, marks);
     if !f.ok {
@@ -129,7 +130,7 @@ fn table_fits(m: &[u32]) -> bool
     requires { ⌜ Fits (now m) × (engineLegal (now m) ≡ true) ⌝ }
     ensures { λ r. ⌜ r ≡ tableLegal (now (m .entry)) ⌝ }
 {
-    let lanes = words::index(engine_legality::contents::lane_count(
+    let lanes = words::index(words::contents::lane_count(
         m[words::CABINETS_AT],
         m[words::PLACES_AT],
     ));

@@ -1,3 +1,3 @@
--- The words of a fresh table, and runs of words that are written one after another.
+-- Runs of words that are written, and the words of a fresh table.
 pub mod Written
 pub mod FreshWords

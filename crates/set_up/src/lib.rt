@@ -1,11 +1,9 @@
 // The call set-up: the words of a fresh table, written one body after another as runs of one word.
 ghost use mathlib.Core.Path.{_≡_};
 ghost use mathlib.Core.Bool.{true};
-ghost use mathlib.Core.List.{[], _∷_};
 ghost use Prim.Native.Nat.{_+_, _*_, _≤_};
 ghost use lib.ListN.{length, replicate};
-ghost use Rattle.model.specs.Layout.{maxCabinets, maxPlaces, maxSlots, contentsLength, globalBody, masksAt, laneLength, slotLength, total};
-ghost use Rattle.model.specs.Memory.{contents};
+ghost use Rattle.model.specs.Layout.{globalBody, masksAt, laneLength, slotLength, total};
 ghost use Rattle.model.specs.Rules.{fresh};
 ghost use Rattle.model.specs.Legal.{sizesFit};
 ghost use Rattle.model.specs.Calls.{sized, stored, set-up};
@@ -13,27 +11,8 @@ ghost use Rattle.set_up.specs.Written.{Written, rows};
 ghost use Rattle.access.specs.Contract.{Does};
 ghost use Rattle.set_up.specs.FreshWords.{freshGlobal, freshLaneWords, linkAfter, freshSlotWords};
 
-// first word and length of the bodies, as words of the contents
-const GLOBAL_BODY: u32 = words::CONTENTS_LENGTH as u32;
-
-const MASKS_BODY: u32 = words::MASKS_AT as u32;
-
-const GLOBAL_LENGTH: u32 = MASKS_BODY - GLOBAL_BODY;
-
-const LANE_LENGTH: u32 = words::LANE_LENGTH as u32;
-
-const SLOT_LENGTH: u32 = words::SLOT_LENGTH as u32;
-
-// where the contents say the lanes' body, past the global one's and the masks' first word and length
-const LANES_BODY_AT: usize = words::BODIES_AT + 2 * 2;
-
 // the largest generation and the cabinet mask
 const REST_LENGTH: usize = words::HEADS_AT - words::LARGEST_GENERATION_AT;
-
-// a lane's counts, its snapshot's, and the generation; the code of its lookup
-const COUNTS_LENGTH: usize = words::QUEUES_AT - words::QUIESCENT_AT;
-
-const CODE_LENGTH: usize = words::POSITION_AT - words::LOOKUP_AT;
 
 // a fresh lane is on
 const FRESH_FLAGS: u32 = 1;
@@ -52,51 +31,6 @@ fn fill(m: &mut [u32], at: usize, n: usize, v: u32)
     }
 }
 
-// Writes four words from at on.
-fn write_four(m: &mut [u32], at: usize, a: u32, b: u32, c: u32, d: u32)
-    requires { ⌜ at + 4 ≤ length (now m) ⌝ }
-    ensures { λ _. ⌜ Written (now (m .entry)) at (a ∷ b ∷ c ∷ d ∷ []) (now (m .exit)) ⌝ }
-{
-    m[at] = a;
-    m[at + 1] = b;
-    m[at + 2] = c;
-    m[at + 3] = d;
-}
-
-// Writes the contents of a table with these sizes.
-fn write_contents(m: &mut [u32], cabinets: u32, places: u32, lanes: u32, slots: u32)
-    requires { ⌜ (contentsLength ≤ length (now m)) × (cabinets ≤ maxCabinets) × (lanes ≤ maxCabinets * maxPlaces) × (slots ≤ maxSlots) × (lanes ≡ cabinets * places) ⌝ }
-    ensures { λ _. ⌜ Written (now (m .entry)) 0 (contents (sized cabinets places slots)) (now (m .exit)) ⌝ }
-{
-    let lanes_body = MASKS_BODY + cabinets;
-    let lanes_length = LANE_LENGTH * lanes;
-    let slots_body = lanes_body + lanes_length;
-    write_four(
-        m,
-        words::VERSION_AT,
-        words::VERSION,
-        cabinets,
-        places,
-        slots,
-    );
-    write_four(
-        m,
-        words::BODIES_AT,
-        GLOBAL_BODY,
-        GLOBAL_LENGTH,
-        MASKS_BODY,
-        cabinets,
-    );
-    write_four(
-        m,
-        LANES_BODY_AT,
-        lanes_body,
-        lanes_length,
-        slots_body,
-        SLOT_LENGTH * slots,
-    );
-}
-
 // Writes the global words: generations, chain heads, and the ends of the queues.
 fn write_global(m: &mut [u32], slots: u32)
     requires { ⌜ (masksAt ≤ length (now m)) × (1 ≤ slots) ⌝ }
@@ -111,15 +45,14 @@ fn write_global(m: &mut [u32], slots: u32)
     fill(m, words::GLOBAL_GENERATION_AT, 1, 0);
 }
 
-// Writes a lane's record from at on.
+// Writes a lane's record from at on: all words 0 but for the flags and the links.
 fn write_lane(m: &mut [u32], at: usize)
     requires { ⌜ at + laneLength ≤ length (now m) ⌝ }
     ensures { λ _. ⌜ Written (now (m .entry)) at (freshLaneWords 0) (now (m .exit)) ⌝ }
 {
+    fill(m, at, words::LANE_LENGTH, 0);
     fill(m, at, 1, FRESH_FLAGS);
-    fill(m, at + words::QUIESCENT_AT, COUNTS_LENGTH, 0);
     fill(m, at + words::QUEUES_AT, words::QUEUES_WIDTH, words::NONE);
-    fill(m, at + words::LOOKUP_AT, CODE_LENGTH, 0);
     fill(m, at + words::POSITION_AT, 1, words::NONE);
 }
 
@@ -145,13 +78,13 @@ fn link_after(slots: u32, i: u32) -> u32
     if i + 1 < slots { i + 1 } else { words::NONE }
 }
 
-// Writes the record of slot i from at on.
+// Writes the record of slot i from at on: all words 0 but for the links.
 fn write_slot(m: &mut [u32], at: usize, slots: u32, i: u32)
     requires { ⌜ (at + slotLength ≤ length (now m)) × (i + 1 ≤ slots) ⌝ }
     ensures { λ _. ⌜ Written (now (m .entry)) at (freshSlotWords slots i) (now (m .exit)) ⌝ }
 {
     let link = link_after(slots, i);
-    fill(m, at, words::CHAIN_LINK_AT, 0);
+    fill(m, at, words::SLOT_LENGTH, 0);
     fill(m, at + words::CHAIN_LINK_AT, 1, words::NONE);
     fill(m, at + words::QUEUE_LINK_AT, 1, link);
 }
@@ -175,10 +108,9 @@ pub fn write_fresh(m: &mut [u32], cabinets: u32, places: u32, slots: u32)
     requires { ⌜ (sizesFit (sized cabinets places slots) ≡ true) × (total (sized cabinets places slots) ≤ length (now m)) ⌝ }
     ensures { λ _. ⌜ now (m .exit) ≡ stored (fresh (sized cabinets places slots)) (now (m .entry)) ⌝ }
 {
-    let lanes = cabinets * places;
     let masks = words::index(cabinets);
-    let records = words::index(lanes);
-    write_contents(m, cabinets, places, lanes, slots);
+    let records = words::index(words::contents::lane_count(cabinets, places));
+    words::contents::write(m, cabinets, places, slots);
     write_global(m, slots);
     fill(m, words::MASKS_AT, masks, 0);
     write_lanes(m, words::MASKS_AT + masks, records);
@@ -194,7 +126,8 @@ pub fn total_words(cabinets: u32, places: u32, slots: u32) -> u32
     requires { ⌜ sizesFit (sized cabinets places slots) ≡ true ⌝ }
     ensures { λ r. ⌜ r ≡ total (sized cabinets places slots) ⌝ }
 {
-    MASKS_BODY + cabinets + LANE_LENGTH * (cabinets * places) + SLOT_LENGTH * slots
+    let b = words::contents::bodies_of(cabinets, places, slots);
+    b.total
 }
 
 // Set-up: refused where the sizes are out of range (cause 1) or the memory is too short (cause 2), and

@@ -8,11 +8,13 @@ use lib.ListN.{getD, set, length, take}
 use Rattle.model.specs.Word.{none}
 use Rattle.model.specs.Layout.{maxSlots, headsAt, slotLength, chainLinkAt}
 use Rattle.model.specs.Memory.{at}
+use Rattle.laws.specs.Tests.{unlike}
 use Rattle.distinct_codes.specs.Cells.{cellsOf, spread, codeAt, Held, held, meets, Room, Meets}
 use Rattle.distinct_codes.proofs.CellLaws.{meets-clash, meets-append}
 use Rattle.slot_places.specs.Slots.{chainedFits}
 use Rattle.slot_places.specs.WalkSteps.{Step, Outcome, met, run, slotsOf, several, chainSteps, Counted, Ready, entersAll, Enters, spoils, repeats, passes}
-use Rattle.slot_places.proofs.StepLaws.{unlike, going, run-append, slotsOf-append, several-on, several-done, Going, going-start, going-ends, going-astray, going-twice, going-next, going-unfit, going-left, going-on}
+use Rattle.slot_places.proofs.StepLaws.{going, run-append, slotsOf-append, several-on, several-done, Going, going-start, going-ends}
+use Rattle.slot_places.proofs.StepLaws.{going-astray, going-twice, going-next, going-unfit, going-left, going-on}
 
 module _ (m : List ℕ) (base slots : ℕ) (few : Bool) where
   abbrev enters : List ℕ → Held → Held
@@ -75,7 +77,8 @@ module _ (m : List ℕ) (base slots : ℕ) (few : Bool) where
                 let x = going-next m base slots _ _ _ _ _ _ _ (w .way) b in
                 repeats (sym (x .1) ∙ ap (enters (x .0)) (e .bad q) ∙ meets-clash _ _ (x .0))
 
-            pub chain-on : (p : Bool) → p ≡ chainedFits m base k cur → p ≡ true → r ≡ true → (x : ℕ) → x ≡ at m (base + slotLength * cur + chainLinkAt) → length d ≡ length a
+            pub chain-on : (p : Bool) → p ≡ chainedFits m base k cur → p ≡ true → r ≡ true → (x : ℕ) → x ≡ at m (base + slotLength * cur + chainLinkAt)
+                → length d ≡ length a
                 → Chaining x (set s cur met) j d o (rest - 1)
             unfolding meets
             chain-on p q g h x y v = record {
@@ -90,7 +93,8 @@ module _ (m : List ℕ) (base slots : ℕ) (few : Bool) where
               };
             }
 
-    pub chain-start : (cur left : ℕ) → cur ≡ at m (headsAt + k) → Counted m base slots s₀ left → Ready m base slots few k₀ a₀ n₀ left → Chaining cur s₀ k₀ a₀ n₀ left
+    pub chain-start : (cur left : ℕ) → cur ≡ at m (headsAt + k) → Counted m base slots s₀ left → Ready m base slots few k₀ a₀ n₀ left
+        → Chaining cur s₀ k₀ a₀ n₀ left
     chain-start cur left e c r =
         subst (λ (x : ℕ). Chaining x s₀ k₀ a₀ n₀ left) (sym e)
         (record { way = going-start m base slots _ _ (Onward k₀ a₀ n₀) (at m (headsAt + k)) s₀ left c refl; ready = r })
@@ -108,7 +112,8 @@ module _ (m : List ℕ) (base slots : ℕ) (few : Bool) where
     both : entersAll m base slots few (ps ++ qs) l a n ≡ enters (slotsOf qs) (entersAll m base slots few ps l a n)
     both = ap (λ (xs : List ℕ). enters xs (held l (take n a))) (slotsOf-append ps qs) ∙ meets-append _ _ (slotsOf ps) (slotsOf qs) _
 
-    pub enters-fail : (r : Bool) {x y : ℕ} {t j b : List ℕ} → Result ps s l a n r x y t j b → r ≡ false → {left o : ℕ} {u i c : List ℕ} → Result (ps ++ qs) s l a n false left o u i c
+    pub enters-fail : (r : Bool) {x y : ℕ} {t j b : List ℕ} → Result ps s l a n r x y t j b → r ≡ false → {left o : ℕ} {u i c : List ℕ}
+        → Result (ps ++ qs) s l a n false left o u i c
     unfolding going
     enters-fail false (spoils e) q = spoils (run-append ps qs s ∙ ap (λ (o : Outcome). going o qs) e)
     enters-fail false (repeats e) q = repeats (both ∙ ap (enters (slotsOf qs)) e ∙ meets-clash _ _ (slotsOf qs))
@@ -121,7 +126,8 @@ module _ (m : List ℕ) (base slots : ℕ) (few : Bool) where
     enters-then false (repeats e) q v w = absurd (unlike q)
     enters-then true (passes e f c g) q false (spoils h) = spoils (run-append ps qs s ∙ ap (λ (o : Outcome). going o qs) e ∙ h)
     enters-then true (passes e f c g) q false (repeats h) = repeats (both ∙ ap (enters (slotsOf qs)) f ∙ h)
-    enters-then true (passes e f c g) q true (passes h i d k) = passes (run-append ps qs s ∙ ap (λ (o : Outcome). going o qs) e ∙ h) (both ∙ ap (enters (slotsOf qs)) f ∙ i) d k
+    enters-then true (passes e f c g) q true (passes h i d k) =
+        passes (run-append ps qs s ∙ ap (λ (o : Outcome). going o qs) e ∙ h) (both ∙ ap (enters (slotsOf qs)) f ∙ i) d k
 
   -- ---- the chains from k on, c of them
 
@@ -129,8 +135,10 @@ module _ (m : List ℕ) (base slots : ℕ) (few : Bool) where
   chainsFrom k c = several (chainSteps m base slots) 1 k c
 
   module _ (k c : ℕ) where
-    pub chains-done : c ≤ 0 → (s l a : List ℕ) (n left : ℕ) → Counted m base slots s left → Ready m base slots few l a n left → Result (chainsFrom k c) s l a n true left n s l a
-    chains-done h s l a n left e r = subst (λ (ps : List Step). Result ps s l a n true left n s l a) (sym (several-done (chainSteps m base slots) 1 k c h)) (enters-none s l a n left e r)
+    pub chains-done : c ≤ 0 → (s l a : List ℕ) (n left : ℕ) → Counted m base slots s left → Ready m base slots few l a n left
+        → Result (chainsFrom k c) s l a n true left n s l a
+    chains-done h s l a n left e r =
+        subst (λ (ps : List Step). Result ps s l a n true left n s l a) (sym (several-done (chainSteps m base slots) 1 k c h)) (enters-none s l a n left e r)
 
     module _ (h : 0 < c) (s l a : List ℕ) (n : ℕ) (r : Bool) {x y : ℕ} {t j b : List ℕ} (w : Result (chainSteps m base slots k) s l a n r x y t j b) where
       pub chains-fail : r ≡ false → {left o : ℕ} {u i d : List ℕ} → Result (chainsFrom k c) s l a n false left o u i d
@@ -138,7 +146,8 @@ module _ (m : List ℕ) (base slots : ℕ) (few : Bool) where
           subst (λ (ps : List Step). Result ps s l a n false left o u i d) (sym (several-on (chainSteps m base slots) 1 k c h))
           (enters-fail (chainSteps m base slots k) (chainsFrom (k + 1) (c - 1)) s l a n r w q)
 
-      pub chains-on : r ≡ true → (v : Bool) {left o : ℕ} {u i d : List ℕ} → Result (chainsFrom (k + 1) (c - 1)) t j b y v left o u i d → Result (chainsFrom k c) s l a n v left o u i d
+      pub chains-on : r ≡ true → (v : Bool) {left o : ℕ} {u i d : List ℕ} → Result (chainsFrom (k + 1) (c - 1)) t j b y v left o u i d
+          → Result (chainsFrom k c) s l a n v left o u i d
       chains-on q v {left} {o} {u} {i} {d} z =
           subst (λ (ps : List Step). Result ps s l a n v left o u i d) (sym (several-on (chainSteps m base slots) 1 k c h))
           (enters-then (chainSteps m base slots k) (chainsFrom (k + 1) (c - 1)) s l a n r w q v z)

@@ -15,7 +15,7 @@ use Rattle.model.specs.Layout.{slotLength}
 use Rattle.model.specs.Memory.{at}
 use Rattle.laws.specs.Tests.{same, other, decide, and-true, and-intro, or-cases, or-left, or-right, clash}
 use Rattle.laws.specs.Counts.{count-append}
-use Rattle.slot_places.specs.Slots.{slotOrNone}
+use Rattle.words.specs.Links.{slotOrNone}
 use Rattle.slot_places.specs.WalkSteps.{Step, put, check, slotsOf, several, walks}
 use Rattle.slot_places.proofs.StepLaws.{slotsOf-append}
 use Rattle.slot_places.proofs.Marked.{checks, Right, stop, mark, look}
@@ -82,7 +82,8 @@ module _ (g : ℕ → List Step) (d : ℕ) where
   pub several-check : (a n : ℕ) → checks (several g d a n) ≡ true → (j : ℕ) → j < n → checks (g (a + d * j)) ≡ true
   unfolding several
   several-check a zero h j b = absurd (omega arith)
-  several-check a (suc n) h zero b = let e : a ≡ a + d * 0 = omega arith in subst (λ (x : ℕ). checks (g x) ≡ true) e (checks-both (g a) (several g d (a + d) n) h .0)
+  several-check a (suc n) h zero b =
+      let e : a ≡ a + d * 0 = omega arith in subst (λ (x : ℕ). checks (g x) ≡ true) e (checks-both (g a) (several g d (a + d) n) h .0)
   several-check a (suc n) h (suc j) b =
       let e : a + d + d * j ≡ a + d * suc j = omega (arith, mul-suc d j) in
       subst (λ (x : ℕ). checks (g x) ≡ true) e (several-check (a + d) n (checks-both (g a) (several g d (a + d) n) h .1) j (omega arith))
@@ -130,7 +131,8 @@ module _ (m : List ℕ) (field slots : ℕ) (fits : ℕ → Bool) where
         | no b ↦ absurd (let q : 0 < 0 = rw (le-leb slots i (omega arith), walks) at p in omega arith)
       ]
 
-  pub told-walks : ((x : ℕ) → x < slots → linkFits x ≡ true) → (i n : ℕ) → slotOrNone slots i ≡ true → ((x : ℕ) → 0 < count x (slotsOf (walks m field slots fits i n)) → fits x ≡ true)
+  pub told-walks : ((x : ℕ) → x < slots → linkFits x ≡ true) → (i n : ℕ) → slotOrNone slots i ≡ true
+      → ((x : ℕ) → 0 < count x (slotsOf (walks m field slots fits i n)) → fits x ≡ true)
       → checks (walks m field slots fits i n) ≡ true
   unfolding walks checks slotsOf count
   told-walks l i zero h f = and-intro (slotOrNone slots i) true h refl
@@ -151,5 +153,6 @@ module _ (m : List ℕ) (field slots : ℕ) (fits : ℕ → Bool) where
       first : i < slots → 0 < count i (slotsOf (walks m field slots fits i (suc n)))
       first b = omega (arith, ap (count i) (onward b), ap {B = ℕ} (λ (c : Bool). cond c 1 0) (eq-eqb i i refl))
 
-      later : i < slots → (x : ℕ) → 0 < count x (slotsOf (walks m field slots fits (at m (field + slotLength * i)) n)) → 0 < count x (slotsOf (walks m field slots fits i (suc n)))
+      later : i < slots → (x : ℕ) → 0 < count x (slotsOf (walks m field slots fits (at m (field + slotLength * i)) n))
+          → 0 < count x (slotsOf (walks m field slots fits i (suc n)))
       later b x p = omega (arith, ap (count x) (onward b), p)

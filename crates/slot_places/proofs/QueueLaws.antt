@@ -11,9 +11,11 @@ use Rattle.model.specs.Word.{none}
 use Rattle.model.specs.Lists.{last}
 use Rattle.model.specs.Layout.{lastOffset, slotLength, queueLinkAt}
 use Rattle.model.specs.Memory.{at}
+use Rattle.laws.specs.Tests.{unlike}
 use Rattle.slot_places.specs.Slots.{queuedFits}
 use Rattle.slot_places.specs.WalkSteps.{Step, check, Outcome, met, run, slotsOf, several, linkSteps, queueSteps, Counted, Runs, Walks, spoils, passes}
-use Rattle.slot_places.proofs.StepLaws.{unlike, going, run-append, several-on, several-done, Going, going-start, going-ends, going-astray, going-twice, going-unfit, going-left, going-on}
+use Rattle.slot_places.proofs.StepLaws.{going, run-append, several-on, several-done, Going, going-start, going-ends, going-astray, going-twice}
+use Rattle.slot_places.proofs.StepLaws.{going-unfit, going-left, going-on}
 
 -- the last of a list, d where it has none
 unfoldable pub lastFrom : ℕ → List ℕ → ℕ
@@ -69,7 +71,8 @@ module _ (m : List ℕ) (base slots : ℕ) where
           pub queue-less : rest - 1 < rest
           queue-less = omega (arith, going-left m base slots _ _ _ _ _ _ _ (w .way) b z)
 
-          pub queue-on : (p : Bool) → p ≡ queuedFits m base slots free cur → p ≡ true → (x : ℕ) → x ≡ at m (base + slotLength * cur + queueLinkAt) → Queueing x (set s cur met) cur (rest - 1)
+          pub queue-on : (p : Bool) → p ≡ queuedFits m base slots free cur → p ≡ true → (x : ℕ) → x ≡ at m (base + slotLength * cur + queueLinkAt)
+              → Queueing x (set s cur met) cur (rest - 1)
           unfolding lastFrom
           queue-on p q g x y = record {
             way =
@@ -121,7 +124,8 @@ module _ (m : List ℕ) (base slots : ℕ) where
   runs-none s left c = passes refl c
 
   module _ (ps qs : List Step) (s : List ℕ) where
-    pub runs-fail : (r : Bool) {x : ℕ} {t : List ℕ} → Runs m base slots ps s r x t → r ≡ false → {left : ℕ} {u : List ℕ} → Runs m base slots (ps ++ qs) s false left u
+    pub runs-fail : (r : Bool) {x : ℕ} {t : List ℕ} → Runs m base slots ps s r x t → r ≡ false → {left : ℕ} {u : List ℕ}
+        → Runs m base slots (ps ++ qs) s false left u
     unfolding going
     runs-fail false (spoils e) q = spoils (run-append ps qs s ∙ ap (λ (o : Outcome). going o qs) e)
     runs-fail true (passes e c) q = absurd (unlike (sym q))
@@ -148,6 +152,7 @@ module _ (m : List ℕ) (base slots : ℕ) where
       several-fail q {left} {u} =
           subst (λ (ps : List Step). Runs m base slots ps s false left u) (sym (several-on g d a n h)) (runs-fail (g a) (several g d (a + d) (n - 1)) s r w q)
 
-      pub several-more : r ≡ true → (v : Bool) {left : ℕ} {u : List ℕ} → Runs m base slots (several g d (a + d) (n - 1)) t v left u → Runs m base slots (several g d a n) s v left u
+      pub several-more : r ≡ true → (v : Bool) {left : ℕ} {u : List ℕ} → Runs m base slots (several g d (a + d) (n - 1)) t v left u
+          → Runs m base slots (several g d a n) s v left u
       several-more q v {left} {u} z =
           subst (λ (ps : List Step). Runs m base slots ps s v left u) (sym (several-on g d a n h)) (runs-then (g a) (several g d (a + d) (n - 1)) s r w q v z)

@@ -14,9 +14,6 @@ use Rattle.model.specs.Memory.{at}
 use Rattle.laws.specs.Tests.{same, other, decide}
 use Rattle.slot_places.specs.WalkSteps.{Step, put, check, Outcome, spoilt, painted, met, run, slotsOf, several, walks, unmarked, Counted}
 
-pub unlike : false ≡ true → ⊥
-unlike e = let z : _≡_ {A = ℕ} 0 1 = cc in omega arith
-
 -- ---- how many slots have no mark
 
 unmarked-above : (n : ℕ) (s : List ℕ) (i v : ℕ) → n ≤ i → unmarked n (set s i v) ≡ unmarked n s
@@ -198,7 +195,8 @@ module _ (m : List ℕ) (base slots field : ℕ) (fits : ℕ → Bool) where
           pub going-left : unmarked slots (set s cur met) + 1 ≡ rest
           going-left = unmarked-set slots s cur b (omega (arith, w .counted .marks)) z ∙ sym (w .counted .left)
 
-          pub going-on : (r : Bool) → r ≡ fits cur → r ≡ true → (x : ℕ) → x ≡ at m (field + slotLength * cur) → (Q′ : List ℕ → Type 0) → ((xs : List ℕ) → Q (cur ∷ xs) → Q′ xs)
+          pub going-on : (r : Bool) → r ≡ fits cur → r ≡ true → (x : ℕ) → x ≡ at m (field + slotLength * cur) → (Q′ : List ℕ → Type 0)
+              → ((xs : List ℕ) → Q (cur ∷ xs) → Q′ xs)
               → Going Q′ o x (set s cur met) (rest - 1)
           unfolding run slotsOf
           going-on r q e x y Q′ f = record {
@@ -213,5 +211,7 @@ module _ (m : List ℕ) (base slots field : ℕ) (fits : ℕ → Bool) where
             runs =
                 ap (λ (j : ℕ). run (walks m field slots fits j (w .fuel - 1)) (set s cur met)) y
                 ∙ sym (ap (λ (b : Bool). run (check b ∷ rest-of) (set s cur met)) (sym q ∙ e)) ∙ tested;
-            onward = subst (λ (j : ℕ). Q′ (slotsOf (walks m field slots fits j (w .fuel - 1)))) (sym y) (f (slotsOf rest-of) (subst (λ (ps : List Step). Q (slotsOf ps)) on (w .onward)));
+            onward =
+                subst (λ (j : ℕ). Q′ (slotsOf (walks m field slots fits j (w .fuel - 1)))) (sym y)
+                (f (slotsOf rest-of) (subst (λ (ps : List Step). Q (slotsOf ps)) on (w .onward)));
           }

@@ -1,19 +1,25 @@
 -- One slot's part of legality's sentences where it stands, for a slot whose words begin at b. A link that is followed needs no test here: the
 -- walk tests it, and the last of a walk is none.
 use Prim.Native.Nat.{ℕ, _+_, _*_, _%_}
-use mathlib.Core.Bool.{Bool, not, cond, _&&_, _||_}
+use mathlib.Core.Bool.{Bool, not, cond, _&&_}
+use mathlib.Core.Path.{_≡_}
 use mathlib.Core.List.{List}
-use lib.Dec.{ltb, eqb}
+use lib.Dec.{eqb}
 use Rattle.model.specs.Word.{none}
 use Rattle.model.specs.Layout.{chainCount, depositAt, materialAt, chainLinkAt, queueLinkAt, slotLength}
 use Rattle.model.specs.Rules.{wrongProduct}
 use Rattle.model.specs.Memory.{at, wide}
-
--- a slot's number or none
-abbrev pub slotOrNone : ℕ → ℕ → Bool
-slotOrNone slots x = ltb x slots || eqb x none
+use Rattle.words.specs.Links.{slotOrNone}
 
 module _ (m : List ℕ) (b : ℕ) where
+  -- its words
+  pub record SlotAt (code deposit material chain queue : ℕ) : Type 0 where
+    pub codeIs : code ≡ wide m b
+    pub depositIs : deposit ≡ at m (b + depositAt)
+    pub materialIs : material ≡ at m (b + materialAt)
+    pub chainIs : chain ≡ at m (b + chainLinkAt)
+    pub queueIs : queue ≡ at m (b + queueLinkAt)
+
   abbrev pub productInRange : Bool
   productInRange = not (wrongProduct (wide m b) (at m (b + depositAt)) (at m (b + materialAt)))
 

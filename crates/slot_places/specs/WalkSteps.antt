@@ -11,7 +11,8 @@ use Rattle.model.specs.Lists.{last}
 use Rattle.model.specs.Layout.{maxSlots, headsAt, lastOffset, queueWidth, queuesAt, slotLength, chainLinkAt, queueLinkAt}
 use Rattle.model.specs.Memory.{at}
 use Rattle.distinct_codes.specs.Cells.{cellsOf, spread, codeAt, Held, clash, held, meets, Room}
-use Rattle.slot_places.specs.Slots.{slotOrNone, chainedFits, queuedFits}
+use Rattle.words.specs.Links.{slotOrNone}
+use Rattle.slot_places.specs.Slots.{chainedFits, queuedFits}
 
 -- ---- steps
 
@@ -119,5 +120,6 @@ module _ (m : List ℕ) (base slots : ℕ) (few : Bool) where
   pub data Enters (ps : List Step) (s k a : List ℕ) (n : ℕ) : Bool → ℕ → ℕ → List ℕ → List ℕ → List ℕ → Type 0 where
     spoils : {left o : ℕ} {t l b : List ℕ} → run ps s ≡ spoilt → Enters ps s k a n false left o t l b
     repeats : {left o : ℕ} {t l b : List ℕ} → entersAll ps k a n ≡ clash → Enters ps s k a n false left o t l b
-    passes : {left o : ℕ} {t l b : List ℕ} → run ps s ≡ painted t → entersAll ps k a n ≡ held l (take o b) → Counted m base slots t left → Ready m base slots few l b o left
+    passes : {left o : ℕ} {t l b : List ℕ} → run ps s ≡ painted t → entersAll ps k a n ≡ held l (take o b) → Counted m base slots t left
+        → Ready m base slots few l b o left
         → Enters ps s k a n true left o t l b

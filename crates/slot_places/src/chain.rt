@@ -28,8 +28,10 @@ fn walk_chain(
     cells: &mut [u16],
     aside: &mut [u16],
 ) -> Chained
-    requires { ⌜ Counted (now m) base slots (now marks) left × Ready (now m) base slots few (now cells) (now aside) n left × (k < chainCount) × (headsAt + k < length (now m)) ⌝ }
-    ensures { λ r. ⌜ Enters (now (m .entry)) base slots few (chainSteps (now (m .entry)) base slots k) (now (marks .entry)) (now (cells .entry)) (now (aside .entry)) n (r .ok) (r .left) (r .aside) (now (marks .exit)) (now (cells .exit)) (now (aside .exit)) ⌝ }
+    requires { ⌜ Counted (now m) base slots (now marks) left × Ready (now m) base slots few (now cells) (now aside) n left × (k < chainCount)
+        × (headsAt + k < length (now m)) ⌝ }
+    ensures { λ r. ⌜ Enters (now (m .entry)) base slots few (chainSteps (now (m .entry)) base slots k) (now (marks .entry)) (now (cells .entry))
+        (now (aside .entry)) n (r .ok) (r .left) (r .aside) (now (marks .exit)) (now (cells .exit)) (now (aside .exit)) ⌝ }
 {
     let chain = k as u64;
     let mut cur = m[words::HEADS_AT + k];
@@ -89,7 +91,8 @@ pub fn chains(
     aside: &mut [u16],
 ) -> Chained
     requires { ⌜ Counted (now m) base slots (now marks) slots × Ready (now m) base slots few (now cells) (now aside) 0 slots × (masksAt ≤ length (now m)) ⌝ }
-    ensures { λ r. ⌜ Enters (now (m .entry)) base slots few (several (chainSteps (now (m .entry)) base slots) 1 0 chainCount) (now (marks .entry)) (now (cells .entry)) (now (aside .entry)) 0 (r .ok) (r .left) (r .aside) (now (marks .exit)) (now (cells .exit)) (now (aside .exit)) ⌝ }
+    ensures { λ r. ⌜ Enters (now (m .entry)) base slots few (several (chainSteps (now (m .entry)) base slots) 1 0 chainCount) (now (marks .entry))
+        (now (cells .entry)) (now (aside .entry)) 0 (r .ok) (r .left) (r .aside) (now (marks .exit)) (now (cells .exit)) (now (aside .exit)) ⌝ }
 {
     let mut k: usize = 0;
     let mut chains = words::CHAIN_COUNT;

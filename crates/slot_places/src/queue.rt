@@ -36,7 +36,8 @@ fn walk_queue(
     marks: &mut [u8],
 ) -> Walked
     requires { ⌜ Counted (now m) base slots (now marks) left × (at < length (now m)) ⌝ }
-    ensures { λ r. ⌜ Walks (now (m .entry)) base slots (linkSteps (now (m .entry)) base slots free at) (now (marks .entry)) (r .ok) (r .left) (r .last) (now (marks .exit)) ⌝ }
+    ensures { λ r. ⌜ Walks (now (m .entry)) base slots (linkSteps (now (m .entry)) base slots free at) (now (marks .entry)) (r .ok) (r .left)
+        (r .last) (now (marks .exit)) ⌝ }
 {
     let mut cur = m[at];
     let mut last = words::NONE;
@@ -87,7 +88,8 @@ fn queue(
     marks: &mut [u8],
 ) -> Queued
     requires { ⌜ Counted (now m) base slots (now marks) left × (at + lastOffset < length (now m)) ⌝ }
-    ensures { λ r. ⌜ Runs (now (m .entry)) base slots (queueSteps (now (m .entry)) base slots free at) (now (marks .entry)) (r .ok) (r .left) (now (marks .exit)) ⌝ }
+    ensures { λ r. ⌜ Runs (now (m .entry)) base slots (queueSteps (now (m .entry)) base slots free at) (now (marks .entry)) (r .ok) (r .left)
+        (now (marks .exit)) ⌝ }
 {
     let w = walk_queue(m, base, slots, at, free, left, marks);
     if !w.ok {
@@ -114,7 +116,8 @@ pub fn queues(
     marks: &mut [u8],
 ) -> Queued
     requires { ⌜ Counted (now m) base slots (now marks) left × (first + queueWidth * n ≤ length (now m)) ⌝ }
-    ensures { λ r. ⌜ Runs (now (m .entry)) base slots (several (queueSteps (now (m .entry)) base slots free) queueWidth first n) (now (marks .entry)) (r .ok) (r .left) (now (marks .exit)) ⌝ }
+    ensures { λ r. ⌜ Runs (now (m .entry)) base slots (several (queueSteps (now (m .entry)) base slots free) queueWidth first n) (now (marks .entry))
+        (r .ok) (r .left) (now (marks .exit)) ⌝ }
 {
     let mut at = first;
     let mut more = n;
@@ -145,7 +148,8 @@ pub fn lane_queues(
     marks: &mut [u8],
 ) -> Queued
     requires { ⌜ Counted (now m) base slots (now marks) left × (first + laneLength * n ≤ length (now m)) ⌝ }
-    ensures { λ r. ⌜ Runs (now (m .entry)) base slots (several (laneSteps (now (m .entry)) base slots) laneLength first n) (now (marks .entry)) (r .ok) (r .left) (now (marks .exit)) ⌝ }
+    ensures { λ r. ⌜ Runs (now (m .entry)) base slots (several (laneSteps (now (m .entry)) base slots) laneLength first n) (now (marks .entry))
+        (r .ok) (r .left) (now (marks .exit)) ⌝ }
 {
     let mut at = first;
     let mut more = n;

@@ -1,2 +1,4 @@
--- What the contracts of `words` cite.
+-- `Lent` has the sizes by value and what is lent for a table, `Links` what a link may be, `Contents` what the contents say of the sizes.
 pub mod Lent
+pub mod Links
+pub mod Contents

@@ -1,6 +1,9 @@
 // The lent words as the code meets them: where each word stands (the numbers of the model's Layout), and
 // 64-bit numbers in two words. Each number of the layout stands here alone: the other crates cite these
 // constants, or make theirs of them.
+pub mod contents;
+pub mod links;
+
 ghost use mathlib.Core.Path.{_≡_};
 ghost use Prim.Native.Nat.{_+_, _<_, _≤_};
 ghost use lib.ListN.{length};

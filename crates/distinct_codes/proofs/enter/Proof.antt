@@ -81,8 +81,15 @@ loop-holds c =
     let entry : tie.Start Inv-loop μ-loop = search in
     let s = entry .pre .3 in
     let code = at-code-at .code-at .ensures ∙ ap (codeAt (entry .args .m .now) (entry .args .base)) (at-node .node .ensures) in
-    let cell = at-root .root .ensures .cell in
-    (code, at-roots .roots .ensures .count, omega arith, c .node2 .ensures, omega arith, omega (arith, c .node2 .ensures, s .within (at-root .root .result)), way-begin _ _ _ _ _ _ _ code cell (at-digits-of .digits-of .ensures))
+    let cell = at-root .root .ensures .cell in (
+      code,
+      at-roots .roots .ensures .count,
+      omega arith,
+      c .node2 .ensures,
+      omega arith,
+      omega (arith, c .node2 .ensures, s .within (at-root .root .result)),
+      way-begin _ _ _ _ _ _ _ code cell (at-digits-of .digits-of .ensures),
+    )
 
 sub-s : tie.Need-sub-s Inv-loop μ-loop
 sub-s c = search needs

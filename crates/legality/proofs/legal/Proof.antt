@@ -25,8 +25,11 @@ table-fits-requires : tie.Need-table-fits-requires
 table-fits-requires c κs =
     let at-engine-fits : tie.After-engine-fits = search in
     let at-if1 : tie.Else1 = search in
-    let at-contents-agree : tie.After-contents-agree = search in
-    (contents-fits _ (sym (at-contents-agree .contents-agree .ensures) ∙ not-false _ (at-if1 .if1 .left)), sym (at-engine-fits .engine-fits .ensures) ∙ not-false _ (c .if2 .left))
+    let at-contents-agree : tie.After-contents-agree = search in (
+      contents-fits _ (sym (at-contents-agree .contents-agree .ensures) ∙ not-false _ (at-if1 .if1 .left)),
+      sym (at-engine-fits .engine-fits .ensures) ∙
+          not-false _ (c .if2 .left),
+    )
 
 returns-3 : tie.Need-returns-3
 returns-3 c = search (needs, legal-table, not-false)

@@ -50,7 +50,8 @@ returns-2 c =
     let at-walk-queues : tie.After-walk-queues = search in
     let at-if1 : tie.Else1 = search in
     let at-chains : tie.After-chains = search in
-    table-queues _ _ _ _ (entry at-chains .pre .0) _ _ _ _ (entry at-chains .pre .1) _ _ _ _ _ _ (at-chains .chains .ensures) (not-false _ (at-if1 .if1 .left)) _ _ _ (at-walk-queues .walk-queues .ensures) (not-true _ (c .if2 .taken))
+    table-queues _ _ _ _ (entry at-chains .pre .0) _ _ _ _ (entry at-chains .pre .1) _ _ _ _ _ _ (at-chains .chains .ensures)
+    (not-false _ (at-if1 .if1 .left)) _ _ _ (at-walk-queues .walk-queues .ensures) (not-true _ (c .if2 .taken))
 
 same-length-7 : tie.Need-same-length-7
 same-length-7 c = search needs
@@ -67,7 +68,8 @@ returns-3 c =
     let at-walk-queues : tie.After-walk-queues = search in
     let at-if1 : tie.Else1 = search in
     let at-chains : tie.After-chains = search in
-    table-left _ _ _ _ (entry at-chains .pre .0) _ _ _ _ (entry at-chains .pre .1) _ _ _ _ _ _ (at-chains .chains .ensures) (not-false _ (at-if1 .if1 .left)) _ _ _ (at-walk-queues .walk-queues .ensures) (not-false _ (at-if2 .if2 .left)) (c .if3 .taken)
+    table-left _ _ _ _ (entry at-chains .pre .0) _ _ _ _ (entry at-chains .pre .1) _ _ _ _ _ _ (at-chains .chains .ensures) (not-false _ (at-if1 .if1 .left))
+    _ _ _ (at-walk-queues .walk-queues .ensures) (not-false _ (at-if2 .if2 .left)) (c .if3 .taken)
 
 apart-requires : tie.Need-apart-requires
 apart-requires c κs =
@@ -91,7 +93,8 @@ returns-4 c =
     let at-walk-queues : tie.After-walk-queues = search in
     let at-if1 : tie.Else1 = search in
     let at-chains : tie.After-chains = search in
-    table-decided _ _ _ _ (entry at-chains .pre .0) _ _ _ _ (entry at-chains .pre .1) _ _ _ _ _ _ (at-chains .chains .ensures) (not-false _ (at-if1 .if1 .left)) _ _ _ (at-walk-queues .walk-queues .ensures) (not-false _ (at-if2 .if2 .left)) (at-if3 .if3 .left) _ (c .apart .ensures)
+    table-decided _ _ _ _ (entry at-chains .pre .0) _ _ _ _ (entry at-chains .pre .1) _ _ _ _ _ _ (at-chains .chains .ensures)
+    (not-false _ (at-if1 .if1 .left)) _ _ _ (at-walk-queues .walk-queues .ensures) (not-false _ (at-if2 .if2 .left)) (at-if3 .if3 .left) _ (c .apart .ensures)
 
 pub slots-agree-spec : {M : Type 1} → statement M
 slots-agree-spec =

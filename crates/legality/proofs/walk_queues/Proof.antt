@@ -37,7 +37,8 @@ returns-2 c =
     let at-queues2 : tie.After-queues2 = search in
     let at-if1 : tie.Else1 = search in
     let at-queues : tie.After-queues = search in
-    runs-then _ _ _ _ _ _ _ (at-queues .queues .ensures) (not-false _ (at-if1 .if1 .left)) _ (runs-fail _ _ _ _ _ _ _ (at-queues2 .queues2 .ensures) (not-true _ (c .if2 .taken)))
+    runs-then _ _ _ _ _ _ _ (at-queues .queues .ensures) (not-false _ (at-if1 .if1 .left)) _
+    (runs-fail _ _ _ _ _ _ _ (at-queues2 .queues2 .ensures) (not-true _ (c .if2 .taken)))
 
 lane-queues-requires : tie.Need-lane-queues-requires
 lane-queues-requires c κs =
@@ -57,7 +58,8 @@ returns-3 c =
     let at-queues2 : tie.After-queues2 = search in
     let at-if1 : tie.Else1 = search in
     let at-queues : tie.After-queues = search in
-    runs-then _ _ _ _ _ _ _ (at-queues .queues .ensures) (not-false _ (at-if1 .if1 .left)) _ (runs-then _ _ _ _ _ _ _ (at-queues2 .queues2 .ensures) (not-false _ (at-if2 .if2 .left)) _ (at-lane-queues .lane-queues .ensures))
+    runs-then _ _ _ _ _ _ _ (at-queues .queues .ensures) (not-false _ (at-if1 .if1 .left)) _
+    (runs-then _ _ _ _ _ _ _ (at-queues2 .queues2 .ensures) (not-false _ (at-if2 .if2 .left)) _ (at-lane-queues .lane-queues .ensures))
 
 pub walk-queues-spec : {M : Type 1} → statement M
 walk-queues-spec =

@@ -4,7 +4,8 @@ use mathlib.Core.Path.{_≡_, refl, ap, _∙_}
 use native.Mathlib.Omega.{arith}
 use lib.ListN.{length, replicate, length-set, length-replicate}
 use borrow.Author.Needs.{needs}
-use Rattle.set_up.specs.Written.{Written, nothing, store, after, renamed, replicate-suc}
+use Rattle.set_up.specs.Written.{Written}
+use Rattle.set_up.proofs.WrittenLaws.{nothing, store, after, renamed, replicate-suc}
 use Rattle.set_up.proofs.fill.Statement.{statement}
 use Rattle.set_up.proofs.fill.Tie as tie
 
@@ -38,8 +39,12 @@ loop-again c =
     let entry : tie.Start Inv-loop μ-loop = search in
     let a = entry .args in
     let l = at-loop .loop in
-    let e : a .at + l .i ≡ a .at + length (replicate (l .i) (a .v)) = omega (arith, length-replicate (l .i) (a .v)) in
-    (omega arith, length-set (l .m) (a .at + l .i) (a .v) ∙ l .inv .1, renamed (after (l .inv .2) (store (l .m) (a .at + l .i) (a .v)) e) (replicate-suc (l .i) (a .v)))
+    let e : a .at + l .i ≡ a .at + length (replicate (l .i) (a .v)) = omega (arith, length-replicate (l .i) (a .v)) in (
+      omega arith,
+      length-set (l .m) (a .at + l .i) (a .v) ∙ l .inv .1,
+      renamed (after (l .inv .2) (store (l .m) (a .at + l .i) (a .v)) e)
+          (replicate-suc (l .i) (a .v)),
+    )
 
 same-length : tie.Need-same-length Inv-loop μ-loop
 same-length c = omega arith

@@ -1,32 +1,30 @@
 -- The bodies are written one after another, each where the one before it ends.
-use mathlib.Core.Path.{refl}
+use mathlib.Core.Path.{_∙_}
 use native.Mathlib.Omega.{arith}
 use borrow.Author.Needs.{needs}
 use Rattle.model.specs.Calls.{sized}
 use Rattle.representation.proofs.Sentences.Split.{sizes-fit}
-use Rattle.set_up.specs.FreshWords.{all-written}
+use Rattle.set_up.proofs.FreshLaws.{all-written}
+use Rattle.set_up.proofs.SetUpLaws.{sizes-small}
 use Rattle.set_up.proofs.write_fresh.Statement.{statement}
 use Rattle.set_up.proofs.write_fresh.Tie as tie
-
-mul-lanes : tie.Need-mul-lanes
-mul-lanes c =
-    let entry : tie.Start = search in
-    let a = entry .args in
-    let f = sizes-fit (sized (a .cabinets) (a .places) (a .slots)) (entry .pre .0) in
-    omega arith
 
 index-requires : tie.Need-index-requires
 index-requires c κs = search needs
 
+lane-count-requires : tie.Need-lane-count-requires
+lane-count-requires c κs =
+    let entry : tie.Start = search in
+    let s = sizes-small _ _ _ (entry .pre .0) in
+    (s .cabinets, s .places)
+
 index-requires-2 : tie.Need-index-requires-2
 index-requires-2 c κs = search needs
 
-write-contents-requires : tie.Need-write-contents-requires
-write-contents-requires c κs =
+write-requires : tie.Need-write-requires
+write-requires c κs =
     let entry : tie.Start = search in
-    let a = entry .args in
-    let f = sizes-fit (sized (a .cabinets) (a .places) (a .slots)) (entry .pre .0) in
-    (omega arith, omega arith, omega arith, omega arith, refl)
+    (omega arith, sizes-small _ _ _ (entry .pre .0))
 
 write-global-requires : tie.Need-write-global-requires
 write-global-requires c κs =
@@ -65,8 +63,9 @@ returns c =
     let at-write-lanes : tie.After-write-lanes = search in
     let at-fill : tie.After-fill = search in
     let at-write-global : tie.After-write-global = search in
-    let at-write-contents : tie.After-write-contents = search in
+    let at-write : tie.After-write = search in
     let at-index2 : tie.After-index2 = search in
+    let at-lane-count : tie.After-lane-count = search in
     let at-index : tie.After-index = search in
     let entry : tie.Start = search in
     let a = entry .args in
@@ -76,10 +75,10 @@ returns c =
     (at-index .index .result)
     (at-index2 .index2 .result)
     (at-index .index .ensures)
-    (at-index2 .index2 .ensures)
+    (at-index2 .index2 .ensures ∙ at-lane-count .lane-count .ensures .lanes)
     (omega arith)
     (entry .pre .1)
-    (at-write-contents .write-contents .ensures)
+    (record { is = at-write .write .ensures })
     (at-write-global .write-global .ensures)
     (at-fill .fill .ensures)
     (at-write-lanes .write-lanes .ensures)
@@ -89,10 +88,10 @@ pub write-fresh-spec : {M : Type 1} → statement M
 write-fresh-spec =
     tie.close
     (tie.spec
-    mul-lanes
     index-requires
+    lane-count-requires
     index-requires-2
-    write-contents-requires
+    write-requires
     write-global-requires
     fill-requires
     add-write-lanes

@@ -1,7 +1,7 @@
 -- Runs of one word, one after another, are the global words.
 use mathlib.Core.Path.{refl}
 use borrow.Author.Needs.{needs}
-use Rattle.set_up.specs.Written.{after, renamed}
+use Rattle.set_up.proofs.WrittenLaws.{after, renamed}
 use Rattle.set_up.specs.FreshWords.{freshGlobal}
 use Rattle.set_up.proofs.write_global.Statement.{statement}
 use Rattle.set_up.proofs.write_global.Tie as tie

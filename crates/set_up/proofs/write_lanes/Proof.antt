@@ -5,9 +5,11 @@ use native.Mathlib.Omega.{arith}
 use lib.ListN.{length}
 use borrow.Author.Needs.{needs}
 use Rattle.model.specs.Lists.{concatMap, from}
-use Rattle.set_up.specs.Written.{Written, nothing, after, renamed, rows, rows-suc, length-rows}
+use Rattle.set_up.specs.Written.{Written, rows}
+use Rattle.set_up.proofs.WrittenLaws.{nothing, after, renamed, rows-suc, length-rows}
 use Rattle.model.specs.Layout.{laneLength}
-use Rattle.set_up.specs.FreshWords.{freshLaneWords, length-lane}
+use Rattle.set_up.specs.FreshWords.{freshLaneWords}
+use Rattle.set_up.proofs.FreshLaws.{length-lane}
 use Rattle.set_up.proofs.write_lanes.Statement.{statement}
 use Rattle.set_up.proofs.write_lanes.Tie as tie
 

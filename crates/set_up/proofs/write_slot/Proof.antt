@@ -1,11 +1,10 @@
--- Runs of one word, one after another, are a slot's.
-use Prim.Native.Nat.{ℕ}
+-- A run of 0, and in it the links, are a slot's words.
 use mathlib.Core.Path.{refl, ap}
-use mathlib.Core.List.{[], _∷_}
+use native.Mathlib.Omega.{arith}
 use borrow.Author.Needs.{needs}
-use Rattle.model.specs.Word.{none}
-use Rattle.set_up.specs.Written.{after, renamed}
-use Rattle.set_up.specs.FreshWords.{freshSlotWords}
+use Rattle.model.specs.Layout.{chainLinkAt, queueLinkAt}
+use Rattle.set_up.proofs.WrittenLaws.{inside, renamed}
+use Rattle.set_up.specs.FreshWords.{freeWords, freshSlotWords}
 use Rattle.set_up.proofs.write_slot.Statement.{statement}
 use Rattle.set_up.proofs.write_slot.Tie as tie
 
@@ -37,9 +36,9 @@ returns c =
     let at-fill2 : tie.After-fill2 = search in
     let at-fill : tie.After-fill = search in
     let at-link-after : tie.After-link-after = search in
-    renamed (after (after (at-fill .fill .ensures)
-    (at-fill2 .fill2 .ensures) refl)
-    (at-fill3 .fill3 .ensures) refl) (ap (λ (l : ℕ). 0 ∷ 0 ∷ 0 ∷ 0 ∷ none ∷ l ∷ []) (at-link-after .link-after .ensures))
+    renamed (inside queueLinkAt (inside chainLinkAt (at-fill .fill .ensures)
+    (at-fill2 .fill2 .ensures) refl (omega arith))
+    (at-fill3 .fill3 .ensures) refl (omega arith)) (ap freeWords (at-link-after .link-after .ensures))
 
 pub write-slot-spec : {M : Type 1} → statement M
 write-slot-spec =

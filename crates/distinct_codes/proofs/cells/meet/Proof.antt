@@ -55,7 +55,8 @@ returns c =
     let at-code-at : tie.After-code-at = search in
     let entry : tie.Start = search in
     let e = at-spread .spread .ensures .cell ∙ ap (spread (cellsOf (entry .args .few))) (at-code-at .code-at .ensures) in
-    meet-free _ _ _ _ _ _ _ (entry .pre .3) _ _ e (at-node .node .ensures) (c .if1 .taken) (omega (arith, entry .pre .3 .cells, at-spread .spread .ensures .below)) (entry .pre .0)
+    meet-free _ _ _ _ _ _ _ (entry .pre .3) _ _ e (at-node .node .ensures) (c .if1 .taken)
+    (omega (arith, entry .pre .3 .cells, at-spread .spread .ensures .below)) (entry .pre .0)
 
 sub-code-at : tie.Need-sub-code-at
 sub-code-at c = search needs
@@ -90,7 +91,8 @@ returns-2 c =
     let e = at-spread .spread .ensures .cell ∙ ap (spread (cellsOf (entry .args .few))) (at-code-at .code-at .ensures) in
     let at-code-at2 : tie.After-code-at2 = search in
     let at-if1 : tie.Else1 = search in
-    meet-clash _ _ _ _ _ _ _ (entry .pre .3) _ _ e (at-node .node .ensures) (at-if1 .if1 .left) (sym (at-code-at2 .code-at2 .ensures) ∙ c .if2 .taken ∙ at-code-at .code-at .ensures)
+    meet-clash _ _ _ _ _ _ _ (entry .pre .3) _ _ e (at-node .node .ensures) (at-if1 .if1 .left)
+    (sym (at-code-at2 .code-at2 .ensures) ∙ c .if2 .taken ∙ at-code-at .code-at .ensures)
 
 cast-aside : tie.Need-cast-aside
 cast-aside c = search needs
@@ -117,7 +119,8 @@ returns-3 c =
     let at-code-at2 : tie.After-code-at2 = search in
     let at-if1 : tie.Else1 = search in
     let at-if2 : tie.Else2 = search in
-    meet-aside _ _ _ _ _ _ _ (entry .pre .3) _ _ e (at-node .node .ensures) (at-if1 .if1 .left) (λ q. at-if2 .if2 .left (at-code-at2 .code-at2 .ensures ∙ q ∙ sym (at-code-at .code-at .ensures))) (entry .pre .2) (entry .pre .0)
+    meet-aside _ _ _ _ _ _ _ (entry .pre .3) _ _ e (at-node .node .ensures) (at-if1 .if1 .left)
+    (λ q. at-if2 .if2 .left (at-code-at2 .code-at2 .ensures ∙ q ∙ sym (at-code-at .code-at .ensures))) (entry .pre .2) (entry .pre .0)
 
 pub meet-spec : {M : Type 1} → statement M
 meet-spec =

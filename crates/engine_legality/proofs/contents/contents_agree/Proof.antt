@@ -1,22 +1,22 @@
--- A law for each way out: too few words, sizes out of range, or the bodies decide.
-use mathlib.Core.Path.{sym, _∙_}
+-- A law for each way out: too few words, sizes out of range, other contents, or the total decides.
+use mathlib.Core.Path.{_∙_}
 use borrow.Author.Tests.{not-true, not-false}
-use Rattle.engine_legality.proofs.ContentsLaws.{sizes-small, contents-short, contents-unsized, contents-decided}
 use borrow.Author.Needs.{needs}
+use Rattle.engine_legality.proofs.ContentsLaws.{sizes-known, contents-short, contents-unsized, contents-other, contents-decided}
 use Rattle.engine_legality.proofs.contents.contents_agree.Statement.{statement}
 use Rattle.engine_legality.proofs.contents.contents_agree.Tie as tie
 
 returns : tie.Need-returns
 returns c = contents-short _ (c .if1 .taken)
 
-shared-slice-read-sizes-fit : tie.Need-shared-slice-read-sizes-fit
-shared-slice-read-sizes-fit c = search needs
+shared-slice-read-cabinets : tie.Need-shared-slice-read-cabinets
+shared-slice-read-cabinets c = search needs
 
-shared-slice-read-sizes-fit-2 : tie.Need-shared-slice-read-sizes-fit-2
-shared-slice-read-sizes-fit-2 c = search needs
+shared-slice-read-places : tie.Need-shared-slice-read-places
+shared-slice-read-places c = search needs
 
-shared-slice-read-sizes-fit-3 : tie.Need-shared-slice-read-sizes-fit-3
-shared-slice-read-sizes-fit-3 c = search needs
+shared-slice-read-slots : tie.Need-shared-slice-read-slots
+shared-slice-read-slots c = search needs
 
 sizes-fit-requires : tie.Need-sizes-fit-requires
 sizes-fit-requires c κs = search needs
@@ -24,51 +24,59 @@ sizes-fit-requires c κs = search needs
 returns-2 : tie.Need-returns-2
 returns-2 c = search (needs, contents-unsized, not-true)
 
-shared-slice-read-lane-count : tie.Need-shared-slice-read-lane-count
-shared-slice-read-lane-count c = search needs
+slice-aggregate-write : tie.Need-slice-aggregate-write
+slice-aggregate-write c = search needs
 
-shared-slice-read-lane-count-2 : tie.Need-shared-slice-read-lane-count-2
-shared-slice-read-lane-count-2 c = search needs
+write-requires : tie.Need-write-requires
+write-requires c κs = search (needs, sizes-known, not-false)
 
-lane-count-requires : tie.Need-lane-count-requires
-lane-count-requires c κs =
+slice-aggregate-begins-with : tie.Need-slice-aggregate-begins-with
+slice-aggregate-begins-with c = search needs
+
+begins-with-requires : tie.Need-begins-with-requires
+begins-with-requires c κs = search needs
+
+returns-3 : tie.Need-returns-3
+returns-3 c = search (needs, contents-other, not-true, not-false)
+
+bodies-of-requires : tie.Need-bodies-of-requires
+bodies-of-requires c κs =
     let at-if2 : tie.Else2 = search in
     let at-sizes-fit : tie.After-sizes-fit = search in
-    let s = sizes-small _ _ _ (sym (at-sizes-fit .sizes-fit .ensures) ∙ not-false _ (at-if2 .if2 .left)) in
-    (s .cabinets, s .places)
+    sizes-known _ _ _ _ (at-sizes-fit .sizes-fit .ensures) (not-false _ (at-if2 .if2 .left))
 
-shared-slice-read-bodies-fit : tie.Need-shared-slice-read-bodies-fit
-shared-slice-read-bodies-fit c = search needs
+index-requires : tie.Need-index-requires
+index-requires c κs = search needs
 
-shared-slice-read-bodies-fit-2 : tie.Need-shared-slice-read-bodies-fit-2
-shared-slice-read-bodies-fit-2 c = search needs
-
-bodies-fit-requires : tie.Need-bodies-fit-requires
-bodies-fit-requires c κs =
-    let at-lane-count : tie.After-lane-count = search in
+returns-4 : tie.Need-returns-4
+returns-4 c =
+    let at-index : tie.After-index = search in
+    let at-bodies-of : tie.After-bodies-of = search in
+    let at-if3 : tie.Else3 = search in
+    let at-begins-with : tie.After-begins-with = search in
+    let at-write : tie.After-write = search in
     let at-if2 : tie.Else2 = search in
     let at-sizes-fit : tie.After-sizes-fit = search in
     let at-if1 : tie.Else1 = search in
-    let s = sizes-small _ _ _ (sym (at-sizes-fit .sizes-fit .ensures) ∙ not-false _ (at-if2 .if2 .left)) in
-    (at-if1 .if1 .left, s .cabinets, at-lane-count .lane-count .ensures .most, s .slots)
-
-returns-3 : tie.Need-returns-3
-returns-3 c = search (needs, contents-decided, not-false)
+    contents-decided _ (at-if1 .if1 .left) _ (at-sizes-fit .sizes-fit .ensures) (not-false _ (at-if2 .if2 .left))
+    _ (at-write .write .ensures) _ (at-begins-with .begins-with .ensures) (not-false _ (at-if3 .if3 .left))
+    _ (at-index .index .ensures ∙ at-bodies-of .bodies-of .ensures .total)
 
 pub contents-agree-spec : {M : Type 1} → statement M
 contents-agree-spec =
     tie.close
     (tie.spec
     returns
-    shared-slice-read-sizes-fit
-    shared-slice-read-sizes-fit-2
-    shared-slice-read-sizes-fit-3
+    shared-slice-read-cabinets
+    shared-slice-read-places
+    shared-slice-read-slots
     sizes-fit-requires
     returns-2
-    shared-slice-read-lane-count
-    shared-slice-read-lane-count-2
-    lane-count-requires
-    shared-slice-read-bodies-fit
-    shared-slice-read-bodies-fit-2
-    bodies-fit-requires
-    returns-3)
+    slice-aggregate-write
+    write-requires
+    slice-aggregate-begins-with
+    begins-with-requires
+    returns-3
+    bodies-of-requires
+    index-requires
+    returns-4)

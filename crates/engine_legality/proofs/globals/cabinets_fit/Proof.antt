@@ -1,5 +1,5 @@
 -- The loop's invariant: the cabinets from c on decide. The measure: the cabinets left. A turn takes the first of them, with its bit of the cabinet mask.
-use Prim.Native.Nat.{ℕ, _+_, _*_}
+use Prim.Native.Nat.{ℕ, _+_}
 use mathlib.Core.Path.{_≡_, refl, ap, _∙_}
 use native.Mathlib.Omega.{arith}
 use borrow.Author.Tests.{not-true, not-false}
@@ -7,7 +7,7 @@ use Rattle.model.specs.Lists.{all, from}
 use Rattle.model.specs.Layout.{cabinetMaskAt}
 use Rattle.model.specs.Memory.{at, flag, maskWord}
 use Rattle.engine_legality.specs.LaneSentences.{cabinetFits, allCabinets}
-use Rattle.engine_legality.proofs.AskLoops.{all-end}
+use Rattle.laws.specs.Loops.{all-end}
 use Rattle.engine_legality.proofs.LaneLoops.{cabinets-fails, cabinets-on}
 use borrow.Author.Needs.{needs}
 use Rattle.engine_legality.proofs.globals.cabinets_fit.Statement.{statement}

@@ -1,5 +1,5 @@
 -- Nothing is left of a word below a power of two when it is shifted by it, and of no other word.
-use Rattle.engine_legality.proofs.MaskRange.{shr-zero}
+use Rattle.laws.specs.Masks.{shr-zero}
 use borrow.Author.Needs.{needs}
 use Rattle.engine_legality.proofs.globals.fits_in.Statement.{statement}
 use Rattle.engine_legality.proofs.globals.fits_in.Tie as tie

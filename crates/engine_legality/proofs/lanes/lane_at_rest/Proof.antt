@@ -21,18 +21,14 @@ shared-slice-read-test-2 c = search needs
 test-requires-2 : tie.Need-test-requires-2
 test-requires-2 c κs = search needs
 
-snapshot-blank-requires : tie.Need-snapshot-blank-requires
-snapshot-blank-requires c κs = search needs
-
-lookup-blank-requires : tie.Need-lookup-blank-requires
-lookup-blank-requires c κs = search needs
+words-at-rest-requires : tie.Need-words-at-rest-requires
+words-at-rest-requires c κs = search needs
 
 returns : tie.Need-returns
 returns c =
-    let at-snapshot-blank : tie.After-snapshot-blank = search in
     let at-test2 : tie.After-test2 = search in
     let at-test : tie.After-test = search in
-    rw (at-test .test .ensures, at-test2 .test2 .ensures, at-snapshot-blank .snapshot-blank .ensures, c .lookup-blank .ensures)
+    rw (c .words-at-rest .ensures, at-test .test .ensures, at-test2 .test2 .ensures)
 
 pub lane-at-rest-spec : {M : Type 1} → statement M
 lane-at-rest-spec =
@@ -44,6 +40,5 @@ lane-at-rest-spec =
     mul-test-2
     shared-slice-read-test-2
     test-requires-2
-    snapshot-blank-requires
-    lookup-blank-requires
+    words-at-rest-requires
     returns)

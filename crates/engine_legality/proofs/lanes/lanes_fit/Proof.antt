@@ -7,7 +7,7 @@ use Rattle.model.specs.Lists.{all, from}
 use Rattle.model.specs.Layout.{laneLength}
 use Rattle.model.specs.Memory.{maskWord}
 use Rattle.engine_legality.specs.LaneSentences.{cabinetLanes, allLanes}
-use Rattle.engine_legality.proofs.AskLoops.{all-end, all-fails, all-on}
+use Rattle.laws.specs.Loops.{all-end, all-fails, all-on}
 use Rattle.engine_legality.proofs.LaneLoops.{stride-within, lanes-most}
 use borrow.Author.Needs.{needs}
 use Rattle.engine_legality.proofs.lanes.lanes_fit.Statement.{statement}

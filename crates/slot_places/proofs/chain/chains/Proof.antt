@@ -51,7 +51,8 @@ returns c =
     let at-walk-chain : tie.After-walk-chain Inv-loop μ-loop = search in
     let at-loop-test : tie.In-loop Inv-loop μ-loop = search in
     let at-loop : tie.At-loop Inv-loop μ-loop = search in
-    at-loop .loop .inv .3 _ _ _ _ _ _ (chains-fail _ _ _ _ _ _ (at-loop-test .loop-test .taken) _ _ _ _ _ (at-walk-chain .walk-chain .ensures) (not-true _ (c .if1 .taken)))
+    at-loop .loop .inv .3 _ _ _ _ _ _
+    (chains-fail _ _ _ _ _ _ (at-loop-test .loop-test .taken) _ _ _ _ _ (at-walk-chain .walk-chain .ensures) (not-true _ (c .if1 .taken)))
 
 add-k : tie.Need-add-k Inv-loop μ-loop
 add-k c = search needs
@@ -72,7 +73,8 @@ loop-again c =
       omega arith,
       w .0,
       w .1,
-      λ r x y t l b e. at-loop .loop .inv .3 r x y t l b (chains-on _ _ _ _ _ _ (at-loop-test .loop-test .taken) _ _ _ _ _ (at-walk-chain .walk-chain .ensures) (not-false _ (at-if1 .if1 .left)) r e),
+      λ r x y t l b e. at-loop .loop .inv .3 r x y t l b
+          (chains-on _ _ _ _ _ _ (at-loop-test .loop-test .taken) _ _ _ _ _ (at-walk-chain .walk-chain .ensures) (not-false _ (at-if1 .if1 .left)) r e),
       at-walk-chain .walk-chain .kept .1 .1 .1 .1 .1 .1 .1 .0 ∙ at-loop .loop .inv .4,
       at-walk-chain .walk-chain .kept .1 .1 .1 .1 .1 .1 .1 .1 .0 ∙ at-loop .loop .inv .5,
       at-walk-chain .walk-chain .kept .1 .1 .1 .1 .1 .1 .1 .1 .1 .0 ∙ at-loop .loop .inv .6,

@@ -4,7 +4,8 @@ use mathlib.Core.Path.{_≡_, refl, _∙_}
 use native.Mathlib.Omega.{arith}
 use lib.ListN.{length}
 use borrow.Author.Tests.{not-true, not-false}
-use Rattle.slot_places.proofs.ChainLaws.{Chaining, chain-start, chain-done, chain-astray, chain-twice, chain-unfit, chain-asks, chain-less, chain-repeats, chain-on}
+use Rattle.slot_places.proofs.ChainLaws.{Chaining, chain-start, chain-done, chain-astray, chain-twice, chain-unfit, chain-asks, chain-less}
+use Rattle.slot_places.proofs.ChainLaws.{chain-repeats, chain-on}
 use borrow.Author.Needs.{needs}
 use Rattle.slot_places.proofs.chain.walk_chain.Statement.{statement}
 use Rattle.slot_places.proofs.chain.walk_chain.Tie as tie
@@ -82,7 +83,8 @@ returns-2 c =
     let at-if1 : tie.Else1 Inv-loop μ-loop = search in
     let at-loop-test : tie.In-loop Inv-loop μ-loop = search in
     let at-loop : tie.At-loop Inv-loop μ-loop = search in
-    chain-unfit _ _ _ _ _ _ _ _ _ _ _ _ _ _ _ (at-loop .loop .inv .0) (at-loop-test .loop-test .taken) (at-if1 .if1 .left) _ (at-chained-fits .chained-fits .ensures) (not-true _ (c .if2 .taken))
+    chain-unfit _ _ _ _ _ _ _ _ _ _ _ _ _ _ _ (at-loop .loop .inv .0) (at-loop-test .loop-test .taken) (at-if1 .if1 .left) _
+    (at-chained-fits .chained-fits .ensures) (not-true _ (c .if2 .taken))
 
 meet-requires : tie.Need-meet-requires Inv-loop μ-loop
 meet-requires c κs =
@@ -106,7 +108,8 @@ returns-3 c =
     let at-if1 : tie.Else1 Inv-loop μ-loop = search in
     let at-loop-test : tie.In-loop Inv-loop μ-loop = search in
     let at-loop : tie.At-loop Inv-loop μ-loop = search in
-    chain-repeats _ _ _ _ _ _ _ _ _ _ _ _ _ _ _ (at-loop .loop .inv .0) (at-loop-test .loop-test .taken) (at-if1 .if1 .left) _ _ _ _ (at-meet .meet .ensures) (not-true _ (c .if3 .taken))
+    chain-repeats _ _ _ _ _ _ _ _ _ _ _ _ _ _ _ (at-loop .loop .inv .0) (at-loop-test .loop-test .taken) (at-if1 .if1 .left) _ _ _ _ (at-meet .meet .ensures)
+    (not-true _ (c .if3 .taken))
 
 slice-write-marks : tie.Need-slice-write-marks Inv-loop μ-loop
 slice-write-marks c = search needs
@@ -149,7 +152,8 @@ loop-again c =
     let at-if1 : tie.Else1 Inv-loop μ-loop = search in
     let at-loop-test : tie.In-loop Inv-loop μ-loop = search in
     let at-loop : tie.At-loop Inv-loop μ-loop = search in (
-      chain-on _ _ _ _ _ _ _ _ _ _ _ _ _ _ _ (at-loop .loop .inv .0) (at-loop-test .loop-test .taken) (at-if1 .if1 .left) _ _ _ _ (at-meet .meet .ensures) _ (at-chained-fits .chained-fits .ensures) (not-false _ (at-if2 .if2 .left)) (not-false _ (at-if3 .if3 .left)) _ refl (search needs),
+      chain-on _ _ _ _ _ _ _ _ _ _ _ _ _ _ _ (at-loop .loop .inv .0) (at-loop-test .loop-test .taken) (at-if1 .if1 .left) _ _ _ _ (at-meet .meet .ensures) _
+          (at-chained-fits .chained-fits .ensures) (not-false _ (at-if2 .if2 .left)) (not-false _ (at-if3 .if3 .left)) _ refl (search needs),
       search needs,
       at-meet .meet .kept .1 .1 .1 .1 .0 ∙ at-loop .loop .inv .2,
       at-meet .meet .kept .1 .1 .1 .1 .1 .0 ∙ at-loop .loop .inv .3,

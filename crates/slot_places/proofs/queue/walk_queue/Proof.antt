@@ -64,7 +64,8 @@ returns-2 c =
     let at-if1 : tie.Else1 Inv-loop μ-loop = search in
     let at-loop-test : tie.In-loop Inv-loop μ-loop = search in
     let at-loop : tie.At-loop Inv-loop μ-loop = search in
-    queue-unfit _ _ _ _ _ _ _ _ _ _ (at-loop .loop .inv .0) (at-loop-test .loop-test .taken) (at-if1 .if1 .left) _ (at-queued-fits .queued-fits .ensures) (not-true _ (c .if2 .taken))
+    queue-unfit _ _ _ _ _ _ _ _ _ _ (at-loop .loop .inv .0) (at-loop-test .loop-test .taken) (at-if1 .if1 .left) _ (at-queued-fits .queued-fits .ensures)
+    (not-true _ (c .if2 .taken))
 
 slice-write-marks : tie.Need-slice-write-marks Inv-loop μ-loop
 slice-write-marks c = search needs
@@ -104,8 +105,11 @@ loop-again c =
     let at-queued-fits : tie.After-queued-fits Inv-loop μ-loop = search in
     let at-if1 : tie.Else1 Inv-loop μ-loop = search in
     let at-loop-test : tie.In-loop Inv-loop μ-loop = search in
-    let at-loop : tie.At-loop Inv-loop μ-loop = search in
-    (queue-on _ _ _ _ _ _ _ _ _ _ (at-loop .loop .inv .0) (at-loop-test .loop-test .taken) (at-if1 .if1 .left) _ (at-queued-fits .queued-fits .ensures) (not-false _ (at-if2 .if2 .left)) _ refl, search needs)
+    let at-loop : tie.At-loop Inv-loop μ-loop = search in (
+      queue-on _ _ _ _ _ _ _ _ _ _ (at-loop .loop .inv .0) (at-loop-test .loop-test .taken) (at-if1 .if1 .left) _ (at-queued-fits .queued-fits .ensures)
+          (not-false _ (at-if2 .if2 .left)) _ refl,
+      search needs,
+    )
 
 same-length-3 : tie.Need-same-length-3 Inv-loop μ-loop
 same-length-3 c = search needs
