@@ -2,13 +2,13 @@
 use Prim.Native.Nat.{ℕ, _+_, _*_, _/_, _%_, _≤_, _<_}
 use native.Mathlib.Nat.{div-add-mod', mod-lt, div-lt-iff-lt-mul}
 use mathlib.Core.Path.{_≡_, refl, ap, sym, subst, _∙_}
-use mathlib.Core.Bool.{Bool, false}
-use mathlib.Core.List.{List, []}
+use mathlib.Core.Bool.{Bool, true, false, cond}
+use mathlib.Core.List.{List, [], _∷_}
 use native.Mathlib.Omega.{arith}
 use lib.Dec.{leb}
 use borrow.Author.Tests.{leb-false}
 use Rattle.model.specs.State.{Sizes, laneCount}
-use Rattle.model.specs.Rules.{firstOf, noSuchLane, ofLane}
+use Rattle.model.specs.Rules.{Cause, firstOf, noSuchLane, ofLane}
 use Rattle.model.specs.Memory.{at, sizes, state}
 use Rattle.model.specs.Layout.{headsAt, laneAddress}
 use Rattle.model.specs.Lists.{first}
@@ -19,7 +19,7 @@ use Rattle.words.specs.declared.Sizes as code-sizes
 use Rattle.words.specs.Lent.{sizesOf, sizesIn, Few, Lent}
 use Rattle.lanes.specs.declared.Place.{Place}
 use Rattle.lanes.specs.Cabinet.{LaneLent}
-use Rattle.lanes.proofs.CabinetLaws.{lane-lent}
+use Rattle.lanes.proofs.CabinetLaws.{cabinetAt-lane, lane-lent}
 use Rattle.changes.proofs.OfChains.ChainChanges.{head-shown}
 use Rattle.access.specs.declared.Lane.{Lane}
 use Rattle.access.specs.Lanes.{laneNamed, Named, LaneIn, placeOf, Standing}
@@ -80,6 +80,15 @@ module _ (m : List ℕ) (l : Lane) (k : Named m l) where
   pub lane-in : (x : ℕ) → x ≡ firstOf (ofLane (state m) (l .number) []) → x ≤ 0 → LaneIn m l
   lane-in x e h = let z : x ≡ 0 = omega arith in lane-known (lane-accepted (state m) (l .number) (sym e ∙ z) .known)
 
+  -- a lane whose call no cause refuses: the first cause of each is that there is no such lane
+  pub lane-first : (cs : List Cause) (x : ℕ) → x ≡ firstOf (noSuchLane (state m) (l .number) ∷ cs) → x ≤ 0 → LaneIn m l
+  unfolding firstOf
+  lane-first cs x e h = go (noSuchLane (state m) (l .number) .applies) refl e
+    where
+      go : (b : Bool) → noSuchLane (state m) (l .number) .applies ≡ b → x ≡ cond b (noSuchLane (state m) (l .number) .number) (firstOf cs) → LaneIn m l
+      go true q f = absurd (omega arith)
+      go false q f = lane-known (leb-false (laneCount (state m .sizes)) (l .number) q)
+
 -- ---- its cabinet and its place there
 
 module _ (m : List ℕ) (l : Lane) (k : LaneIn m l) where
@@ -109,3 +118,13 @@ place-lent m l p k e =
     let s = standing m l k in
     subst (LaneLent m (sizesOf (l .sizes))) (sym e)
     (lane-lent m (sizesOf (l .sizes)) _ _ (k .named .lent) (cabinet-of l s) (mod-lt (l .number) (omega (arith, s .some))))
+
+-- and its record is the lane's
+pub place-address : (m : List ℕ) (l : Lane) (p : Place) → Named m l → p ≡ placeOf (sizesOf (l .sizes)) (l .number) → p .address ≡ l .address
+place-address m l p k e =
+    let z = sizesOf (l .sizes) in
+    ap (λ (q : Place). q .address) e
+    ∙ cabinetAt-lane z (l .number / z .places) (l .number % z .places)
+    ∙ ap (laneAddress z) (lane-of z (l .number))
+    ∙ ap (λ (y : code-sizes.Sizes). laneAddress (sizesOf y) (l .number)) (k .sizes)
+    ∙ sym (k .address)

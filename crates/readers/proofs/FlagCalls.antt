@@ -7,63 +7,57 @@ use lib.ListN.{set}
 use Rattle.model.specs.State.{Lane}
 use Rattle.model.specs.Layout.{flagsAt, laneAddress, onlineBit, readingBit}
 use Rattle.model.specs.Engine.{setOnline, setReading}
-use Rattle.model.specs.Rules.{begin, end, on, zeros, refusal, laneOf, withLane, performed, result}
+use Rattle.model.specs.Rules.{begin, end, on, zeros, causes, refusal, laneOf, withLane, performed, result}
 use Rattle.model.specs.Memory.{flags, laneWords, laneQueues, sizes, state}
 use Rattle.model.specs.Calls.{on-state, stored}
-use Rattle.representation.specs.Sound.{Sound}
 use Rattle.changes.proofs.OfLanes.LaneWords.{lane-flags}
 use Rattle.access.specs.declared.Answer.{Answer}
+use Rattle.access.specs.declared.Lane as code
 use Rattle.access.specs.Contract.{five, Does}
-use Rattle.access.proofs.Ways.{performs, passed, shown, wellFormed}
-use Rattle.access.specs.Flags.{withFlag, flagPut, flags-shown, flags-online, flags-reading}
-use Rattle.access.specs.Lanes.{LaneIn, lane-known}
+use Rattle.access.specs.Flags.{withFlag, flagPut}
+use Rattle.access.specs.Lanes.{Named, LaneIn}
+use Rattle.access.proofs.Ways.{performs, shown, wellFormed}
+use Rattle.access.proofs.LaneLaws.{lane-first}
+use Rattle.access.proofs.FlagLaws.{flags-shown, flags-online, flags-reading}
 
-module _ (m : List ℕ) (v : Sound m) (i : ℕ) where
-  abbrev a : ℕ
-  a = laneAddress (sizes m) i
+module _ (m : List ℕ) (l : code.Lane) where
+  abbrev own : Lane
+  own = laneOf (state m) (l .number)
 
   -- g changes the flags alone, and puts b as bit p of them
   record Flags (g : Lane → Lane) (p : ℕ) (b : Bool) : Type 0 where
-    word : withFlag p b (flags (laneOf (state m) i)) ≡ flags (g (laneOf (state m) i))
-    pending : g (laneOf (state m) i) .pending ≡ laneOf (state m) i .pending
-    queues : laneQueues (g (laneOf (state m) i)) ≡ laneQueues (laneOf (state m) i)
-    alone : laneWords (g (laneOf (state m) i)) ≡ set (laneWords (laneOf (state m) i)) flagsAt (flags (g (laneOf (state m) i)))
+    word : withFlag p b (flags own) ≡ flags (g own)
+    pending : g own .pending ≡ own .pending
+    queues : laneQueues (g own) ≡ laneQueues own
+    alone : laneWords (g own) ≡ set (laneWords own) flagsAt (flags (g own))
 
-  flag-stored : (g : Lane → Lane) (p : ℕ) (b : Bool) → Flags g p b → LaneIn m i → flagPut m a p b ≡ stored (withLane (state m) i g) m
+  flag-stored : (g : Lane → Lane) (p : ℕ) (b : Bool) → Flags g p b → LaneIn m l → flagPut m (l .address) p b ≡ stored (withLane (state m) (l .number) g) m
   unfolding state
   flag-stored g p b f k =
-      ap (set m a) (ap (withFlag p b) (flags-shown m v i (k .known)) ∙ f .word)
-      ∙ lane-flags (state m) m (shown m v) (wellFormed m v .lanes) i (k .known) g (f .pending) (f .queues) (f .alone)
+      let v = k .named .sound in
+      ap (λ (a : ℕ). flagPut m a p b) (k .named .address)
+      ∙ ap (set m (laneAddress (sizes m) (l .number))) (ap (withFlag p b) (flags-shown m v (l .number) (k .known)) ∙ f .word)
+      ∙ lane-flags (state m) m (shown m v) (wellFormed m v .lanes) (l .number) (k .known) g (f .pending) (f .queues) (f .alone)
 
   reads : (b : Bool) → Flags (setReading b) readingBit b
   unfolding laneWords
-  reads b = record { word = flags-reading (laneOf (state m) i) b; pending = refl; queues = refl; alone = refl }
+  reads b = record { word = flags-reading own b; pending = refl; queues = refl; alone = refl }
 
   goes-on : Flags (setOnline true) onlineBit true
   unfolding laneWords
-  goes-on = record { word = flags-online (laneOf (state m) i) true; pending = refl; queues = refl; alone = refl }
+  goes-on = record { word = flags-online own true; pending = refl; queues = refl; alone = refl }
 
   -- ---- the calls that no cause refuses
 
-  module _ (x : ℕ) (h : x ≤ 0) where
-    pub begin-lane : x ≡ refusal (state m) (begin i) → LaneIn m i
-    begin-lane e = lane-known m v i (passed m (begin i) x e h .lane .known)
+  module _ (k : Named m l) (x : ℕ) (h : x ≤ 0) (r : Answer) (n : List ℕ) (f : five r ≡ zeros) where
+    pub begin-done : x ≡ refusal (state m) (begin (l .number)) → n ≡ flagPut m (l .address) readingBit true → Does (on-state (begin (l .number))) m r n
+    unfolding causes result performed
+    begin-done e g = performs m (begin (l .number)) (k .sound) x r n e h f (g ∙ flag-stored _ _ _ (reads true) (lane-first m l k _ x e h))
 
-    pub end-lane : x ≡ refusal (state m) (end i) → LaneIn m i
-    end-lane e = lane-known m v i (passed m (end i) x e h .lane .known)
+    pub end-done : x ≡ refusal (state m) (end (l .number)) → n ≡ flagPut m (l .address) readingBit false → Does (on-state (end (l .number))) m r n
+    unfolding causes result performed
+    end-done e g = performs m (end (l .number)) (k .sound) x r n e h f (g ∙ flag-stored _ _ _ (reads false) (lane-first m l k _ x e h))
 
-    pub on-lane : x ≡ refusal (state m) (on i) → LaneIn m i
-    on-lane e = lane-known m v i (passed m (on i) x e h .known)
-
-    module _ (r : Answer) (n : List ℕ) (f : five r ≡ zeros) where
-      pub begin-done : x ≡ refusal (state m) (begin i) → n ≡ flagPut m a readingBit true → Does (on-state (begin i)) m r n
-      unfolding result performed
-      begin-done e g = performs m (begin i) v x r n e h f (g ∙ flag-stored (setReading true) readingBit true (reads true) (begin-lane e))
-
-      pub end-done : x ≡ refusal (state m) (end i) → n ≡ flagPut m a readingBit false → Does (on-state (end i)) m r n
-      unfolding result performed
-      end-done e g = performs m (end i) v x r n e h f (g ∙ flag-stored (setReading false) readingBit false (reads false) (end-lane e))
-
-      pub on-done : x ≡ refusal (state m) (on i) → n ≡ flagPut m a onlineBit true → Does (on-state (on i)) m r n
-      unfolding result performed
-      on-done e g = performs m (on i) v x r n e h f (g ∙ flag-stored (setOnline true) onlineBit true goes-on (on-lane e))
+    pub on-done : x ≡ refusal (state m) (on (l .number)) → n ≡ flagPut m (l .address) onlineBit true → Does (on-state (on (l .number))) m r n
+    unfolding causes result performed
+    on-done e g = performs m (on (l .number)) (k .sound) x r n e h f (g ∙ flag-stored _ _ _ goes-on (lane-first m l k _ x e h))

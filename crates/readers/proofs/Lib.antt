@@ -1,3 +1,5 @@
--- Begin, end and on put one flag of a lane; pass counts in its record.
+-- Begin, end and on put one flag of a lane; start and step store its lookup; pass counts in its record.
 pub mod FlagCalls
+pub mod LookupLaws
+pub mod StepLaws
 pub mod Passes

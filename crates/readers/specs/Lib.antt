@@ -1,3 +1,2 @@
--- What the contracts of the readers cite: a lookup in its words, and its steps; with their laws.
+-- What the contracts of the readers cite: a lookup in its words, and its steps.
 pub mod Lookups
-pub mod Steps

@@ -1,26 +1,22 @@
 // The calls of a reader on a legal memory: begin, end, start, step and pass, and on. Each answers five words and leaves the memory as the
-// model's rules say, a refused one every word of it.
+// model's rules say, a refused one every word of it. The lane is worked out before the call, and its address and the sizes are handed on.
 ghost use mathlib.Core.Path.{_≡_};
-ghost use Prim.Native.Nat.{_+_, _≤_};
-ghost use lib.ListN.{length};
-ghost use Rattle.model.specs.Layout.{laneLength};
-ghost use Rattle.model.specs.Rules.{laneOf, wrongKind, refusal, begin as beginning, end as ending, on as goingOn, start as starting, step as stepping, pass as passing, outcome, outcomeAnswer};
+ghost use Rattle.model.specs.Rules.{laneOf, wrongKind, refusal, begin as beginning, end as ending, on as goingOn, start as starting};
+ghost use Rattle.model.specs.Rules.{step as stepping, pass as passing, outcome, outcomeAnswer};
 ghost use Rattle.model.specs.Memory.{state};
 ghost use Rattle.model.specs.Calls.{on-state};
-ghost use Rattle.representation.specs.Sound.{Sound};
 ghost use Rattle.chains.specs.Outcome.{outcomeOf};
 ghost use Rattle.access.specs.Contract.{five, Does};
-ghost use Rattle.access.specs.Lanes.{LaneIn};
-ghost use Rattle.readers.specs.Lookups.{lookupStored, Looking};
-ghost use Rattle.readers.specs.Steps.{isGoing, Going, movedOn, lookupEnded};
+ghost use Rattle.access.specs.Lanes.{Named, LaneIn};
+ghost use Rattle.readers.specs.Lookups.{lookupStored, Looking, isGoing, Going, movedOn};
 use access::causes;
 
 // ---- begin
 
 // The number of the cause that refuses it, 0 where none does.
-fn begin_refusal(m: &[u32], lane: u32) -> u32
-    requires { ⌜ Sound (now m) ⌝ }
-    ensures { λ r. ⌜ r ≡ refusal (state (now (m .entry))) (beginning lane) ⌝ }
+fn begin_refusal(m: &[u32], lane: access::Lane) -> u32
+    requires { ⌜ Named (now m) lane ⌝ }
+    ensures { λ r. ⌜ r ≡ refusal (state (now (m .entry))) (beginning (lane .number)) ⌝ }
 {
     let n = access::lane_refusal(m, lane);
     if n > 0 {
@@ -33,9 +29,9 @@ fn begin_refusal(m: &[u32], lane: u32) -> u32
 }
 
 // Opens the section of a lane.
-pub fn begin(m: &mut [u32], lane: u32) -> access::Answer
-    requires { ⌜ Sound (now m) ⌝ }
-    ensures { λ r. ⌜ Does (on-state (beginning lane)) (now (m .entry)) r (now (m .exit)) ⌝ }
+pub fn begin(m: &mut [u32], lane: access::Lane) -> access::Answer
+    requires { ⌜ Named (now m) lane ⌝ }
+    ensures { λ r. ⌜ Does (on-state (beginning (lane .number))) (now (m .entry)) r (now (m .exit)) ⌝ }
 {
     let n = begin_refusal(m, lane);
     if n > 0 {
@@ -48,9 +44,9 @@ pub fn begin(m: &mut [u32], lane: u32) -> access::Answer
 // ---- end
 
 // The number of the cause that refuses it, 0 where none does.
-fn end_refusal(m: &[u32], lane: u32) -> u32
-    requires { ⌜ Sound (now m) ⌝ }
-    ensures { λ r. ⌜ r ≡ refusal (state (now (m .entry))) (ending lane) ⌝ }
+fn end_refusal(m: &[u32], lane: access::Lane) -> u32
+    requires { ⌜ Named (now m) lane ⌝ }
+    ensures { λ r. ⌜ r ≡ refusal (state (now (m .entry))) (ending (lane .number)) ⌝ }
 {
     let n = access::lane_refusal(m, lane);
     if n > 0 {
@@ -66,9 +62,9 @@ fn end_refusal(m: &[u32], lane: u32) -> u32
 }
 
 // Closes the section of a lane.
-pub fn end(m: &mut [u32], lane: u32) -> access::Answer
-    requires { ⌜ Sound (now m) ⌝ }
-    ensures { λ r. ⌜ Does (on-state (ending lane)) (now (m .entry)) r (now (m .exit)) ⌝ }
+pub fn end(m: &mut [u32], lane: access::Lane) -> access::Answer
+    requires { ⌜ Named (now m) lane ⌝ }
+    ensures { λ r. ⌜ Does (on-state (ending (lane .number))) (now (m .entry)) r (now (m .exit)) ⌝ }
 {
     let n = end_refusal(m, lane);
     if n > 0 {
@@ -81,11 +77,11 @@ pub fn end(m: &mut [u32], lane: u32) -> access::Answer
 // ---- on
 
 // The number of the cause that refuses it, 0 where none does.
-fn on_refusal(m: &[u32], lane: u32) -> u32
-    requires { ⌜ Sound (now m) ⌝ }
-    ensures { λ r. ⌜ r ≡ refusal (state (now (m .entry))) (goingOn lane) ⌝ }
+fn on_refusal(m: &[u32], lane: access::Lane) -> u32
+    requires { ⌜ Named (now m) lane ⌝ }
+    ensures { λ r. ⌜ r ≡ refusal (state (now (m .entry))) (goingOn (lane .number)) ⌝ }
 {
-    if access::is_unknown(m, lane) {
+    if access::is_unknown(lane) {
         return causes::NO_LANE;
     }
     if access::is_online(m, lane) {
@@ -95,9 +91,9 @@ fn on_refusal(m: &[u32], lane: u32) -> u32
 }
 
 // A lane goes on.
-pub fn on(m: &mut [u32], lane: u32) -> access::Answer
-    requires { ⌜ Sound (now m) ⌝ }
-    ensures { λ r. ⌜ Does (on-state (goingOn lane)) (now (m .entry)) r (now (m .exit)) ⌝ }
+pub fn on(m: &mut [u32], lane: access::Lane) -> access::Answer
+    requires { ⌜ Named (now m) lane ⌝ }
+    ensures { λ r. ⌜ Does (on-state (goingOn (lane .number))) (now (m .entry)) r (now (m .exit)) ⌝ }
 {
     let n = on_refusal(m, lane);
     if n > 0 {
@@ -109,12 +105,13 @@ pub fn on(m: &mut [u32], lane: u32) -> access::Answer
 
 // ---- lookups
 
-// Writes flags and lookup of the lane whose record begins at a. All other words stay.
-fn put_lookup(m: &mut [u32], a: usize, flags: u32, code: u64, position: u32)
-    requires { ⌜ a + laneLength ≤ length (now m) ⌝ }
-    ensures { λ _. ⌜ now (m .exit) ≡ lookupStored (now (m .entry)) a flags code position ⌝ }
+// Writes a lane's lookup: whether it runs, its code and its position. All other words stay.
+fn put_lookup(m: &mut [u32], lane: access::Lane, runs: bool, code: u64, position: u32)
+    requires { ⌜ LaneIn (now m) lane ⌝ }
+    ensures { λ _. ⌜ now (m .exit) ≡ lookupStored (now (m .entry)) (lane .address) runs code position ⌝ }
 {
-    m[a] = flags;
+    let a = lane.address;
+    access::put_flag(m, lane, words::LOOKUP, runs);
     m[a + words::LOOKUP_AT] = words::low(code);
     m[a + words::LOOKUP_AT + 1] = words::high(code);
     m[a + words::POSITION_AT] = position;
@@ -123,9 +120,9 @@ fn put_lookup(m: &mut [u32], a: usize, flags: u32, code: u64, position: u32)
 // ---- start
 
 // The number of the cause that refuses it, 0 where none does.
-fn start_refusal(m: &[u32], lane: u32, code: u64) -> u32
-    requires { ⌜ Sound (now m) ⌝ }
-    ensures { λ r. ⌜ r ≡ refusal (state (now (m .entry))) (starting lane code) ⌝ }
+fn start_refusal(m: &[u32], lane: access::Lane, code: u64) -> u32
+    requires { ⌜ Named (now m) lane ⌝ }
+    ensures { λ r. ⌜ r ≡ refusal (state (now (m .entry))) (starting (lane .number) code) ⌝ }
 {
     let n = access::lane_refusal(m, lane);
     if n > 0 {
@@ -144,27 +141,25 @@ fn start_refusal(m: &[u32], lane: u32, code: u64) -> u32
 }
 
 // Starts a lane's lookup of a code.
-pub fn start(m: &mut [u32], lane: u32, code: u64) -> access::Answer
-    requires { ⌜ Sound (now m) ⌝ }
-    ensures { λ r. ⌜ Does (on-state (starting lane code)) (now (m .entry)) r (now (m .exit)) ⌝ }
+pub fn start(m: &mut [u32], lane: access::Lane, code: u64) -> access::Answer
+    requires { ⌜ Named (now m) lane ⌝ }
+    ensures { λ r. ⌜ Does (on-state (starting (lane .number) code)) (now (m .entry)) r (now (m .exit)) ⌝ }
 {
     let n = start_refusal(m, lane, code);
     if n > 0 {
         return access::refused(n);
     }
-    let a = access::lane_address(m, lane);
     let head = access::chain_head(m, code);
-    let flags = access::with_flag(m[a], words::LOOKUP, true);
-    put_lookup(m, a, flags, code, head);
+    put_lookup(m, lane, true, code, head);
     access::accepted(0, 0, 0, 0)
 }
 
 // ---- step
 
 // The number of the cause that refuses it, 0 where none does.
-fn step_refusal(m: &[u32], lane: u32) -> u32
-    requires { ⌜ Sound (now m) ⌝ }
-    ensures { λ r. ⌜ r ≡ refusal (state (now (m .entry))) (stepping lane) ⌝ }
+fn step_refusal(m: &[u32], lane: access::Lane) -> u32
+    requires { ⌜ Named (now m) lane ⌝ }
+    ensures { λ r. ⌜ r ≡ refusal (state (now (m .entry))) (stepping (lane .number)) ⌝ }
 {
     let n = access::lane_refusal(m, lane);
     if n > 0 {
@@ -177,14 +172,14 @@ fn step_refusal(m: &[u32], lane: u32) -> u32
 }
 
 // The outcome of the next step of a lane's lookup.
-fn lane_outcome(m: &[u32], lane: u32) -> chains::Step
+fn lane_outcome(m: &[u32], lane: access::Lane) -> chains::Step
     requires { ⌜ Looking (now m) lane ⌝ }
-    ensures { λ r. ⌜ outcomeOf r ≡ outcome (state (now (m .entry)) .table) (laneOf (state (now (m .entry))) lane .lookup) ⌝ }
+    ensures { λ r. ⌜ outcomeOf r ≡ outcome (state (now (m .entry)) .table) (laneOf (state (now (m .entry))) (lane .number) .lookup) ⌝ }
 {
-    let a = access::lane_address(m, lane);
-    let base = access::slots_start(m);
+    let a = lane.address;
+    let z = lane.sizes;
     let code = words::code_at(m, a + words::LOOKUP_AT);
-    chains::step_outcome(m, base, m[words::SLOTS_AT], code, m[a + words::POSITION_AT])
+    chains::step_outcome(m, z, code, m[a + words::POSITION_AT])
 }
 
 // The five words of an outcome.
@@ -213,30 +208,20 @@ fn goes_on(s: chains::Step) -> bool
 }
 
 // The lookup of a lane goes on to the chain link of the slot at which it stands.
-fn go_on(m: &mut [u32], lane: u32)
+fn go_on(m: &mut [u32], lane: access::Lane)
     requires { ⌜ Going (now m) lane ⌝ }
     ensures { λ _. ⌜ now (m .exit) ≡ movedOn (now (m .entry)) lane ⌝ }
 {
-    let at = access::lane_address(m, lane) + words::POSITION_AT;
-    let base = access::slots_start(m);
-    let link = chains::chain_link(m, base, m[words::SLOTS_AT], m[at]);
+    let at = lane.address + words::POSITION_AT;
+    let z = lane.sizes;
+    let link = chains::chain_link(m, z, m[at]);
     m[at] = link;
 }
 
-// The lookup of a lane ends, and its words are at rest.
-fn end_lookup(m: &mut [u32], lane: u32)
-    requires { ⌜ LaneIn (now m) lane ⌝ }
-    ensures { λ _. ⌜ now (m .exit) ≡ lookupEnded (now (m .entry)) lane ⌝ }
-{
-    let a = access::lane_address(m, lane);
-    let flags = access::with_flag(m[a], words::LOOKUP, false);
-    put_lookup(m, a, flags, 0, words::NONE);
-}
-
 // Takes one step of a lane's lookup.
-pub fn step(m: &mut [u32], lane: u32) -> access::Answer
-    requires { ⌜ Sound (now m) ⌝ }
-    ensures { λ r. ⌜ Does (on-state (stepping lane)) (now (m .entry)) r (now (m .exit)) ⌝ }
+pub fn step(m: &mut [u32], lane: access::Lane) -> access::Answer
+    requires { ⌜ Named (now m) lane ⌝ }
+    ensures { λ r. ⌜ Does (on-state (stepping (lane .number))) (now (m .entry)) r (now (m .exit)) ⌝ }
 {
     let n = step_refusal(m, lane);
     if n > 0 {
@@ -248,7 +233,7 @@ pub fn step(m: &mut [u32], lane: u32) -> access::Answer
         go_on(m, lane);
         return r;
     }
-    end_lookup(m, lane);
+    put_lookup(m, lane, false, 0, words::NONE);
     r
 }
 
@@ -262,9 +247,9 @@ fn wrong_kind(kind: u32) -> bool
 }
 
 // The number of the cause that refuses it, 0 where none does.
-fn pass_refusal(m: &[u32], lane: u32, kind: u32) -> u32
-    requires { ⌜ Sound (now m) ⌝ }
-    ensures { λ r. ⌜ r ≡ refusal (state (now (m .entry))) (passing lane kind) ⌝ }
+fn pass_refusal(m: &[u32], lane: access::Lane, kind: u32) -> u32
+    requires { ⌜ Named (now m) lane ⌝ }
+    ensures { λ r. ⌜ r ≡ refusal (state (now (m .entry))) (passing (lane .number) kind) ⌝ }
 {
     let n = access::lane_refusal(m, lane);
     if n > 0 {
@@ -280,20 +265,17 @@ fn pass_refusal(m: &[u32], lane: u32, kind: u32) -> u32
 }
 
 // Counts a quiescent state of a lane: its cabinet's part of the words is handed on.
-pub fn pass(m: &mut [u32], lane: u32, kind: u32) -> access::Answer
-    requires { ⌜ Sound (now m) ⌝ }
-    ensures { λ r. ⌜ Does (on-state (passing lane kind)) (now (m .entry)) r (now (m .exit)) ⌝ }
+pub fn pass(m: &mut [u32], lane: access::Lane, kind: u32) -> access::Answer
+    requires { ⌜ Named (now m) lane ⌝ }
+    ensures { λ r. ⌜ Does (on-state (passing (lane .number) kind)) (now (m .entry)) r (now (m .exit)) ⌝ }
 {
     let n = pass_refusal(m, lane, kind);
     if n > 0 {
         return access::refused(n);
     }
-    let cabinets = words::index(m[words::CABINETS_AT]);
-    let places = words::index(m[words::PLACES_AT]);
-    let cabinet = words::index(access::cabinet_of(m, lane));
-    let place = words::index(access::place_of(m, lane));
-    let start = lanes::cabinet::cabinet_start(cabinets, places, cabinet);
+    let z = lane.sizes;
+    let place = access::place_of(lane);
     let pass = lanes::Change::Pass(words::index(kind));
-    lanes::cabinet::change_lane(m, start, places, place, pass);
+    lanes::cabinet::change_lane(m, z, place, pass);
     access::accepted(0, 0, 0, 0)
 }

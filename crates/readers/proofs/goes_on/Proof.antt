@@ -1,6 +1,6 @@
 -- One arm for each outcome.
 use Rattle.chains.specs.Outcome.{outcomeOf}
-use Rattle.readers.specs.Steps.{isGoing}
+use Rattle.readers.specs.Lookups.{isGoing}
 use borrow.Author.Needs.{needs}
 use Rattle.readers.proofs.goes_on.Statement.{statement}
 use Rattle.readers.proofs.goes_on.Tie as tie

@@ -1,6 +1,8 @@
 -- A refused `on` changes no word, and else it puts one flag of its lane.
+use Rattle.model.specs.Rules.{causes}
 use Rattle.access.proofs.Ways.{refuses}
-use Rattle.readers.proofs.FlagCalls.{on-lane, on-done}
+use Rattle.access.proofs.LaneLaws.{lane-first}
+use Rattle.readers.proofs.FlagCalls.{on-done}
 use borrow.Author.Needs.{needs}
 use Rattle.readers.proofs.on.Statement.{statement}
 use Rattle.readers.proofs.on.Tie as tie
@@ -18,7 +20,8 @@ returns : tie.Need-returns
 returns c = search (needs, refuses)
 
 put-flag-requires : tie.Need-put-flag-requires
-put-flag-requires c κs = search (needs, on-lane)
+unfolding causes
+put-flag-requires c κs = search (needs, lane-first)
 
 accepted-requires : tie.Need-accepted-requires
 accepted-requires c κs = search needs

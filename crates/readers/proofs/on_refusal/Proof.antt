@@ -1,7 +1,7 @@
 -- The tests of `on_refusal` are the causes of its call, in their order.
 use Rattle.model.specs.Rules.{causes}
 use Rattle.access.proofs.Refusals.{refusals}
-use Rattle.access.specs.Lanes.{lane-tested}
+use Rattle.access.proofs.LaneLaws.{unknown-by, lane-tested}
 use borrow.Author.Needs.{needs}
 use Rattle.readers.proofs.on_refusal.Statement.{statement}
 use Rattle.readers.proofs.on_refusal.Tie as tie
@@ -11,18 +11,18 @@ is-unknown-requires c κs = search needs
 
 returns : tie.Need-returns
 unfolding causes
-returns c = search (needs, refusals) depth 12 fits 9000
+returns c = search (needs, refusals, unknown-by) depth 12 fits 9000
 
 is-online-requires : tie.Need-is-online-requires
 is-online-requires c κs = search (needs, lane-tested)
 
 returns-2 : tie.Need-returns-2
 unfolding causes
-returns-2 c = search (needs, refusals) depth 12 fits 9000
+returns-2 c = search (needs, refusals, unknown-by) depth 12 fits 9000
 
 returns-3 : tie.Need-returns-3
 unfolding causes
-returns-3 c = search (needs, refusals) depth 12 fits 9000
+returns-3 c = search (needs, refusals, unknown-by) depth 12 fits 9000
 
 pub on-refusal-spec : {M : Type 1} → statement M
 on-refusal-spec =

@@ -1,6 +1,6 @@
 -- The five words, one by one.
 use mathlib.Core.Path.{ap}
-use Rattle.readers.specs.Steps.{answerOf}
+use Rattle.readers.proofs.StepLaws.{answerOf}
 use borrow.Author.Needs.{needs}
 use Rattle.readers.proofs.outcome_answer.Statement.{statement}
 use Rattle.readers.proofs.outcome_answer.Tie as tie

@@ -1,7 +1,6 @@
 -- A refused step changes no word; else the lookup goes on (`step-going`) or is put to rest (`step-ended`).
-use mathlib.Core.Path.{sym, _∙_}
 use Rattle.access.proofs.Ways.{refuses}
-use Rattle.readers.specs.Steps.{looking, is-going, step-going, step-ended}
+use Rattle.readers.proofs.StepLaws.{looking, step-lane, going-on, step-going, step-ended}
 use borrow.Author.Needs.{needs}
 use Rattle.readers.proofs.step.Statement.{statement}
 use Rattle.readers.proofs.step.Tie as tie
@@ -28,51 +27,22 @@ goes-on-requires : tie.Need-goes-on-requires
 goes-on-requires c κs = search needs
 
 go-on-requires : tie.Need-go-on-requires
-go-on-requires c κs =
-    let at-if2 : tie.Then2 = search in
-    let at-goes-on : tie.After-goes-on = search in
-    let at-lane-outcome : tie.After-lane-outcome = search in
-    let at-if1 : tie.Else1 = search in
-    let at-step-refusal : tie.After-step-refusal = search in
-    let entry : tie.Start = search in
-    record { looking = looking _ (entry .pre) _ _ (at-step-refusal .step-refusal .ensures) (at-if1 .if1 .left); going = sym (at-lane-outcome .lane-outcome .ensures) ∙ is-going _ (sym (at-goes-on .goes-on .ensures) ∙ (at-if2 .if2 .taken)) }
+go-on-requires c κs = search (needs, going-on)
 
 same-length-2 : tie.Need-same-length-2
 same-length-2 c = search needs
 
 returns-2 : tie.Need-returns-2
-returns-2 c =
-    let at-go-on : tie.After-go-on = search in
-    let at-if2 : tie.Then2 = search in
-    let at-goes-on : tie.After-goes-on = search in
-    let at-outcome-answer : tie.After-outcome-answer = search in
-    let at-lane-outcome : tie.After-lane-outcome = search in
-    let at-if1 : tie.Else1 = search in
-    let at-step-refusal : tie.After-step-refusal = search in
-    let entry : tie.Start = search in
-    step-going _ (entry .pre) (entry .args .lane) _ (at-step-refusal .step-refusal .ensures) (at-if1 .if1 .left) _ (at-lane-outcome .lane-outcome .ensures) _ (at-outcome-answer .outcome-answer .ensures) _ (sym (at-goes-on .goes-on .ensures) ∙ (at-if2 .if2 .taken)) (at-go-on .go-on .ensures)
+returns-2 c = search (needs, step-going)
 
-end-lookup-requires : tie.Need-end-lookup-requires
-end-lookup-requires c κs =
-    let at-if1 : tie.Else1 = search in
-    let at-step-refusal : tie.After-step-refusal = search in
-    let entry : tie.Start = search in
-    looking _ (entry .pre) _ _ (at-step-refusal .step-refusal .ensures) (at-if1 .if1 .left) .lane
+put-lookup-requires : tie.Need-put-lookup-requires
+put-lookup-requires c κs = search (needs, step-lane)
 
 same-length-3 : tie.Need-same-length-3
 same-length-3 c = search needs
 
 returns-3 : tie.Need-returns-3
-returns-3 c =
-    let at-end-lookup : tie.After-end-lookup = search in
-    let at-if2 : tie.Else2 = search in
-    let at-goes-on : tie.After-goes-on = search in
-    let at-outcome-answer : tie.After-outcome-answer = search in
-    let at-lane-outcome : tie.After-lane-outcome = search in
-    let at-if1 : tie.Else1 = search in
-    let at-step-refusal : tie.After-step-refusal = search in
-    let entry : tie.Start = search in
-    step-ended _ (entry .pre) (entry .args .lane) _ (at-step-refusal .step-refusal .ensures) (at-if1 .if1 .left) _ (at-lane-outcome .lane-outcome .ensures) _ (at-outcome-answer .outcome-answer .ensures) _ (sym (at-goes-on .goes-on .ensures) ∙ (at-if2 .if2 .left)) (at-end-lookup .end-lookup .ensures)
+returns-3 c = search (needs, step-ended)
 
 pub step-spec : {M : Type 1} → statement M
 step-spec =
@@ -88,6 +58,6 @@ step-spec =
     go-on-requires
     same-length-2
     returns-2
-    end-lookup-requires
+    put-lookup-requires
     same-length-3
     returns-3)
