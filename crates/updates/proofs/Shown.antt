@@ -25,7 +25,7 @@ use Rattle.changes.proofs.OfChains.ChainLinks.{old-inside}
 use Rattle.changes.proofs.OfChains.Find.{find-slot, slot-in-chain}
 use Rattle.changes.specs.Search.{searchWords}
 use Rattle.access.specs.Tables.{TableIn}
-use Rattle.access.proofs.Ways.{shown, wellFormed}
+use Rattle.access.proofs.Ways.{shown, wellFormed, long}
 use Rattle.updates.specs.UpdateStores.{FirstIn}
 
 -- ---- the search for a code
@@ -38,10 +38,6 @@ search-by m z c head f e q = q ∙ ap (λ (a : ℕ). seek m z c (z .slots + 1) n
 module _ (m : List ℕ) (z : Sizes) (k : TableIn m z) where
   shaped : Shape (state m)
   shaped = wellFormed-shape (state m) (wellFormed m (k .sound))
-
-  -- the sizes are those that the memory names
-  named-sizes : (P : TableSizes → Type 0) → P (sizes m) → P (sizesOf z)
-  named-sizes P = subst (λ (y : Sizes). P (sizesOf y)) (sym (k .sizes))
 
   module _ (c : ℕ) (f : Found) (e : f ≡ searchWords (sizesOf z) m c) where
     pub found-words : f ≡ searchWords (sizes m) m c
@@ -59,7 +55,7 @@ module _ (m : List ℕ) (z : Sizes) (k : TableIn m z) where
     found-inside here =
         let o = slotOf (state m .table) c in
         let inside = old-inside (state m) shaped (chainNumber c) o (omega arith) (slot-in-chain (state m) m (shown m (k .sound)) shaped c here) in
-        named-sizes (λ (y : TableSizes). f .slot < y .slots) (omega (arith, found-slot, inside))
+        subst (λ (y : Sizes). f .slot < y .slots) (sym (k .sizes)) (omega (arith, found-slot, inside))
 
   -- ---- the first slot of a queue
 
@@ -74,8 +70,8 @@ module _ (m : List ℕ) (z : Sizes) (k : TableIn m z) where
     queue-first = ap (at m) ee ∙ first-shown (state m) m (shown m (k .sound)) q named
 
     -- its ends are in the memory
-    ends-inside : ends + lastOffset < slotsBody (sizesOf z)
-    ends-inside = named-sizes (λ (y : TableSizes). ends + lastOffset < slotsBody y) (rw ee (go q named))
+    pub queue-inside : ends + lastOffset < length m
+    queue-inside = omega (arith, ee, go q named, long m (k .sound))
       where
         go : (q : Queue) → Named (sizes m) q → endsAt (sizes m) q + lastOffset < slotsBody (sizes m)
         go free h = omega arith
@@ -85,9 +81,6 @@ module _ (m : List ℕ) (z : Sizes) (k : TableIn m z) where
         go (lane i next) h = omega arith
         go (lane i current) h = omega arith
         go (lane i done) h = omega arith
-
-    pub queue-inside : ends + lastOffset < length m
-    queue-inside = omega (arith, k .lent .long, ends-inside)
 
     pub first-in : isEmpty (queueOf (state m) q) ≡ false → FirstIn m (sizesOf z) ends
     first-in some = record {
