@@ -7,24 +7,29 @@ use native.Mathlib.Omega.{arith}
 use lib.ListN.{length}
 use lib.Dec.{ltb}
 use Rattle.model.specs.Lists.{isEmpty, first}
-use Rattle.model.specs.State.{laneCount, State}
-use Rattle.model.specs.Layout.{doneOffset, freeAt, queuesAt, laneAddress, slotsBody}
+use Rattle.model.specs.State.{Sizes, laneCount, State}
+use Rattle.model.specs.Layout.{doneOffset, freeAt, queuesAt, slotAddress}
 use Rattle.model.specs.Rules.{hand-back, accepted, laneOf, nothingDone, fromGlobal, handedBack, refusal, result, performed}
 use Rattle.model.specs.Memory.{at, sizes, state}
 use Rattle.model.specs.Calls.{on-state, stored}
 use Rattle.representation.proofs.Causes.Accepted.{HandBackAccepted}
-use Rattle.representation.specs.Sound.{Sound}
+use Rattle.words.specs.Lent.{sizesOf}
 use Rattle.queues.specs.Queue.{appended, Taken}
-use Rattle.chains.specs.Chain.{recordAddress, cleared}
-use Rattle.changes.specs.Queues.{Queue, global, lane, done, Named, queueOf, endsAt}
+use Rattle.chains.specs.Chain.{cleared}
+use Rattle.changes.specs.Queues.{Queue, global, lane, done, Named as QueueNamed, queueOf, endsAt}
 use Rattle.changes.proofs.OfCalls.CallSteps.{reclaimedWords}
 use Rattle.changes.proofs.OfCalls.UpdateWords.{hand-back-lane-stored, hand-back-global-stored}
 use Rattle.access.specs.declared.Answer.{Answer}
+use Rattle.access.specs.declared.Lane.{Lane}
 use Rattle.access.specs.Contract.{five, Does}
-use Rattle.access.proofs.Ways.{performs, passed, shown, wellFormed, long}
-use Rattle.access.specs.Lanes.{LaneIn, lane-known}
+use Rattle.access.specs.Lanes.{Named, LaneIn}
+use Rattle.access.specs.Tables.{TableIn}
+use Rattle.access.proofs.Ways.{performs, passed, shown, wellFormed}
+use Rattle.access.proofs.LaneLaws.{lane-known}
+use Rattle.access.proofs.TableLaws.{table-of-lane}
 use Rattle.updates.specs.UpdateStores.{FirstIn, handedFrom, Reclaimed}
-use Rattle.updates.proofs.Shown.{queue-shown, queue-first, ends-inside, first-in}
+use Rattle.updates.proofs.Deletes.{appended-to}
+use Rattle.updates.proofs.Shown.{queue-shown, queue-first, queue-inside, first-in}
 
 -- ---- the queue that it takes from
 
@@ -47,77 +52,86 @@ module _ (s : State) (i : ℕ) where
       go true = refl
       go false = refl
 
-  pub handed-named : i < laneCount (s .sizes) → Named (s .sizes) (handedFrom s i)
+  pub handed-named : i < laneCount (s .sizes) → QueueNamed (s .sizes) (handedFrom s i)
   handed-named h = go (fromGlobal s i)
     where
-      go : (b : Bool) → Named (s .sizes) (pick b)
+      go : (b : Bool) → QueueNamed (s .sizes) (pick b)
       go true = tt
       go false = h
 
-module _ (m : List ℕ) (i : ℕ) (l : LaneIn m i) where
-  named : Named (sizes m) (handedFrom (state m) i)
+module _ (m : List ℕ) (l : Lane) (k : LaneIn m l) where
+  abbrev from : Queue
+  from = handedFrom (state m) (l .number)
+
+  table : TableIn m (l .sizes)
+  table = table-of-lane m l (k .named)
+
+  named : QueueNamed (sizes m) from
   unfolding state
-  named = handed-named (state m) i (l .known)
+  named = handed-named (state m) (l .number) (k .known)
 
   -- the lane's queue, tested
-  module _ (b : Bool) (a : ℕ) (ea : a ≡ laneAddress (sizes m) i) (e : b ≡ not (ltb (at m (a + queuesAt + doneOffset)) (sizes m .slots))) where
-    from-lane : b ≡ fromGlobal (state m) i
-    from-lane = e ∙ ap (λ (y : ℕ). not (ltb (at m (y + queuesAt + doneOffset)) (sizes m .slots))) ea ∙ queue-shown m (l .sound) (lane i done) (l .known)
+  module _ (b : Bool) (e : b ≡ not (ltb (at m (l .address + (queuesAt + doneOffset))) (l .sizes .slots))) where
+    lane-ends : l .address + (queuesAt + doneOffset) ≡ endsAt (sizes m) (lane (l .number) done)
+    lane-ends = omega (arith, k .named .address)
 
-    pub lane-empty : b ≡ true → endsAt (sizes m) (global done) ≡ endsAt (sizes m) (handedFrom (state m) i)
-    lane-empty q = ap (λ (y : Bool). endsAt (sizes m) (pick (state m) i y)) (sym q ∙ from-lane)
+    picked : (c : Bool) → b ≡ c → endsAt (sizes m) (pick (state m) (l .number) c) ≡ endsAt (sizes m) from
+    picked c q =
+        ap (λ (y : Bool). endsAt (sizes m) (pick (state m) (l .number) y))
+        (sym q ∙ queue-shown m (l .sizes) table (lane (l .number) done) (k .known) _ lane-ends b e)
 
-    pub lane-some : b ≡ false → a + queuesAt + doneOffset ≡ endsAt (sizes m) (handedFrom (state m) i)
-    lane-some q = ap (λ (y : ℕ). y + queuesAt + doneOffset) ea ∙ ap (λ (y : Bool). endsAt (sizes m) (pick (state m) i y)) (sym q ∙ from-lane)
+    pub lane-empty : b ≡ true → endsAt (sizes m) (global done) ≡ endsAt (sizes m) from
+    lane-empty q = picked true q
+
+    pub lane-some : b ≡ false → l .address + (queuesAt + doneOffset) ≡ endsAt (sizes m) from
+    lane-some q = lane-ends ∙ picked false q
 
   -- its own queue, tested
-  pub none-done : (ends : ℕ) → ends ≡ endsAt (sizes m) (handedFrom (state m) i) → (b : Bool) → b ≡ not (ltb (at m ends) (sizes m .slots))
-      → b ≡ nothingDone (state m) i .applies
-  none-done ends ee b e =
-      e ∙ ap (λ (y : ℕ). not (ltb (at m y) (sizes m .slots))) ee ∙ queue-shown m (l .sound) (handedFrom (state m) i) named ∙ handed-empty (state m) i
+  module _ (ends : ℕ) (ee : ends ≡ endsAt (sizes m) from) where
+    pub none-done : (b : Bool) → b ≡ not (ltb (at m ends) (l .sizes .slots)) → b ≡ nothingDone (state m) (l .number) .applies
+    none-done b e = queue-shown m (l .sizes) table from named ends ee b e ∙ handed-empty (state m) (l .number)
 
-  pub done-inside : (ends : ℕ) → ends ≡ endsAt (sizes m) (handedFrom (state m) i) → ends < length m
-  done-inside ends ee = omega (arith, ee, ends-inside m (l .sound) (handedFrom (state m) i) named, long m (l .sound))
+    pub done-inside : ends < length m
+    done-inside = omega (arith, queue-inside m (l .sizes) table from named ends ee)
 
 -- ---- where no cause refuses it
 
 -- taken, then cleared, and then appended
-pub reclaimed-by : (m n k o : List ℕ) (base slots ends r : ℕ) → Taken m base slots ends r n → k ≡ cleared n (recordAddress base r)
-    → o ≡ appended k base slots freeAt r → Reclaimed m base slots ends r o
-reclaimed-by m n k o base slots ends r u e f = record {
+pub reclaimed-by : (m n k o : List ℕ) (z : Sizes) (ends r : ℕ) → Taken m z ends r n → k ≡ cleared n (slotAddress z r)
+    → o ≡ appended k z freeAt r → Reclaimed m z ends r o
+reclaimed-by m n k o z ends r u e f = record {
   slot = u .slot;
-  memory = f ∙ ap (λ (y : List ℕ). appended y base slots freeAt r) (e ∙ ap (λ (y : List ℕ). cleared y (recordAddress base r)) (u .memory));
+  memory = appended-to _ k o z freeAt r f (e ∙ ap (λ (y : List ℕ). cleared y (slotAddress z r)) (u .memory));
 }
 
-module _ (m : List ℕ) (v : Sound m) (i x : ℕ) (e : x ≡ refusal (state m) (hand-back i)) (h : x ≤ 0) where
-  known : HandBackAccepted (state m) i
-  known = passed m (hand-back i) x e h
+module _ (m : List ℕ) (l : Lane) (k : Named m l) (x : ℕ) (e : x ≡ refusal (state m) (hand-back (l .number))) (h : x ≤ 0) where
+  known : HandBackAccepted (state m) (l .number)
+  known = passed m (hand-back (l .number)) x e h
 
-  pub hand-back-lane : LaneIn m i
-  hand-back-lane = lane-known m v i (known .lane .known)
+  pub hand-back-lane : LaneIn m l
+  hand-back-lane = lane-known m l k (known .lane .known)
 
-  some : isEmpty (queueOf (state m) (handedFrom (state m) i)) ≡ false
-  some = handed-empty (state m) i ∙ known .done
+  abbrev q : Queue
+  q = handedFrom (state m) (l .number)
 
   -- from one queue or the other
-  reclaims : (k : ℕ) → k ≡ at m (endsAt (sizes m) (handedFrom (state m) i))
-      → reclaimedWords (sizes m) m (handedFrom (state m) i) k ≡ stored (performed (state m) (hand-back i)) m
+  reclaims : (o : ℕ) → o ≡ at m (endsAt (sizes m) q) → reclaimedWords (sizes m) m q o ≡ stored (performed (state m) (hand-back (l .number))) m
   unfolding state
-  reclaims k = go (fromGlobal (state m) i) refl
+  reclaims o = go (fromGlobal (state m) (l .number)) refl
     where
-      go : (b : Bool) → fromGlobal (state m) i ≡ b → k ≡ at m (endsAt (sizes m) (pick (state m) i b))
-          → reclaimedWords (sizes m) m (pick (state m) i b) k ≡ stored (performed (state m) (hand-back i)) m
-      go true q ek = hand-back-global-stored (state m) m (shown m v) (wellFormed m v) i k known q ek
-      go false q ek = hand-back-lane-stored (state m) m (shown m v) (wellFormed m v) i k known q ek
+      go : (b : Bool) → fromGlobal (state m) (l .number) ≡ b → o ≡ at m (endsAt (sizes m) (pick (state m) (l .number) b))
+          → reclaimedWords (sizes m) m (pick (state m) (l .number) b) o ≡ stored (performed (state m) (hand-back (l .number))) m
+      go true g eo = hand-back-global-stored (state m) m (shown m (k .sound)) (wellFormed m (k .sound)) (l .number) o known g eo
+      go false g eo = hand-back-lane-stored (state m) m (shown m (k .sound)) (wellFormed m (k .sound)) (l .number) o known g eo
 
-  module _ (base ends : ℕ) (eb : base ≡ slotsBody (sizes m)) (ee : ends ≡ endsAt (sizes m) (handedFrom (state m) i)) where
-    pub hand-back-first : FirstIn m base (sizes m .slots) ends
-    hand-back-first = first-in m v (handedFrom (state m) i) (named m i hand-back-lane) base ends eb ee some
+  module _ (ends : ℕ) (ee : ends ≡ endsAt (sizes m) q) where
+    pub hand-back-first : FirstIn m (sizesOf (l .sizes)) ends
+    hand-back-first = first-in m (l .sizes) (table-of-lane m l k) q (named m l hand-back-lane) ends ee (handed-empty (state m) (l .number) ∙ known .done)
 
-    pub hand-back-done : (k : ℕ) (r : Answer) (n : List ℕ) → five r ≡ accepted k 0 0 0 → Reclaimed m base (sizes m .slots) ends k n → Does (on-state (hand-back i)) m r n
+    pub hand-back-done : (o : ℕ) (r : Answer) (n : List ℕ) → five r ≡ accepted o 0 0 0 → Reclaimed m (sizesOf (l .sizes)) ends o n
+        → Does (on-state (hand-back (l .number))) m r n
     unfolding result
-    hand-back-done k r n er u =
-        let ek = u .slot ∙ ap (at m) ee in
-        performs m (hand-back i) v x r n e h
-        (er ∙ ap (λ (y : ℕ). accepted y 0 0 0) (ek ∙ queue-first m v (handedFrom (state m) i) (named m i hand-back-lane) ∙ handed-first (state m) i))
-        (u .memory ∙ rw (eb, ee) (reclaims k ek))
+    hand-back-done o r n er u =
+        let first = u .slot ∙ queue-first m (l .sizes) (table-of-lane m l k) q (named m l hand-back-lane) ends ee ∙ handed-first (state m) (l .number) in
+        performs m (hand-back (l .number)) (k .sound) x r n e h (er ∙ ap (λ (y : ℕ). accepted y 0 0 0) first)
+        (u .memory ∙ rw (k .sizes, ee) (reclaims o (u .slot ∙ ap (at m) ee)))

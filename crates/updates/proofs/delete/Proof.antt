@@ -1,7 +1,8 @@
 -- A refused delete changes no word; else the slot is unlinked and waits (`delete-done`).
 use native.Mathlib.Omega.{arith}
-use Rattle.access.proofs.Ways.{refuses, long}
-use Rattle.updates.proofs.Deletes.{delete-reach, delete-done}
+use Rattle.access.proofs.Ways.{refuses}
+use Rattle.access.proofs.LaneLaws.{few}
+use Rattle.updates.proofs.Deletes.{delete-leaves, delete-done}
 use borrow.Author.Needs.{needs}
 use Rattle.updates.proofs.delete.Statement.{statement}
 use Rattle.updates.proofs.delete.Tie as tie
@@ -18,37 +19,19 @@ same-length c = search needs
 returns : tie.Need-returns
 returns c = search (needs, refuses)
 
-slots-start-requires : tie.Need-slots-start-requires
-slots-start-requires c κs = search needs
-
-slice-read-slots : tie.Need-slice-read-slots
-slice-read-slots c =
-    let entry : tie.Start = search in
-    omega (arith, long _ (entry .pre))
-
 head-address-requires : tie.Need-head-address-requires
 head-address-requires c κs = search needs
 
-next-queue-requires : tie.Need-next-queue-requires
-next-queue-requires c κs = search needs
+add-ends : tie.Need-add-ends
+add-ends c =
+    let entry : tie.Start = search in
+    omega (arith, entry .pre .address, few _ (entry .pre .sound) .cabinets)
 
 search-requires : tie.Need-search-requires
 search-requires c κs = search needs
 
 remove-requires : tie.Need-remove-requires
-remove-requires c κs =
-    let at-search : tie.After-search = search in
-    let at-next-queue : tie.After-next-queue = search in
-    let at-head-address : tie.After-head-address = search in
-    let at-slots-start : tie.After-slots-start = search in
-    let at-if1 : tie.Else1 = search in
-    let at-delete-refusal : tie.After-delete-refusal = search in
-    let s : tie.Start = search in
-    delete-reach _ (s .pre) (s .args .lane) (s .args .code) _
-    (at-delete-refusal .delete-refusal .ensures)
-    (at-if1 .if1 .left) _ _ _ _
-    (at-slots-start .slots-start .ensures)
-    (at-head-address .head-address .ensures) (at-next-queue .next-queue .ensures) (at-search .search .ensures)
+remove-requires c κs = search (needs, delete-leaves)
 
 accepted-requires : tie.Need-accepted-requires
 accepted-requires c κs = search needs
@@ -67,10 +50,8 @@ delete-spec =
     refused-requires
     same-length
     returns
-    slots-start-requires
-    slice-read-slots
     head-address-requires
-    next-queue-requires
+    add-ends
     search-requires
     remove-requires
     accepted-requires

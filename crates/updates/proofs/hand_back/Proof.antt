@@ -1,6 +1,5 @@
 -- A refused hand-back changes no word; else the first slot of the queue is cleared and free (`hand-back-done`).
-use native.Mathlib.Omega.{arith}
-use Rattle.access.proofs.Ways.{refuses, long}
+use Rattle.access.proofs.Ways.{refuses}
 use Rattle.updates.proofs.HandBacks.{hand-back-lane, hand-back-first, hand-back-done}
 use borrow.Author.Needs.{needs}
 use Rattle.updates.proofs.hand_back.Statement.{statement}
@@ -17,14 +16,6 @@ same-length c = search needs
 
 returns : tie.Need-returns
 returns c = search (needs, refuses)
-
-slots-start-requires : tie.Need-slots-start-requires
-slots-start-requires c κs = search needs
-
-slice-read-slots : tie.Need-slice-read-slots
-slice-read-slots c =
-    let entry : tie.Start = search in
-    omega (arith, long _ (entry .pre))
 
 done-queue-requires : tie.Need-done-queue-requires
 done-queue-requires c κs = search (needs, hand-back-lane)
@@ -49,8 +40,6 @@ hand-back-spec =
     refused-requires
     same-length
     returns
-    slots-start-requires
-    slice-read-slots
     done-queue-requires
     reclaim-requires
     accepted-requires

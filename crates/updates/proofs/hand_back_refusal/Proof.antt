@@ -1,7 +1,7 @@
 -- The tests of `hand_back_refusal` are the causes of its call, in their order.
 use Rattle.model.specs.Rules.{causes}
 use Rattle.access.proofs.Refusals.{refusals}
-use Rattle.access.specs.Lanes.{lane-in}
+use Rattle.access.proofs.LaneLaws.{lane-in}
 use borrow.Author.Needs.{needs}
 use Rattle.updates.proofs.hand_back_refusal.Statement.{statement}
 use Rattle.updates.proofs.hand_back_refusal.Tie as tie
@@ -26,10 +26,4 @@ returns-3 c = search (needs, refusals) depth 12 fits 9000
 
 pub hand-back-refusal-spec : {M : Type 1} → statement M
 hand-back-refusal-spec =
-    tie.close
-    (tie.spec
-    lane-refusal-requires
-    returns
-    nothing-done-requires
-    returns-2
-    returns-3)
+    tie.close (tie.spec lane-refusal-requires returns nothing-done-requires returns-2 returns-3)

@@ -1,6 +1,4 @@
 -- `done_queue` is the global one where the lane's is empty, so it is empty where both are.
-use native.Mathlib.Omega.{arith}
-use Rattle.access.proofs.Ways.{long}
 use Rattle.updates.proofs.HandBacks.{done-inside, none-done}
 use borrow.Author.Needs.{needs}
 use Rattle.updates.proofs.nothing_done.Statement.{statement}
@@ -9,11 +7,6 @@ use Rattle.updates.proofs.nothing_done.Tie as tie
 done-queue-requires : tie.Need-done-queue-requires
 done-queue-requires c κs = search needs
 
-shared-slice-read-is-empty : tie.Need-shared-slice-read-is-empty
-shared-slice-read-is-empty c =
-    let entry : tie.Start = search in
-    omega (arith, long _ (entry .pre .sound))
-
 is-empty-requires : tie.Need-is-empty-requires
 is-empty-requires c κs = search (needs, done-inside)
 
@@ -21,4 +14,4 @@ returns : tie.Need-returns
 returns c = search (needs, none-done)
 
 pub nothing-done-spec : {M : Type 1} → statement M
-nothing-done-spec = tie.close (tie.spec done-queue-requires shared-slice-read-is-empty is-empty-requires returns)
+nothing-done-spec = tie.close (tie.spec done-queue-requires is-empty-requires returns)

@@ -21,17 +21,9 @@ returns c =
     let at-append : tie.After-append = search in
     let at-clear-slot : tie.After-clear-slot = search in
     let at-take-first : tie.After-take-first = search in
-    let s : tie.Start = search in
-    reclaimed-by _ _ _ _ (s .args .base) (s .args .slots) (s .args .ends) _
-    (at-take-first .take-first .ensures)
-    (at-clear-slot .clear-slot .ensures) (at-append .append .ensures)
+    reclaimed-by _ _ _ _ _ _ _ (at-take-first .take-first .ensures) (at-clear-slot .clear-slot .ensures) (at-append .append .ensures)
 
 pub reclaim-spec : {M : Type 1} → statement M
 reclaim-spec =
     tie.close
-    (tie.spec
-    take-first-requires
-    clear-slot-requires
-    append-requires
-    same-length
-    returns)
+    (tie.spec take-first-requires clear-slot-requires append-requires same-length returns)

@@ -1,8 +1,5 @@
 -- What `append` leaves of what `unlink` leaves.
-use mathlib.Core.Path.{ap, _∙_}
-use mathlib.Core.List.{List}
-use Prim.Native.Nat.{ℕ}
-use Rattle.queues.specs.Queue.{appended}
+use Rattle.updates.proofs.Deletes.{appended-to}
 use borrow.Author.Needs.{needs}
 use Rattle.updates.proofs.remove.Statement.{statement}
 use Rattle.updates.proofs.remove.Tie as tie
@@ -17,12 +14,7 @@ same-length : tie.Need-same-length
 same-length c = search needs
 
 returns : tie.Need-returns
-returns c =
-    let at-append : tie.After-append = search in
-    let at-unlink : tie.After-unlink = search in
-    let s : tie.Start = search in
-    (at-append .append .ensures) ∙ ap (λ (n : List ℕ). appended n (s .args .base) (s .args .slots) (s .args .ends) (s .args .slot))
-    (at-unlink .unlink .ensures)
+returns c = search (needs, appended-to)
 
 pub remove-spec : {M : Type 1} → statement M
 remove-spec = tie.close (tie.spec unlink-requires append-requires same-length returns)

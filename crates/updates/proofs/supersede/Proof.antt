@@ -1,8 +1,5 @@
 -- What `append` leaves of what `put_in_place` leaves.
-use Prim.Native.Nat.{ℕ}
-use mathlib.Core.Path.{ap, _∙_}
-use mathlib.Core.List.{List}
-use Rattle.queues.specs.Queue.{appended}
+use Rattle.updates.proofs.Deletes.{appended-to}
 use borrow.Author.Needs.{needs}
 use Rattle.updates.proofs.supersede.Statement.{statement}
 use Rattle.updates.proofs.supersede.Tie as tie
@@ -17,12 +14,7 @@ same-length : tie.Need-same-length
 same-length c = search needs
 
 returns : tie.Need-returns
-returns c =
-    let at-append : tie.After-append = search in
-    let at-put-in-place : tie.After-put-in-place = search in
-    let s : tie.Start = search in
-    (at-append .append .ensures) ∙ ap (λ (n : List ℕ). appended n (s .args .base) (s .args .slots) (s .args .ends) (s .args .old))
-    (at-put-in-place .put-in-place .ensures)
+returns c = search (needs, appended-to)
 
 pub supersede-spec : {M : Type 1} → statement M
 supersede-spec = tie.close (tie.spec put-in-place-requires append-requires same-length returns)
