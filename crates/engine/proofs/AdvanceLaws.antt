@@ -17,8 +17,10 @@ use Rattle.changes.proofs.OfOwners.Owners.{Owner, Known, queuesBy, withQueues}
 use Rattle.changes.proofs.OfOwners.Owners.{withQueues-same, settle-stored, batch-stored}
 use Rattle.engine.proofs.PeriodLaws.{current-shown, requested-stored}
 use Rattle.engine.specs.Advance.{advancedWords}
-use Rattle.engine.proofs.AdvanceSteps.{advancedBy, state-set, settledQueues, settledState, batchedState, askedEngine, begunState, advanced-steps, shape-settled, shape-batched}
-use Rattle.engine.proofs.AdvanceTests.{wordsBy, settledFor, begunFor, movedFor, askedFor, filled, settled-tests, begun-tests, generation-shown, filled-shown, target-shown}
+use Rattle.engine.proofs.AdvanceSteps.{advancedBy, state-set, settledQueues, settledState, batchedState}
+use Rattle.engine.proofs.AdvanceSteps.{askedEngine, begunState, advanced-steps, shape-settled, shape-batched}
+use Rattle.engine.proofs.AdvanceTests.{wordsBy, settledFor, begunFor, movedFor, askedFor, filled}
+use Rattle.engine.proofs.AdvanceTests.{settled-tests, begun-tests, generation-shown, filled-shown, target-shown}
 
 module _ (s : State) (m : List ℕ) (shows : Shows m s) (w : Shape s) (o : Owner) (known : Known (s .sizes) o) where
   abbrev z : Sizes
@@ -48,7 +50,8 @@ module _ (s : State) (m : List ℕ) (shows : Shows m s) (w : Shape s) (o : Owner
   settled-stored : settledFor z m o ≡ stored (settledState s o) m
   settled-stored =
       settled-tests z m o
-      ∙ ap₂ (λ (x y : Bool). cond x (cond y (movedFor z m o done current 0) m) m) (filled-shown s m shows w o known current) (ap₂ later (current-shown s m shows) (generation-shown s m shows o known))
+      ∙ ap₂ (λ (x y : Bool). cond x (cond y (movedFor z m o done current 0) m) m) (filled-shown s m shows w o known current)
+      (ap₂ later (current-shown s m shows) (generation-shown s m shows o known))
       ∙ settled-by (not (isEmpty (q .current))) (later (e .current) (q .generation)) refl refl
 
   -- ---- begin a batch

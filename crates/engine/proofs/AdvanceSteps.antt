@@ -7,13 +7,15 @@ use native.Mathlib.Omega.{arith}
 use Rattle.model.specs.Word.{up, later}
 use Rattle.model.specs.Lists.{isEmpty}
 use Rattle.model.specs.State.{Queues, Lane, Engine, State}
-use Rattle.model.specs.Engine.{freshLane, setQueues, atLane, withLanes, withGlobal, isPending, settled, ready, target, batched, requested, advancedLane, advancedGlobal}
+use Rattle.model.specs.Engine.{freshLane, setQueues, atLane, withLanes, withGlobal, isPending, settled}
+use Rattle.model.specs.Engine.{ready, target, batched, requested, advancedLane, advancedGlobal}
 use Rattle.model.specs.Rules.{withEngine}
 use Rattle.laws.specs.ListLaws.{getD-update-same, update-update}
 use Rattle.laws.specs.Elements.{any-update-same, isEmpty-true}
 use Rattle.changes.proofs.Shape.{LaneAtEach, Shape}
 use Rattle.changes.specs.Queues.{next, current, done}
-use Rattle.changes.proofs.OfOwners.Owners.{Owner, allLanes, oneLane, Known, queuesBy, withQueues, moved, shape-move, done-current, current-next, withQueues-same}
+use Rattle.changes.proofs.OfOwners.Owners.{Owner, allLanes, oneLane, Known, queuesBy, withQueues}
+use Rattle.changes.proofs.OfOwners.Owners.{moved, shape-move, done-current, current-next, withQueues-same}
 use Rattle.engine.proofs.PeriodLaws.{shape-requested}
 
 -- the engine after the owner's advance
@@ -79,7 +81,8 @@ module _ (s : State) (each : LaneAtEach s) where
     either r g f = cond (ready r) (requested g f) (queuesSet o q (s .engine))
 
     advanced-either : (o : Owner) → advancedBy o (s .engine)
-        ≡ cond (ready (settledQueues s o)) (requested (target (s .engine)) (queuesSet o (batched (target (s .engine)) (settledQueues s o)) (s .engine))) (queuesSet o (settledQueues s o) (s .engine))
+        ≡ cond (ready (settledQueues s o)) (requested (target (s .engine)) (queuesSet o (batched (target (s .engine)) (settledQueues s o)) (s .engine)))
+        (queuesSet o (settledQueues s o) (s .engine))
     unfolding advancedLane advancedGlobal
     advanced-either allLanes = refl
     advanced-either (oneLane i) = refl
@@ -88,7 +91,8 @@ module _ (s : State) (each : LaneAtEach s) where
     advanced-steps =
         let g = target (s .engine) in
         ap (withEngine s)
-        (ap (λ (r : Queues). either r (target (queuesSet o q (s .engine))) (queuesSet o (batched (target (queuesSet o q (s .engine))) r) (queuesSet o q (s .engine)))) (set-queues o q known)
+        (ap (λ (r : Queues). either r (target (queuesSet o q (s .engine)))
+        (queuesSet o (batched (target (queuesSet o q (s .engine))) r) (queuesSet o q (s .engine)))) (set-queues o q known)
         ∙ ap (λ (h : ℕ). either q h (queuesSet o (batched h q) (queuesSet o q (s .engine)))) (set-target o q)
         ∙ ap (either q g) (set-set o q (batched g q))
         ∙ sym (advanced-either o))

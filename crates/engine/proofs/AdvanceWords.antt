@@ -31,7 +31,8 @@ module _ (m : List ℕ) (z : Sizes) (o : OwnerWords) where
   pub settled-empty : z .slots ≤ at m (o .ends + currentOffset) → m ≡ settledWords m z o
   unfolding settledWords
   settled-empty h =
-      sym (ap (λ (d : Bool). cond d (cond (later (at m currentGenerationAt) (at m (o .generation))) finished m) m) (le-ltb (at m (o .ends + currentOffset)) (z .slots) h))
+      sym (ap (λ (d : Bool). cond d (cond (later (at m currentGenerationAt) (at m (o .generation))) finished m) m)
+      (le-ltb (at m (o .ends + currentOffset)) (z .slots) h))
 
   -- it is not, and its generation is earlier, or not
   module _ (h : at m (o .ends + currentOffset) < z .slots) (b : Bool) (f : b ≡ later (at m currentGenerationAt) (at m (o .generation))) where
@@ -50,7 +51,8 @@ module _ (m : List ℕ) (z : Sizes) (o : OwnerWords) where
   -- current is not empty
   pub begun-busy : at m (o .ends + currentOffset) < z .slots → m ≡ begunWords m z o
   unfolding begunWords
-  begun-busy h = sym (ap (λ (d : Bool). cond d m (cond (ltb (at m (o .ends)) (z .slots)) (asked (targetWord m)) m)) (lt-ltb (at m (o .ends + currentOffset)) (z .slots) h))
+  begun-busy h =
+      sym (ap (λ (d : Bool). cond d m (cond (ltb (at m (o .ends)) (z .slots)) (asked (targetWord m)) m)) (lt-ltb (at m (o .ends + currentOffset)) (z .slots) h))
 
   -- it is, and next is not, or is too
   module _ (h : z .slots ≤ at m (o .ends + currentOffset)) where
@@ -59,11 +61,14 @@ module _ (m : List ℕ) (z : Sizes) (o : OwnerWords) where
     unfolding begunWords
     begun-begins k g e x y p q =
         q ∙ ap (λ (l : List ℕ). requestedWords l z g) p ∙ ap asked e
-        ∙ sym (ap₂ (λ (d f : Bool). cond d m (cond f (asked (targetWord m)) m)) (le-ltb (at m (o .ends + currentOffset)) (z .slots) h) (lt-ltb (at m (o .ends)) (z .slots) k))
+        ∙ sym (ap₂ (λ (d f : Bool). cond d m (cond f (asked (targetWord m)) m)) (le-ltb (at m (o .ends + currentOffset)) (z .slots) h)
+        (lt-ltb (at m (o .ends)) (z .slots) k))
 
     pub begun-idle : z .slots ≤ at m (o .ends) → m ≡ begunWords m z o
     unfolding begunWords
-    begun-idle k = sym (ap₂ (λ (d f : Bool). cond d m (cond f (asked (targetWord m)) m)) (le-ltb (at m (o .ends + currentOffset)) (z .slots) h) (le-ltb (at m (o .ends)) (z .slots) k))
+    begun-idle k =
+        sym (ap₂ (λ (d f : Bool). cond d m (cond f (asked (targetWord m)) m)) (le-ltb (at m (o .ends + currentOffset)) (z .slots) h)
+        (le-ltb (at m (o .ends)) (z .slots) k))
 
   pub advanced-by : (x y : List ℕ) → x ≡ settledWords m z o → y ≡ begunWords x z o
       → y ≡ advancedWords m z o

@@ -98,7 +98,8 @@ module _ (s : State) (w : Shape s) (i : ℕ) (within : i < laneCount (s .sizes))
     leftWords = handedWords (changedAt m (laneAddress (s .sizes) i) Leave) (s .sizes) (laneAddress (s .sizes) i)
 
     marked-shows : Shows (changedAt m (laneAddress (s .sizes) i) Leave) (withLane s i (setOnline false))
-    marked-shows = shows-then (withLane s i (setOnline false)) m (changedAt m (laneAddress (s .sizes) i) Leave) (shows .long) (marked-stored s m shows w i within)
+    marked-shows =
+        shows-then (withLane s i (setOnline false)) m (changedAt m (laneAddress (s .sizes) i) Leave) (shows .long) (marked-stored s m shows w i within)
 
     pub left-stored : leftWords ≡ stored gone m
     left-stored =

@@ -41,7 +41,8 @@ module _ (s : State) (each : LaneAtEach s) where
   concat-flags : concat rows ≡ map isPending (s .engine .lanes)
   concat-flags =
       concat-rows (λ (i : ℕ). laneAt (s .engine) i .pending) (s .sizes .places) (s .sizes .cabinets)
-      ∙ map-from-getD (λ (i : ℕ). laneAt (s .engine) i .pending) false (map isPending (s .engine .lanes)) (laneCount (s .sizes)) (length-map (s .engine .lanes) isPending ∙ each) (λ i b. sym (List·getD-map isPending (s .engine .lanes) i freshLane))
+      ∙ map-from-getD (λ (i : ℕ). laneAt (s .engine) i .pending) false (map isPending (s .engine .lanes)) (laneCount (s .sizes))
+      (length-map (s .engine .lanes) isPending ∙ each) (λ i b. sym (List·getD-map isPending (s .engine .lanes) i freshLane))
 
   cabinetMask-upper : cabinetMask s ≡ maskOf (upper rows)
   cabinetMask-upper =
@@ -79,7 +80,8 @@ module _ (s : State) (m : List ℕ) (shows : Shows m s) (each : LaneAtEach s) wh
       ≡ stored (withEngine s (cond b (withCurrent g (s .engine)) (started (withCurrent g (s .engine))))) m
   ended-by true g = write-current s m shows g
   ended-by false g =
-      stored-then u (withEngine u (started (u .engine))) m (set m currentGenerationAt g) (startedWords (set m currentGenerationAt g) z) refl (write-current s m shows g)
+      stored-then u (withEngine u (started (u .engine))) m (set m currentGenerationAt g) (startedWords (set m currentGenerationAt g) z) refl
+      (write-current s m shows g)
       (started-stored u (set m currentGenerationAt g) (shows-then u m (set m currentGenerationAt g) (shows .long) (write-current s m shows g)) each)
     where
       u : State
@@ -88,7 +90,8 @@ module _ (s : State) (m : List ℕ) (shows : Shows m s) (each : LaneAtEach s) wh
   pub ended-stored : endedWords m z ≡ stored (withEngine s (ended (s .engine))) m
   unfolding ended endedWords
   ended-stored =
-      ap₂ (λ (x y : ℕ). cond (later (up x) y) (set m currentGenerationAt (up x)) (startedWords (set m currentGenerationAt (up x)) z)) (current-shown s m shows) (largest-shown s m shows)
+      ap₂ (λ (x y : ℕ). cond (later (up x) y) (set m currentGenerationAt (up x)) (startedWords (set m currentGenerationAt (up x)) z))
+      (current-shown s m shows) (largest-shown s m shows)
       ∙ ended-by (later (up (s .engine .current)) (s .engine .largest)) (up (s .engine .current))
 
   -- the largest requested, raised to g
@@ -104,7 +107,8 @@ module _ (s : State) (m : List ℕ) (shows : Shows m s) (each : LaneAtEach s) wh
   raised-stored g =
       ap (λ (x : ℕ). cond (later g x) (set m largestGenerationAt g) m) (largest-shown s m shows) ∙ raised-by (later g (s .engine .largest)) g
 
-  requested-by : (b : Bool) (g : ℕ) → cond (not b) (startedWords (raisedWords m g) z) (raisedWords m g) ≡ stored (withEngine s (cond b (raised g) (started (raised g)))) m
+  requested-by : (b : Bool) (g : ℕ)
+      → cond (not b) (startedWords (raisedWords m g) z) (raisedWords m g) ≡ stored (withEngine s (cond b (raised g) (started (raised g)))) m
   requested-by true g = raised-stored g
   requested-by false g =
       stored-then u (withEngine u (started (u .engine))) m (raisedWords m g) (startedWords (raisedWords m g) z) refl (raised-stored g)
@@ -129,7 +133,8 @@ module _ (s : State) (w : Shape s) where
   pub shape-ended : Shape (withEngine s (ended (s .engine)))
   unfolding ended
   shape-ended =
-      shape-either (later (up (s .engine .current)) (s .engine .largest)) (withCurrent (up (s .engine .current)) (s .engine)) (shape-engine s (withCurrent (up (s .engine .current)) (s .engine)) w refl (λ x. refl))
+      shape-either (later (up (s .engine .current)) (s .engine .largest)) (withCurrent (up (s .engine .current)) (s .engine))
+      (shape-engine s (withCurrent (up (s .engine .current)) (s .engine)) w refl (λ x. refl))
 
   pub shape-requested : (g : ℕ) → Shape (withEngine s (requested g (s .engine)))
   unfolding requested

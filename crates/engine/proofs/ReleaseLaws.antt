@@ -57,9 +57,12 @@ module _ (s : State) (m : List ℕ) (shows : Shows m s) (each : LaneAtEach s) (c
   pub released-stored : releasedWords m (s .sizes) l ≡ stored (withEngine s (released lane-number (s .engine))) m
   unfolding releasedWords released
   released-stored =
-      stored-then u (withEngine u (passedEngine u dropped (shows-then u m dropped (shows .long) first-stored) each-u c p inCabinets inPlaces fewCabinets fewPlaces (laneAt (u .engine) lane-number .pending))) m dropped (passedWords dropped (s .sizes) l) refl first-stored
+      stored-then u (withEngine u (passedEngine u dropped
+      (shows-then u m dropped (shows .long) first-stored) each-u c p inCabinets inPlaces fewCabinets fewPlaces
+      (laneAt (u .engine) lane-number .pending))) m dropped (passedWords dropped (s .sizes) l) refl first-stored
       (passed-stored u dropped (shows-then u m dropped (shows .long) first-stored) each-u c p inCabinets inPlaces fewCabinets fewPlaces)
-      ∙ ap₂ (λ (b : Bool) (x : List Lane). stored (withEngine s (cond (b && not (runs (withLanes x (s .engine)))) (ended (withLanes x (s .engine))) (withLanes x (s .engine)))) m) same-bit
+      ∙ ap₂ (λ (b : Bool) (x : List Lane). stored
+      (withEngine s (cond (b && not (runs (withLanes x (s .engine)))) (ended (withLanes x (s .engine))) (withLanes x (s .engine)))) m) same-bit
       (update-update (s .engine .lanes) lane-number unsampled unawaited)
 
 -- ---- the shape stays

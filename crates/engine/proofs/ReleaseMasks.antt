@@ -48,7 +48,8 @@ module _ (s : State) (m : List ℕ) (shows : Shows m s) (each : LaneAtEach s) (c
       elim (decide k p) [
         | same e q u ↦
             ap (λ (l : Lane). l .pending) (getD-update (s .engine .lanes) i (c * z .places + k) unawaited freshLane (omega (arith, each, within)))
-            ∙ ap (λ (d : Bool). cond d (unawaited (laneAt (s .engine) i)) (laneAt (s .engine) (c * z .places + k)) .pending) (eq-eqb (c * z .places + k) i (omega arith))
+            ∙ ap (λ (d : Bool). cond d (unawaited (laneAt (s .engine) i)) (laneAt (s .engine) (c * z .places + k)) .pending)
+            (eq-eqb (c * z .places + k) i (omega arith))
             ∙ sym (ap (λ (d : Bool). cond d false (pendingAt s c k)) q)
         | other e q u ↦
             ap (λ (l : Lane). l .pending) (getD-update-other freshLane (s .engine .lanes) i unawaited (c * z .places + k) (λ r. e (omega arith)))
@@ -61,11 +62,15 @@ module _ (s : State) (m : List ℕ) (shows : Shows m s) (each : LaneAtEach s) (c
   pub mask-other : (k : ℕ) → k ≢ c → laneMask t k ≡ laneMask s k
   mask-other k d =
       ap maskOf
-      (map-from-alike (pendingAt t k) (pendingAt s k) 0 (z .places) (λ q a b. ap (λ (l : Lane). l .pending) (getD-update-other freshLane (s .engine .lanes) i unawaited (k * z .places + q) (other-row k c (z .places) q p d (omega arith) inPlaces))))
+      (map-from-alike (pendingAt t k) (pendingAt s k) 0 (z .places)
+      (λ q a b. ap (λ (l : Lane). l .pending)
+      (getD-update-other freshLane (s .engine .lanes) i unawaited (k * z .places + q) (other-row k c (z .places) q p d (omega arith) inPlaces))))
 
   -- the cabinet mask, by the flags of its cabinets
   byCabinets : (x : State) → x .sizes ≡ z → cabinetMask x ≡ maskOf (map (λ (k : ℕ). isNotZero (laneMask x k)) (from 0 (z .cabinets)))
-  byCabinets x e = ap maskOf (map-map-from isNotZero (laneMask x) 0 (x .sizes .cabinets)) ∙ ap (λ (y : Sizes). maskOf (map (λ (k : ℕ). isNotZero (laneMask x k)) (from 0 (y .cabinets)))) e
+  byCabinets x e =
+      ap maskOf (map-map-from isNotZero (laneMask x) 0 (x .sizes .cabinets))
+      ∙ ap (λ (y : Sizes). maskOf (map (λ (k : ℕ). isNotZero (laneMask x k)) (from 0 (y .cabinets)))) e
 
   -- it loses the cabinet's bit when the lane mask is 0
   pub cabinet-last : laneMask t c ≡ 0 → withoutBit c (cabinetMask s) ≡ cabinetMask t
@@ -95,6 +100,7 @@ module _ (s : State) (m : List ℕ) (shows : Shows m s) (each : LaneAtEach s) (c
       go k =
           elim (decide k c) [
             | same e q u ↦
-                ap (λ (j : ℕ). isNotZero (laneMask s j)) e ∙ ap not (ne-eqb (laneMask s c) 0 some) ∙ sym (ap (λ (j : ℕ). isNotZero (laneMask t j)) e ∙ ap not (ne-eqb (laneMask t c) 0 h))
+                ap (λ (j : ℕ). isNotZero (laneMask s j)) e ∙ ap not (ne-eqb (laneMask s c) 0 some)
+                ∙ sym (ap (λ (j : ℕ). isNotZero (laneMask t j)) e ∙ ap not (ne-eqb (laneMask t c) 0 h))
             | other e q u ↦ ap isNotZero (sym (mask-other k e))
           ]

@@ -82,8 +82,10 @@ module _ (s : State) (m : List ℕ) (shows : Shows m s) (each : LaneAtEach s) (c
           getD-set-other (set m (masksAt + c) w) cabinetMaskAt (masksAt + k) v 0 (λ e. omega arith)
           ∙ elim (decide k c) [
             | same e q u ↦
-                ap (λ (j : ℕ). at (set m (masksAt + c) w) (masksAt + j)) e ∙ getD-set-same m (masksAt + c) w 0 (omega (arith, shows .long)) ∙ ap (laneMask t) (sym e)
-            | other e q u ↦ getD-set-other m (masksAt + c) (masksAt + k) w 0 (λ r. e (omega arith)) ∙ shows .image (mask k) b ∙ sym (mask-other s m shows each c p inCabinets inPlaces fewCabinets fewPlaces k e)
+                ap (λ (j : ℕ). at (set m (masksAt + c) w) (masksAt + j)) e ∙ getD-set-same m (masksAt + c) w 0 (omega (arith, shows .long))
+                ∙ ap (laneMask t) (sym e)
+            | other e q u ↦ getD-set-other m (masksAt + c) (masksAt + k) w 0 (λ r. e (omega arith)) ∙ shows .image (mask k) b
+                ∙ sym (mask-other s m shows each c p inCabinets inPlaces fewCabinets fewPlaces k e)
           ]
       image (lane j k) b = kept w v (laneAddress z j + k) (λ e. omega arith) (λ e. omega arith) ∙ shows .image (lane j k) b
       image (slot j k) b = kept w v (slotAddress z j + k) (λ e. omega arith) (λ e. omega arith) ∙ shows .image (slot j k) b
@@ -93,7 +95,9 @@ module _ (s : State) (m : List ℕ) (shows : Shows m s) (each : LaneAtEach s) (c
 
   cleared-stored : laneAt (s .engine) i .pending ≡ true → clearedWords m c p ≡ stored t m
   unfolding clearedWords
-  cleared-stored set′ = ap (clearedBy m c) (ap (withoutBit p) (shows .image (mask c) inCabinets) ∙ mask-own s m shows each c p inCabinets inPlaces fewCabinets fewPlaces) ∙ go (eqb (laneMask t c) 0) refl
+  cleared-stored set′ =
+      ap (clearedBy m c) (ap (withoutBit p) (shows .image (mask c) inCabinets) ∙ mask-own s m shows each c p inCabinets inPlaces fewCabinets fewPlaces)
+      ∙ go (eqb (laneMask t c) 0) refl
     where
       n : List ℕ
       n = set m (masksAt + c) (laneMask t c)
@@ -102,11 +106,15 @@ module _ (s : State) (m : List ℕ) (shows : Shows m s) (each : LaneAtEach s) (c
       read = getD-set-other m (masksAt + c) cabinetMaskAt (laneMask t c) 0 (λ e. omega arith) ∙ mask-shown s m shows
 
       go : (b : Bool) → eqb (laneMask t c) 0 ≡ b
-          → cond b (set (set m (masksAt + c) (laneMask t c)) cabinetMaskAt (withoutBit c (at (set m (masksAt + c) (laneMask t c)) cabinetMaskAt))) (set m (masksAt + c) (laneMask t c)) ≡ stored t m
-      go true e = ap (set n cabinetMaskAt) (ap (withoutBit c) read ∙ cabinet-last s m shows each c p inCabinets inPlaces fewCabinets fewPlaces (eqb-true (laneMask t c) 0 e)) ∙ two-stored
+          → cond b (set (set m (masksAt + c) (laneMask t c)) cabinetMaskAt (withoutBit c (at (set m (masksAt + c) (laneMask t c)) cabinetMaskAt)))
+          (set m (masksAt + c) (laneMask t c)) ≡ stored t m
+      go true e =
+          ap (set n cabinetMaskAt) (ap (withoutBit c) read
+          ∙ cabinet-last s m shows each c p inCabinets inPlaces fewCabinets fewPlaces (eqb-true (laneMask t c) 0 e)) ∙ two-stored
       go false e =
           sym (set-getD n cabinetMaskAt 0)
-          ∙ ap (set n cabinetMaskAt) (read ∙ cabinet-more s m shows each c p inCabinets inPlaces fewCabinets fewPlaces set′ (λ q. clash (eq-eqb (laneMask t c) 0 q) e))
+          ∙ ap (set n cabinetMaskAt) (read ∙ cabinet-more s m shows each c p inCabinets inPlaces fewCabinets fewPlaces set′
+          (λ q. clash (eq-eqb (laneMask t c) 0 q) e))
           ∙ two-stored
 
   each-t : LaneAtEach t
@@ -127,4 +135,5 @@ module _ (s : State) (m : List ℕ) (shows : Shows m s) (each : LaneAtEach s) (c
       go false e =
           sym (stored-shown s m shows)
           ∙ ap (λ (x : List Lane). stored (withEngine s (withLanes x (s .engine))) m)
-          (sym (update-same freshLane (s .engine .lanes) i unawaited (ap (λ (b : Bool). setPending b (laneAt (s .engine) i .snapshot) (laneAt (s .engine) i)) (sym e))))
+          (sym (update-same freshLane (s .engine .lanes) i unawaited
+          (ap (λ (b : Bool). setPending b (laneAt (s .engine) i .snapshot) (laneAt (s .engine) i)) (sym e))))

@@ -23,7 +23,8 @@ module _ (m : List ℕ) (c p i r : ℕ) (e : i ≡ c) (f : r ≡ withoutBit p (a
   cleared : cond (eqb r 0) (set n cabinetMaskAt (withoutBit c (at n cabinetMaskAt))) n ≡ clearedWords m c p
   unfolding clearedWords
   cleared =
-      ap (λ (j : ℕ). cond (eqb r 0) (set (set m (masksAt + j) r) cabinetMaskAt (withoutBit c (at (set m (masksAt + j) r) cabinetMaskAt))) (set m (masksAt + j) r)) e
+      ap (λ (j : ℕ). cond (eqb r 0) (set (set m (masksAt + j) r) cabinetMaskAt (withoutBit c (at (set m (masksAt + j) r) cabinetMaskAt)))
+      (set m (masksAt + j) r)) e
       ∙ ap (clearedBy m c) (f ∙ ap (λ (j : ℕ). withoutBit p (at m (masksAt + j))) e)
 
   -- the last bit of the cabinet went, or another is left

@@ -72,7 +72,8 @@ module _ (s : State) (m : List ℕ) (shows : Shows m s) (i : ℕ) (h : i < laneC
       ∙ ap (λ (ls : List Lane). stored (withEngine s (withLanes ls (s .engine))) m)
       (sym (update-same freshLane (s .engine .lanes) i sampled (ap (λ (d : Bool). cond d (setPending true (held (l .quiescent)) l) l) e)))
 
-module _ (s : State) (m : List ℕ) (shows : Shows m s) (each : LaneAtEach s) (c p : ℕ) (inCabinets : c < s .sizes .cabinets) (inPlaces : p < s .sizes .places) where
+module _ (s : State) (m : List ℕ) (shows : Shows m s) (each : LaneAtEach s) (c p : ℕ) (inCabinets : c < s .sizes .cabinets)
+    (inPlaces : p < s .sizes .places) where
   abbrev z : Sizes
   z = s .sizes
 
@@ -94,7 +95,8 @@ module _ (s : State) (m : List ℕ) (shows : Shows m s) (each : LaneAtEach s) (c
 -- ---- the shape stays
 
 sampled-kept : (l : Lane) (b : Bool) → (l .pending && not (isHeld (l .snapshot))) ≡ b
-    → (cond b (setPending true (held (l .quiescent)) l) l .pending ≡ l .pending) × (laneQueues (cond b (setPending true (held (l .quiescent)) l) l) ≡ laneQueues l)
+    → (cond b (setPending true (held (l .quiescent)) l) l .pending ≡ l .pending)
+    × (laneQueues (cond b (setPending true (held (l .quiescent)) l) l) ≡ laneQueues l)
 sampled-kept l true e = (sym (and-true (l .pending) (not (isHeld (l .snapshot))) e .0), refl)
 sampled-kept l false e = (refl, refl)
 

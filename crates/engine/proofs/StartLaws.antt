@@ -100,7 +100,8 @@ module _ (s : State) (m : List ℕ) (shows : Shows m s) (each : LaneAtEach s) wh
       elim (decide k cabinetMaskAt) [
         | same e q u ↦
             ap (at (startedWords m z)) e
-            ∙ getD-set-same (masksSet m z (z .cabinets)) cabinetMaskAt (waitingFor m z (z .cabinets)) 0 (omega (arith, shows .long, length-masksSet m z (z .cabinets)))
+            ∙ getD-set-same (masksSet m z (z .cabinets)) cabinetMaskAt (waitingFor m z (z .cabinets)) 0
+            (omega (arith, shows .long, length-masksSet m z (z .cabinets)))
             ∙ cabinet-started
             ∙ sym (ap (λ (d : Bool). cond d (cabinetMask t) (value s (top k))) q)
         | other e q u ↦

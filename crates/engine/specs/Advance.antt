@@ -7,7 +7,8 @@ use lib.ListN.{length, set}
 use lib.Dec.{eqb, ltb}
 use Rattle.model.specs.Word.{up, later}
 use Rattle.model.specs.State.{Sizes}
-use Rattle.model.specs.Layout.{currentOffset, doneOffset, queuesWidth, currentGenerationAt, cabinetMaskAt, globalQueuesAt, globalGenerationAt, generationAt, queuesAt}
+use Rattle.model.specs.Layout.{currentOffset, doneOffset, queuesWidth, currentGenerationAt, cabinetMaskAt}
+use Rattle.model.specs.Layout.{globalQueuesAt, globalGenerationAt, generationAt, queuesAt}
 use Rattle.model.specs.Memory.{at}
 use Rattle.words.specs.Lent.{Lent}
 use Rattle.queues.specs.Queue.{joined}

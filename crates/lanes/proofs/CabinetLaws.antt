@@ -95,7 +95,8 @@ module _ (m : List ℕ) (a : ℕ) where
       ∙ set-sets (recordWords (recordAt m a)) m a 0 w (omega arith)
 
   -- flags and snapshot words anew
-  stored-snapshot : (w x y z v : ℕ) → sets (set m a w) (a + snapshotAt) (x ∷ y ∷ z ∷ v ∷ []) ≡ sets m a (sets (set (recordWords (recordAt m a)) 0 w) snapshotAt (x ∷ y ∷ z ∷ v ∷ []))
+  stored-snapshot : (w x y z v : ℕ)
+      → sets (set m a w) (a + snapshotAt) (x ∷ y ∷ z ∷ v ∷ []) ≡ sets m a (sets (set (recordWords (recordAt m a)) 0 w) snapshotAt (x ∷ y ∷ z ∷ v ∷ []))
   unfolding recordWords recordAt
   stored-snapshot w x y z v =
       ap (λ (l : List ℕ). sets l (a + snapshotAt) (x ∷ y ∷ z ∷ v ∷ [])) (stored-flags w)
@@ -104,7 +105,8 @@ module _ (m : List ℕ) (a : ℕ) where
   pub changed-sampled : changedAt m a Sample ≡ sampledAt m a
   unfolding changedRecord recordWords recordAt sampledRecord sampledAt
   changed-sampled =
-      sym (stored-snapshot (withBit snapshotBit (at m a)) (at m (a + quiescentAt)) (at m (a + quiescentAt + 1)) (at m (a + quiescentAt + 2)) (at m (a + quiescentAt + 3)))
+      sym (stored-snapshot (withBit snapshotBit (at m a)) (at m (a + quiescentAt)) (at m (a + quiescentAt + 1)) (at m (a + quiescentAt + 2))
+      (at m (a + quiescentAt + 3)))
 
   pub changed-dropped : changedAt m a Drop ≡ droppedAt m a
   unfolding changedRecord recordWords recordAt droppedRecord droppedAt
@@ -148,7 +150,8 @@ module _ (m : List ℕ) (a n : ℕ) where
   part-online k h =
       let inner : (p : ℕ) → a + (0 + placeAt p) ≡ a + placeAt p = λ p. omega arith in
       ap mask
-      (map-from-alike (onlineAt part 0) (onlineAt m a) 0 k (λ p x y. ap (flag onlineBit) (getD-part m a n (0 + placeAt p) 0 (omega arith) ∙ ap (at m) (inner p))))
+      (map-from-alike (onlineAt part 0) (onlineAt m a) 0 k
+      (λ p x y. ap (flag onlineBit) (getD-part m a n (0 + placeAt p) 0 (omega arith) ∙ ap (at m) (inner p))))
 
 -- ---- by what the code worked out: the part has i places, of which the lane's is j
 

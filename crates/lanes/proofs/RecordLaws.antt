@@ -16,7 +16,8 @@ use Rattle.laws.specs.ListLaws.{length-update}
 use Rattle.laws.specs.Stores.{getD-sets-below, map-sets, sets-same}
 use Rattle.masks.proofs.BitLaws.{withBit-mask, withoutBit-mask}
 use Rattle.lanes.proofs.Offsets.{plus-1, plus-2, plus-3, plus-4, plus-5, plus-9, plus-10, plus-16}
-use Rattle.lanes.specs.Record.{endsAt, endsWords, lookupWordsAt, lookupWords, recordAt, recordWith, recordWords, recordStored, recordOf, withQuiescent, withSnapshot, countedRecord, sampledRecord, droppedRecord}
+use Rattle.lanes.specs.Record.{endsAt, endsWords, lookupWordsAt, lookupWords, recordAt, recordWith, recordWords}
+use Rattle.lanes.specs.Record.{recordStored, recordOf, withQuiescent, withSnapshot, countedRecord, sampledRecord, droppedRecord}
 use Rattle.lanes.specs.declared.Ends.{Ends}
 use Rattle.lanes.specs.declared.Lookup.{Lookup}
 use Rattle.lanes.specs.declared.LaneRecord.{LaneRecord}
@@ -50,7 +51,8 @@ counts-back (x ∷ (y ∷ (z ∷ (w ∷ (v ∷ c))))) h = absurd (omega arith)
 recordAt-recordWords : (r : LaneRecord) → length (r .quiescent) ≡ kinds → length (r .snapshot) ≡ kinds → recordAt (recordWords r) 0 ≡ r
 unfolding recordAt recordWords
 recordAt-recordWords r hq hs =
-    ap₂ (λ (q x : List ℕ). recordWith (recordWords r) 0 q x (r .next) (r .current) (r .done) (r .lookup)) (counts-back (r .quiescent) hq) (counts-back (r .snapshot) hs)
+    ap₂ (λ (q x : List ℕ). recordWith (recordWords r) 0 q x (r .next) (r .current) (r .done) (r .lookup)) (counts-back (r .quiescent) hq)
+    (counts-back (r .snapshot) hs)
 
 -- a record that was written reads back
 pub recordAt-recordStored : (m : List ℕ) (a : ℕ) (r : LaneRecord) → a + laneLength ≤ length m → length (r .quiescent) ≡ kinds → length (r .snapshot) ≡ kinds
@@ -69,7 +71,8 @@ unfolding recordAt
 recordAt-parts m a q s n c d l eq es en ec ed el = rw (eq, es, en, ec, ed, el)
 
 -- and written part by part
-pub recordStored-parts : (m : List ℕ) (a : ℕ) (r : LaneRecord) (x y n c d l : List ℕ) → x ≡ sets (set m a (r .flags)) (a + quiescentAt) (readCounts (r .quiescent) 0)
+pub recordStored-parts : (m : List ℕ) (a : ℕ) (r : LaneRecord) (x y n c d l : List ℕ) → x ≡ sets (set m a (r .flags)) (a + quiescentAt)
+    (readCounts (r .quiescent) 0)
     → y ≡ sets x (a + snapshotAt) (readCounts (r .snapshot) 0)
     → n ≡ sets (set y (a + generationAt) (r .generation)) (a + queuesAt) (endsWords (r .next))
     → c ≡ sets n (a + queuesAt + currentOffset) (endsWords (r .current))
@@ -100,4 +103,5 @@ recordOf-sampled l b =
 
 pub recordOf-dropped : (l : Lane) (b : Bool) → recordOf (setPending b unheld l) ≡ droppedRecord (recordOf l)
 unfolding droppedRecord recordAt laneWords snapshotCount isHeld flags
-recordOf-dropped l b = ap (λ (w : ℕ). withSnapshot w (0 ∷ 0 ∷ 0 ∷ 0 ∷ []) (recordOf l)) (sym (withoutBit-mask (laneFlags l) (omega arith) snapshotBit (omega arith)))
+recordOf-dropped l b = ap (λ (w : ℕ). withSnapshot w (0 ∷ 0 ∷ 0 ∷ 0 ∷ []) (recordOf l))
+    (sym (withoutBit-mask (laneFlags l) (omega arith) snapshotBit (omega arith)))

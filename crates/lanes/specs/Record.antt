@@ -8,7 +8,8 @@ use lib.Dec.{eqb}
 use Rattle.model.specs.Word.{upTo}
 use Rattle.model.specs.Lists.{update}
 use Rattle.model.specs.State.{Lane}
-use Rattle.model.specs.Layout.{countLimit, lastOffset, currentOffset, doneOffset, quiescentAt, snapshotAt, generationAt, queuesAt, lookupAt, onlineBit, snapshotBit}
+use Rattle.model.specs.Layout.{countLimit, lastOffset, currentOffset, doneOffset, quiescentAt, snapshotAt}
+use Rattle.model.specs.Layout.{generationAt, queuesAt, lookupAt, onlineBit, snapshotBit}
 use Rattle.model.specs.Memory.{at, flag, readCounts, laneWords}
 use Rattle.masks.specs.Bits.{withBit, withoutBit}
 use Rattle.lanes.specs.declared.Ends.{Ends}

@@ -38,7 +38,8 @@ module _ (m : List ℕ) (l : Lane) (k : LaneIn m l) where
     off-by q = q ∙ ap (offWords m (sizesOf (l .sizes))) e ∙ ap (λ (x : code-sizes.Sizes). offWords m (sizesOf x) (placeOf (sizesOf x) i)) (k .named .sizes)
 
     pub clock-by : n ≡ clockWords m (sizesOf (l .sizes)) p → n ≡ tickWords m i
-    clock-by q = q ∙ ap (clockWords m (sizesOf (l .sizes))) e ∙ ap (λ (x : code-sizes.Sizes). clockWords m (sizesOf x) (placeOf (sizesOf x) i)) (k .named .sizes)
+    clock-by q =
+        q ∙ ap (clockWords m (sizesOf (l .sizes))) e ∙ ap (λ (x : code-sizes.Sizes). clockWords m (sizesOf x) (placeOf (sizesOf x) i)) (k .named .sizes)
 
   -- ---- the state after it
 

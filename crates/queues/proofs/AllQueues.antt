@@ -141,7 +141,8 @@ module _ (xss : List (List ℕ)) (k : ℕ) (inside : k < length xss) (once : (i 
           rw e
           (elim (decide j x) [
             | same a t s ↦
-                let z : count j (concat (update xss k tail)) + count j (x ∷ xs) ≡ count j (concat xss) + count j xs = rw e at (count-concat-update xss k j tail inside) in
+                let z : count j (concat (update xss k tail)) + count j (x ∷ xs) ≡ count j (concat xss) + count j xs =
+                rw e at (count-concat-update xss k j tail inside) in
                 let w : 1 + count j xs ≡ count j (x ∷ xs) = rw t in
                 rw t (successorIn-out (update xss k tail) j none (omega (arith, once j)))
             | other a t s ↦ rw t (successorIn-update xss k j tail none (λ d. rw (e, s)))

@@ -122,6 +122,7 @@ module _ (s : State) (m : List ℕ) (shows : Shows m s) (shape : Shape s) where
           (omega (arith, put-out filled shape-filled (chainNumber c) old k-below old-in x x-inside x-out)))
           ∙ ap (λ (u : State). stored u m) (replace-steps s i c d t)
 
-      pub replace-words : (n : ℕ) (f : Found) → n ≡ at m freeAt → f ≡ searchWords z m c → replacedWords z m i n c d t f ≡ stored (performed s (replace i c d t)) m
+      pub replace-words : (n : ℕ) (f : Found) → n ≡ at m freeAt → f ≡ searchWords z m c
+          → replacedWords z m i n c d t f ≡ stored (performed s (replace i c d t)) m
       replace-words n f e g =
           ap₂ (λ (y : ℕ) (g : Found). replacedWords z m i y c d t g) (e ∙ first-shown s m shows free tt) (g ∙ find-present s m shows shape c here) ∙ replaced-at

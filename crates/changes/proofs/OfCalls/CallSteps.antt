@@ -60,7 +60,8 @@ module _ (s : State) where
   add-steps i c d t = refl
 
   pub replace-steps : (i c d t : ℕ)
-      → retiredState i (slotOf (s .table) c) (chainSwapped (chainNumber c) (slotOf (s .table) c) (first (s .table .free)) (filledState (first (s .table .free)) c d t))
+      → retiredState i (slotOf (s .table) c) (chainSwapped (chainNumber c) (slotOf (s .table) c) (first (s .table .free))
+      (filledState (first (s .table .free)) c d t))
       ≡ performed s (replace i c d t)
   unfolding performed replaced
   replace-steps i c d t = refl

@@ -129,7 +129,8 @@ module _ (s : State) (m : List ℕ) (shows : Shows m s) (shape : Shape s) where
       ∙ ap (λ (u : State). stored u m) (hand-back-steps s i some)
 
   -- else the global one
-  pub hand-back-global-words : (i n : ℕ) → isEmpty (laneOf s i .queues .done) ≡ true → isEmpty (s .engine .global .done) ≡ false → n ≡ at m (endsAt z (global done))
+  pub hand-back-global-words : (i n : ℕ) → isEmpty (laneOf s i .queues .done) ≡ true → isEmpty (s .engine .global .done) ≡ false
+      → n ≡ at m (endsAt z (global done))
       → reclaimedWords z m (global done) n ≡ stored (performed s (hand-back i)) m
   hand-back-global-words i n empty some e =
       ap (reclaimedWords z m (global done)) (e ∙ first-shown s m shows (global done) tt) ∙ reclaimed-words (global done) tt some

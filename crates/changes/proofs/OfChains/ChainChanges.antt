@@ -75,7 +75,8 @@ module _ (s : State) (m : List ℕ) (shows : Shows m s) where
         (λ f d. headed-same z (headsWith s c l) new (λ j i. h j ∙ rw e (same-head j)) f d
         ∙ linked-put z chainLinkAt (chainLinksWith s c l) u (value s) p x g f d))
       where
-        same-head : (j : ℕ) → cond (eqb j k) (first (getD (s .table .chains) k [])) (first (getD (s .table .chains) j [])) ≡ first (getD (s .table .chains) j [])
+        same-head : (j : ℕ)
+            → cond (eqb j k) (first (getD (s .table .chains) k [])) (first (getD (s .table .chains) j [])) ≡ first (getD (s .table .chains) j [])
         same-head j =
             elim (decide j k) [
               | same q t v ↦ rw t (ap (λ (i : ℕ). first (getD (s .table .chains) i [])) (sym q))

@@ -102,5 +102,6 @@ module _ (s : State) (w : Shape s) (k o : ℕ) (below : k < chainCount) (inChain
     count-swapped-all i = omega (arith, count-concat-update (t .chains) k i (swapped o n) k-inside, count-swapped i o n chain inChain)
 
     pub links-swapped : (j : ℕ) → j < s .sizes .slots
-        → chainLinksWith s (update (t .chains) k (swapped o n)) (set (t .links) o (linkOf t o)) j ≡ cond (eqb j before) n (cond (eqb j n) (linkOf t o) (linkOf t j))
+        → chainLinksWith s (update (t .chains) k (swapped o n)) (set (t .links) o (linkOf t o)) j
+        ≡ cond (eqb j before) n (cond (eqb j n) (linkOf t o) (linkOf t j))
     links-swapped j b = replace-links (t .chains) k k-inside once-all (t .links) o none-out inChain kept-inside n out (real n inside) j (real j b)

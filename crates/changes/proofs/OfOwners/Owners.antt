@@ -160,7 +160,8 @@ current-next e = let z : _≡_ {A = ℕ} 0 1 = cc in omega arith
 pub withQueues-same : (s : State) (o : Owner) → withQueues o (queuesBy s o) s ≡ s
 withQueues-same s allLanes = refl
 withQueues-same s (oneLane i) =
-    ap (λ (ls : List Lane). withEngine s (withLanes ls (s .engine))) (update-same freshLane (s .engine .lanes) i (setQueues (laneAt (s .engine) i .queues)) refl)
+    ap (λ (ls : List Lane). withEngine s (withLanes ls (s .engine)))
+    (update-same freshLane (s .engine .lanes) i (setQueues (laneAt (s .engine) i .queues)) refl)
 
 module _ (s : State) (m : List ℕ) (shows : Shows m s) (w : Shape s) (o : Owner) (known : Known (s .sizes) o) where
   abbrev q : Queues
@@ -177,4 +178,5 @@ module _ (s : State) (m : List ℕ) (shows : Shows m s) (w : Shape s) (o : Owner
       → set (joinedWords (s .sizes) m o current next) (generationBy (s .sizes) o) g ≡ stored (withQueues o (batched g q) s) m
   batch-stored g e =
       move-queue s m shows w current next current-next g o known
-      ∙ ap (λ (xs : List ℕ). stored (withQueues o (record { next = []; current = xs ++ q .next; done = q .done; generation = g }) s) m) (isEmpty-true (q .current) e)
+      ∙ ap (λ (xs : List ℕ). stored (withQueues o (record { next = []; current = xs ++ q .next; done = q .done; generation = g }) s) m)
+      (isEmpty-true (q .current) e)

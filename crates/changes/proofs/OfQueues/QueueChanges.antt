@@ -91,7 +91,8 @@ module _ (s : State) (m : List ℕ) (shows : Shows m s) (w : Shape s) (q : Queue
 
   -- they are the links h and the first of the longer queue
   pub followed-values : (x : ℕ) (h : ℕ → ℕ) → ((j : ℕ) → j ≢ none → h j ≡ cond (eqb j (last (queueOf s q))) x (successorIn (allQueues s) j none))
-      → (f : Field) → Inside z f → put (linked queueLinkAt h (value s)) (firstField q) (cond (isEmpty (queueOf s q)) x (first (queueOf s q))) f ≡ followedValue x f
+      → (f : Field) → Inside z f
+      → put (linked queueLinkAt h (value s)) (firstField q) (cond (isEmpty (queueOf s q)) x (first (queueOf s q))) f ≡ followedValue x f
   unfolding isEmpty last slotWords
   followed-values x h e f b = go (queueOf s q) refl
     where

@@ -32,7 +32,8 @@ use Rattle.changes.proofs.OfQueues.QueueChanges.{few-none, queues-once,
 use Rattle.changes.proofs.OfQueues.QueueTakes.{first-writes, last-writes}
 
 -- queue r is appended to queue q, and is empty afterwards
-module _ (s : State) (m : List ℕ) (shows : Shows m s) (w : Shape s) (q r : Queue) (namedQ : Named (s .sizes) q) (namedR : Named (s .sizes) r) (apart : q ≢ r) where
+module _ (s : State) (m : List ℕ) (shows : Shows m s) (w : Shape s) (q r : Queue) (namedQ : Named (s .sizes) q) (namedR : Named (s .sizes) r)
+    (apart : q ≢ r) where
   abbrev z : Sizes
   z = s .sizes
 
@@ -41,13 +42,15 @@ module _ (s : State) (m : List ℕ) (shows : Shows m s) (w : Shape s) (q r : Que
   longer = withQueue q (λ xs. xs ++ queueOf s r) s
 
   -- the queue links then
-  links-joined : (j : ℕ) → j ≢ none → linksWith longer (λ xs. []) r j ≡ cond (eqb j (last (queueOf s q))) (first (queueOf s r)) (successorIn (allQueues s) j none)
+  links-joined : (j : ℕ) → j ≢ none
+      → linksWith longer (λ xs. []) r j ≡ cond (eqb j (last (queueOf s q))) (first (queueOf s r)) (successorIn (allQueues s) j none)
   links-joined j n =
       ap (λ (xss : List (List ℕ)). successorIn (update xss (position r) (λ xs. [])) j none) (allQueues-withQueue s q (λ xs. xs ++ queueOf s r))
       ∙ ap (λ (xss : List (List ℕ)). successorIn xss j none)
       (update-commutes (allQueues s) (position q) (position r) (λ xs. xs ++ queueOf s r) (λ xs. []) (position-apart q r apart))
       ∙ ap (λ (ys : List ℕ). successorIn (update (update (allQueues s) (position r) (λ xs. [])) (position q) (λ xs. xs ++ ys)) j none) (sym (allQueues-at s r))
-      ∙ join-links (allQueues s) (position q) (position r) (position-apart q r apart) (position-inside s q (w .lanes) namedQ) (position-inside s r (w .lanes) namedR)
+      ∙ join-links (allQueues s) (position q) (position r) (position-apart q r apart) (position-inside s q (w .lanes) namedQ)
+      (position-inside s r (w .lanes) namedR)
       (queues-once s w) j n
       ∙ rw (allQueues-at s q, allQueues-at s r)
 

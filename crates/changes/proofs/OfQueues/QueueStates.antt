@@ -39,7 +39,8 @@ lanes-withQueue s (lane i p) f h = length-update (s .engine .lanes) i (atPart p 
 
 -- how often slots stand then
 module _ (s : State) (q : Queue) (f : List ℕ → List ℕ) where
-  pub queued-withQueue : LaneAtEach s → Named (s .sizes) q → (x : ℕ) → queued x (withQueue q f s) + count x (queueOf s q) ≡ queued x s + count x (f (queueOf s q))
+  pub queued-withQueue : LaneAtEach s → Named (s .sizes) q → (x : ℕ)
+      → queued x (withQueue q f s) + count x (queueOf s q) ≡ queued x s + count x (f (queueOf s q))
   queued-withQueue w h x =
       rw (allQueues-withQueue s q f) (rw (sym (allQueues-at s q)) (count-concat-update (allQueues s) (position q) x f (position-inside s q w h)))
 

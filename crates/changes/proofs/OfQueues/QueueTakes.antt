@@ -62,7 +62,8 @@ module _ (s : State) (m : List ℕ) (shows : Shows m s) (w : Shape s) (q : Queue
   unfolding first slotWords
   taken-link x xs e =
       linked-put-one z queueLinkAt (linksWith s tail q) (value s) x none
-      (λ j b. take-links (allQueues s) (position q) (position-inside s q (w .lanes) named) (queues-once s w) j (slot-real s w j b) ∙ rw (allQueues-at s q) (rw e))
+      (λ j b. take-links (allQueues s) (position q) (position-inside s q (w .lanes) named) (queues-once s w) j (slot-real s w j b)
+      ∙ rw (allQueues-at s q) (rw e))
 
   link-writes : (x : ℕ) (xs : List ℕ) → queueOf s q ≡ x ∷ xs → Writes z m (lessLink x) (lessValue x)
   link-writes x xs e =
@@ -111,5 +112,6 @@ module _ (s : State) (m : List ℕ) (shows : Shows m s) (w : Shape s) (q : Queue
       go : (xs : List ℕ) → queueOf s q ≡ xs → lessFirst m z (endsAt z q) ≡ stored (withQueue q tail s) m
       go [] e =
           rw (first-shown s m shows q named)
-          (rw e (rw (le-ltb none (z .slots) (few-none s w)) (sym (stored-shown s m shows) ∙ ap (λ (t : State). stored t m) (sym (withQueue-same s q tail (rw e))))))
+          (rw e (rw (le-ltb none (z .slots) (few-none s w))
+          (sym (stored-shown s m shows) ∙ ap (λ (t : State). stored t m) (sym (withQueue-same s q tail (rw e))))))
       go (x ∷ xs) e = lessFirst-cons x xs e ∙ begun-taken x xs e

@@ -119,7 +119,8 @@ returns c =
     let second : tie.After-write-counts2 = search in
     let first : tie.After-write-counts = search in
     let entry = entry-first first in
-    recordStored-parts (now (entry .args .m)) (entry .args .at) (entry .args .r) _ _ _ _ _ _ (first .write-counts .ensures) (second .write-counts2 .ensures) (third .write-ends .ensures) (fourth .write-ends2 .ensures) (fifth .write-ends3 .ensures) (sixth .write-lookup .ensures)
+    recordStored-parts (now (entry .args .m)) (entry .args .at) (entry .args .r) _ _ _ _ _ _ (first .write-counts .ensures) (second .write-counts2 .ensures)
+    (third .write-ends .ensures) (fourth .write-ends2 .ensures) (fifth .write-ends3 .ensures) (sixth .write-lookup .ensures)
 
 pub write-lane-spec : {M : Type 1} → statement M
 write-lane-spec =

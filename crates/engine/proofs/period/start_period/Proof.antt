@@ -46,7 +46,8 @@ loop-again c =
     let s = entry .args in
     let l = at-loop .loop in (
       omega arith,
-      one-more (now (s .m)) (sizesOf (s .z)) (l .c) (at-loop-test .loop-test .taken) (entry .pre .few .cabinets) (l .m) _ (l .waiting) _ (l .inv .1 .1 .0) (l .inv .1 .1 .1)
+      one-more (now (s .m)) (sizesOf (s .z)) (l .c) (at-loop-test .loop-test .taken) (entry .pre .few .cabinets) (l .m) _ (l .waiting) _ (l .inv .1 .1 .0)
+          (l .inv .1 .1 .1)
           (at-await-cabinet .await-cabinet .ensures),
     )
 

@@ -31,7 +31,8 @@ returns c =
     let entry : tie.Start = search in
     let s = entry .args in
     at-write-lane .write-lane .ensures
-    ∙ ap (recordStored (now (s .cabinet)) (placeAt (s .place))) (at-changed .changed .ensures ∙ ap (changedRecord (s .change)) (at-read-lane .read-lane .ensures))
+    ∙ ap (recordStored (now (s .cabinet)) (placeAt (s .place)))
+    (at-changed .changed .ensures ∙ ap (changedRecord (s .change)) (at-read-lane .read-lane .ensures))
 
 pub change-in-spec : {M : Type 1} → statement M
 change-in-spec =
