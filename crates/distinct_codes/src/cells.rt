@@ -23,9 +23,6 @@ const HIGH_FACTOR: u64 = 1969992241;
 
 const DROPPED: u64 = 1048576;
 
-// one more than the largest word
-const WORD_LIMIT: u64 = 4294967296;
-
 pub struct Met {
     pub ok: bool,
     pub count: usize,
@@ -35,7 +32,8 @@ pub struct Met {
 fn spread(code: u64, few: bool) -> usize
     ensures { λ r. ⌜ Begins few code r ⌝ }
 {
-    let h = (code % WORD_LIMIT * LOW_FACTOR + code / WORD_LIMIT * HIGH_FACTOR) / DROPPED;
+    let h = (code % words::WORD_LIMIT * LOW_FACTOR + code / words::WORD_LIMIT * HIGH_FACTOR)
+        / DROPPED;
     if few {
         (h % FEW) as usize
     } else {

@@ -1,12 +1,12 @@
 -- The order of generations (document 01, "Generations and passes", first lines): for words it is irreflexive and asymmetric, and tells a generation, the one
 -- before and the one after apart, at the wrap too.
-use Prim.Native.Nat.{ℕ, _≤_, _<_}
+use Prim.Native.Nat.{ℕ, _-_, _≤_, _<_}
 use mathlib.Core.Path.{_≡_, refl}
 use mathlib.Core.Bool.{true, false}
 use native.Mathlib.Omega.{arith}
 use lib.Dec.{leb}
 use borrow.Author.Tests.{leb-true, lt-leb}
-use Rattle.model.specs.Word.{wordLimit, up, down, less, later}
+use Rattle.model.specs.Word.{wordLimit, up, down, less, farthest, later}
 use Rattle.laws.specs.Tests.{and-true, and-false-right}
 
 -- ---- the neighbours
@@ -21,7 +21,7 @@ module _ {c : ℕ} (h : c < wordLimit) where
 -- ---- the order
 
 -- the generation after the largest word is 0, and it is later
-pub wrapped-later : later 0 4294967295 ≡ true
+pub wrapped-later : later 0 (wordLimit - 1) ≡ true
 unfolding later
 wrapped-later = refl
 
@@ -33,7 +33,7 @@ module _ {c : ℕ} (h : c < wordLimit) where
 
   pub later-up : later c (up c) ≡ false
   unfolding later
-  later-up = let e : less c (up c) ≡ 4294967295 = omega arith in rw e
+  later-up = let e : less c (up c) ≡ wordLimit - 1 = omega arith in rw e
 
   pub up-later : later (up c) c ≡ true
   unfolding later
@@ -55,14 +55,8 @@ module _ {c : ℕ} (h : c < wordLimit) where
 pub later-asym : {a b : ℕ} → a < wordLimit → b < wordLimit → later a b ≡ true → later b a ≡ false
 unfolding later
 later-asym {a} {b} ha hb e =
-    let t = and-true (leb 1 (less a b)) (leb (less a b) 2147483647) e in
+    let t = and-true (leb 1 (less a b)) (leb (less a b) farthest) e in
     let p : 1 ≤ less a b = leb-true 1 (less a b) (t .0) in
-    let q : less a b ≤ 2147483647 = leb-true (less a b) 2147483647 (t .1) in
-    let r : 2147483647 < less b a = omega arith in
-    rw (lt-leb (less b a) 2147483647 r) (and-false-right (leb 1 (less b a)))
-
--- ---- the wrap
-
-pub zero-later : later 0 4294967295 ≡ true
-unfolding later
-zero-later = refl
+    let q : less a b ≤ farthest = leb-true (less a b) farthest (t .1) in
+    let r : farthest < less b a = omega arith in
+    rw (lt-leb (less b a) farthest r) (and-false-right (leb 1 (less b a)))

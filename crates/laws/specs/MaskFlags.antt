@@ -10,6 +10,7 @@ use lib.Arith.{lt-one}
 use lib.Pow.{pow-pos, pow-lt, pow-mono, split, shl-exact}
 use lib.Bits.{bitAnd, bitOr, and-block, and-step, and-zero-r, and-mask, or-add-and}
 use lib.Count.{ones, ones-step, trailingZeros, under, trailing-of-zero}
+use Rattle.model.specs.Word.{wordBits}
 use Rattle.model.specs.Lists.{any, mask, bit}
 use Rattle.model.specs.Memory.{flag}
 use Rattle.laws.specs.Tests.{clash}
@@ -18,9 +19,9 @@ use Rattle.laws.specs.Masks.{bit-flag, pow-twice, bit-pow, mask-mod, mas
 
 -- ---- one flag set, tested, cleared
 
--- a bit shifted to place p, in a word of 32 digits
-pub shl-bit : (p : ℕ) → p < 32 → (1 * 2 ^ p) % 2 ^ 32 ≡ 2 ^ p
-shl-bit p h = shl-exact 1 p 32 (omega arith) (omega arith) ∙ omega arith
+-- a bit shifted to place p, in a word
+pub shl-bit : (p : ℕ) → p < wordBits → (1 * 2 ^ p) % 2 ^ wordBits ≡ 2 ^ p
+shl-bit p h = shl-exact 1 p wordBits (omega arith) (omega arith) ∙ omega arith
 
 pub mask-set : (bs : List Bool) (p : ℕ) (b : Bool) → p < length bs → mask (set bs p b) + bit (getD bs p false) * 2 ^ p ≡ mask bs + bit b * 2 ^ p
 unfolding mask

@@ -3,12 +3,13 @@ use Prim.Native.Nat.{ℕ}
 use mathlib.Core.Bool.{Bool, true, false}
 use mathlib.Core.List.{List, map}
 use lib.ListN.{set}
+use Rattle.model.specs.Word.{wordBits}
 use Rattle.model.specs.Lists.{from, mask}
 use Rattle.model.specs.Memory.{flag}
 
 -- the number of bits of a word
 abbrev pub width : ℕ
-width = 32
+width = wordBits
 
 -- the flags of w, bit 0 first
 abbrev pub bits : ℕ → List Bool

@@ -40,7 +40,7 @@ pub fn ones(mask: u32) -> u32
     u32::count_ones(mask)
 }
 
-// The place of the lowest set bit of a mask; 32 where no bit is set.
+// The place of the lowest set bit of a mask; the width where no bit is set.
 pub fn lowest(mask: u32) -> u32
     ensures { λ r. ⌜ r ≡ firstTrue (bits mask) ⌝ }
 {
@@ -63,10 +63,13 @@ pub fn down(g: u32) -> u32
     std::num::wrapping_sub_u32(g, 1)
 }
 
+// The most by which a generation is later than another.
+const FARTHEST: u32 = 2147483647;
+
 // Whether generation a is later than b.
 pub fn later(a: u32, b: u32) -> bool
     ensures { λ r. ⌜ r ≡ Word·later a b ⌝ }
 {
     let d = std::num::wrapping_sub_u32(a, b);
-    1 <= d && d <= 2147483647
+    1 <= d && d <= FARTHEST
 }

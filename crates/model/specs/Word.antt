@@ -7,6 +7,10 @@ use lib.Dec.{leb}
 abbrev pub wordLimit : ℕ
 wordLimit = 4294967296
 
+-- the number of its bits
+abbrev pub wordBits : ℕ
+wordBits = 32
+
 -- the word that stands for no slot and no lane
 abbrev pub none : ℕ
 none = 4294967295
@@ -27,6 +31,10 @@ down a = (a + (wordLimit - 1)) % wordLimit
 abbrev pub less : ℕ → ℕ → ℕ
 less a b = (a + (wordLimit - b)) % wordLimit
 
+-- the most by which a generation is later than another
+abbrev pub farthest : ℕ
+farthest = 2147483647
+
 -- generation a is later than b: a less b, wrapping, lies in 1 to 2,147,483,647
 unfoldable pub later : ℕ → ℕ → Bool
-later a b = leb 1 (less a b) && leb (less a b) 2147483647
+later a b = leb 1 (less a b) && leb (less a b) farthest

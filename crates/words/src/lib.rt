@@ -15,6 +15,9 @@ ghost use Rattle.model.specs.Calls.{sized};
 ghost use Rattle.model.specs.Memory.{wide, wholeOf, low as lowWord, high as highWord};
 ghost use Rattle.words.specs.Lent.{sizesOf, sizesIn, Few};
 
+// one more than the largest word
+pub const WORD_LIMIT: u64 = 4294967296;
+
 // no slot, no lane
 pub const NONE: u32 = 4294967295;
 
@@ -193,7 +196,7 @@ pub fn index(x: u32) -> usize
 pub fn whole(low: u32, high: u32) -> u64
     ensures { λ r. ⌜ r ≡ wholeOf low high ⌝ }
 {
-    (low as u64) + 4294967296 * (high as u64)
+    (low as u64) + WORD_LIMIT * (high as u64)
 }
 
 // The 64-bit number whose low word stands at i.
@@ -208,12 +211,12 @@ pub fn code_at(m: &[u32], i: usize) -> u64
 pub fn low(x: u64) -> u32
     ensures { λ r. ⌜ r ≡ lowWord x ⌝ }
 {
-    (x % 4294967296) as u32
+    (x % WORD_LIMIT) as u32
 }
 
 // The high word of a 64-bit number.
 pub fn high(x: u64) -> u32
     ensures { λ r. ⌜ r ≡ highWord x ⌝ }
 {
-    (x / 4294967296) as u32
+    (x / WORD_LIMIT) as u32
 }

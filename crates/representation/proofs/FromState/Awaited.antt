@@ -8,7 +8,7 @@ use native.Mathlib.Omega.{arith}
 use native.Mathlib.Nat.{mul-comm}
 use lib.ListN.{length, getD, length-map, List·getD-map}
 use lib.Count.{ones, trailingZeros}
-use Rattle.model.specs.Word.{none}
+use Rattle.model.specs.Word.{wordBits, none}
 use Rattle.model.specs.Lists.{bit, first, any, concat, from, mask}
 use Rattle.model.specs.State.{laneCount, Lane, State}
 use Rattle.model.specs.Engine.{freshLane, isPending, laneAt, runs}
@@ -95,13 +95,13 @@ module _ (s : State) (l : length (s .engine .lanes) ≡ laneCount (s .sizes)) wh
     some-upper = sym (some-concat rows) ∙ ap some concat-flags ∙ some-flags ∙ h
 
     abbrev lowest : ℕ
-    lowest = trailingZeros 32 (cabinetMask s)
+    lowest = trailingZeros wordBits (cabinetMask s)
 
     length-upper : length (upper rows) ≡ C
     length-upper = length-map rows some ∙ length-map-from row 0 C
 
     lowest-first : lowest ≡ firstTrue (upper rows)
-    lowest-first = ap (trailingZeros 32) cabinetMask-upper ∙ trailing-mask 32 (upper rows) (omega (arith, length-upper, fit .fewCabinets)) some-upper
+    lowest-first = ap (trailingZeros wordBits) cabinetMask-upper ∙ trailing-mask wordBits (upper rows) (omega (arith, length-upper, fit .fewCabinets)) some-upper
 
     lowest-lt : lowest < C
     lowest-lt = omega (arith, lowest-first, firstTrue-lt (upper rows) some-upper, length-upper)
@@ -111,7 +111,7 @@ module _ (s : State) (l : length (s .engine .lanes) ≡ laneCount (s .sizes)) wh
         sym (ap (λ (bs : List Bool). getD bs lowest false) (map-map-from some row 0 C) ∙ getD-map-below (λ (c : ℕ). some (row c)) C lowest false lowest-lt)
         ∙ ap (λ (c : ℕ). getD (upper rows) c false) lowest-first ∙ getD-firstTrue (upper rows) some-upper
 
-    pub awaited-lowest : first (pendingFrom 0 lanes) ≡ lowest * M + trailingZeros 32 (laneMask s lowest)
+    pub awaited-lowest : first (pendingFrom 0 lanes) ≡ lowest * M + trailingZeros wordBits (laneMask s lowest)
     awaited-lowest =
         first-pendingFrom 0 lanes
         ∙ ap (λ (b : Bool). cond b (0 + firstTrue (map isPending lanes)) none) (some-flags ∙ h)
@@ -129,5 +129,5 @@ module _ (s : State) (l : length (s .engine .lanes) ≡ laneCount (s .sizes)) wh
         first-row : firstTrue (getD rows (firstTrue (upper rows)) []) ≡ firstTrue (row lowest)
         first-row = ap (λ (c : ℕ). firstTrue (getD rows c [])) (sym lowest-first) ∙ ap firstTrue (getD-map-below row C lowest [] lowest-lt)
 
-        place : trailingZeros 32 (laneMask s lowest) ≡ firstTrue (row lowest)
-        place = trailing-mask 32 (row lowest) (omega (arith, length-map-from (pendingAt s lowest) 0 M, fit .fewPlaces)) some-row
+        place : trailingZeros wordBits (laneMask s lowest) ≡ firstTrue (row lowest)
+        place = trailing-mask wordBits (row lowest) (omega (arith, length-map-from (pendingAt s lowest) 0 M, fit .fewPlaces)) some-row

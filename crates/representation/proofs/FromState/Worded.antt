@@ -13,6 +13,7 @@ use Rattle.model.specs.Lists.{from, mask}
 use Rattle.model.specs.State.{Sizes, Lookup, idle, running, Snapshot, unheld, held, Lane, Engine, State, isHeld, isRunning}
 use Rattle.model.specs.Layout.{maxPlaces, total}
 use Rattle.model.specs.Engine.{laneAt}
+use Rattle.model.specs.Word.{wordBits}
 use Rattle.model.specs.Memory.{Words, at, low, high, contents, flags, pendingAt, laneWords, slotWords, lookupCode, snapshotCount, words}
 use Rattle.model.specs.Calls.{stored}
 use Rattle.laws.specs.Tests.{_&_}
@@ -42,7 +43,7 @@ module _ (s : State) (w : WellFormed s) where
   slot-word x (inr h) = omega arith
 
   mask-word : (g : ℕ → Bool) (n : ℕ) → n ≤ maxPlaces → Word (mask (map g (from 0 n)))
-  mask-word g n h = let k : n < 32 = omega arith in let p : 2 ^ n < 2 ^ 32 = pow-lt {j = 32} k in omega (arith, mask-from-lt g n)
+  mask-word g n h = let k : n < wordBits = omega arith in let p : 2 ^ n < 2 ^ wordBits = pow-lt {j = wordBits} k in omega (arith, mask-from-lt g n)
 
   largest-word : Level e → Word (e .largest)
   largest-word (rests r b p) = b
