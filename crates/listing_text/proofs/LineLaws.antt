@@ -8,14 +8,15 @@ use native.Mathlib.Omega.{arith}
 use lib.Dec.{eqb}
 use Rattle.model.specs.Lists.{all}
 use Rattle.listing_text.specs.Number.{space, isNumber, value}
-use Rattle.listing_text.specs.Call.{Parsed, bad, longer, wordsOf, asked, ofWords, parsed}
-use Rattle.listing_text.specs.Machine.{naming, started, grown, ended, fed, fedAll, packedFrom, commandOf, askedOf, requested, finished}
-use Rattle.listing_text.specs.LineReading.{parsedOf, Reads, Finishes}
+use Rattle.listing_text.specs.Call.{Parsed, bad, Command, longer, wordsOf, asked, ofWords, parsed}
+use Rattle.listing_text.specs.Machine.{naming, started, grown, ended, fed, fedAll, packedFrom, commandOf, within, askedOf, requested, finished, limitsOf}
+use Rattle.listing_text.specs.LineReading.{parsedOf, Requests, Reads, Finishes}
 use Rattle.listing_text.specs.declared.line.Line.{Line}
 use Rattle.listing_text.specs.declared.line.Asked.{Asked}
-use Rattle.listing_text.specs.declared.line.Command.{Command}
+use Rattle.listing_text.specs.declared.line.Request.{Request}
 use Rattle.listing_text.proofs.Bools.{cond-same}
 use Rattle.listing_text.proofs.MachineLaws.{ended-unnamed, grownAll, wordsFed, word-bad}
+use Rattle.listing_text.proofs.LimitLaws.{askedOf-within, askedOf-other}
 use Rattle.listing_text.proofs.ReachLaws.{asked-unknown}
 use Rattle.listing_text.proofs.ArgumentLaws.{asks, arguments-read}
 use Rattle.listing_text.proofs.CommandLaws.{Commanded, Uncommanded, command-read}
@@ -92,6 +93,15 @@ pub reads-parsed : {l : Line} (bs : List ℕ) → Reads l bs → finished l ≡ 
 reads-parsed bs h = ap finished h ∙ parses bs
 
 -- ---- the end of the line
+
+-- what a command asks for with numbers that are within its limits, and with others
+pub fits-asked : {c : Command} {vs : List ℕ} {r : Request} (n : ℕ) (b : Bool) → Requests c vs r → b ≡ within (limitsOf (r .0) (r .1)) n vs → b ≡ true
+    → parsedOf (r .2) ≡ askedOf c n vs
+fits-asked {c} {vs} n b q e t = q .asked ∙ askedOf-within c n vs (rw (q .limits) (sym e ∙ t))
+
+pub fits-not : {c : Command} {vs : List ℕ} {r : Request} (n : ℕ) (b : Bool) → Requests c vs r → b ≡ within (limitsOf (r .0) (r .1)) n vs → b ≡ false
+    → bad ≡ askedOf c n vs
+fits-not {c} {vs} n b q e f = askedOf-other c n vs (rw (q .limits) (sym e ∙ f))
 
 pub finishes : {l : Line} {r : Asked} → parsedOf r ≡ finished l → Finishes l r
 finishes e = record { machine = e; reads = λ bs h. e ∙ reads-parsed bs h }
