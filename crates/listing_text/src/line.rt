@@ -10,10 +10,10 @@ use crate::SPACE;
 use calls::Call;
 use calls::Op;
 
-// The largest number of 32 bits, and of 64.
+// The largest number of 32 bits, how many there are, and the largest of 64 bits.
 const WORD: u64 = 4294967295;
 
-const WORDS: u64 = 4294967296;
+const WORDS: u64 = WORD + 1;
 
 const CODE: u64 = 18446744073709551615;
 
@@ -283,14 +283,13 @@ fn asked_of(word: u64, given: usize, values: [u64; ROOM]) -> Asked
 {
     let request = request_of(word, values);
     if fits(request.0, request.1, given, values) {
-        let asked = request.2;
-        asked
+        request.2
     } else {
         Asked::Bad
     }
 }
 
-// The commands.
+// The commands, each with its call. An argument is cut to 32 bits, which changes none that fits; the second may be a code, which is not cut.
 fn request_of(word: u64, values: [u64; ROOM]) -> Request
     ensures { λ r. ⌜ Requests (commandOf word) values r ⌝ }
 {

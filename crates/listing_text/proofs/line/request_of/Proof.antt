@@ -1,21 +1,15 @@
--- Each key is the letters of a name in base 256, and the arm asks for what the command of that name does: both sides compute.
+-- Each key is the letters of a name in base 256, and its arm asks for what the command of that name does: both sides compute. A word that is no key is
+-- not the letters of any name.
 use borrow.Author.Needs.{needs}
-use mathlib.Core.Path.{_≡_, refl}
+use mathlib.Core.Path.{refl}
 use lib.Dec.{lit≤}
 use Rattle.listing_text.specs.Number.{bytes}
-use Rattle.listing_text.specs.Call.{commands, unknown}
+use Rattle.listing_text.specs.Call.{commands}
 use Rattle.listing_text.specs.Machine.{packedFrom, lookupPacked, commandOf, handed}
 use Rattle.listing_text.specs.LineReading.{parsedOf}
 use Rattle.listing_text.proofs.CommandLaws.{command-differs}
 use Rattle.listing_text.proofs.line.request_of.Statement.{statement}
 use Rattle.listing_text.proofs.line.request_of.Tie as tie
-
--- a word that is no key
-other : tie.Need-returns-15
-unfolding bytes commands packedFrom parsedOf handed
-other c =
-    let entry : tie.Start = search in
-    rw (command-differs _ (entry .args .word) (c .match .rest)) (record { few = lit≤ tt; limits = refl; asked = refl })
 
 pub request-of-spec : {M : Type 1} → statement M
 unfolding bytes commands packedFrom lookupPacked commandOf parsedOf handed
@@ -44,4 +38,6 @@ request-of-spec =
     (λ c. rw (c .match .keys12) (record { few = lit≤ tt; limits = refl; asked = refl }))
     (λ c. rw (c .match .keys13) (record { few = lit≤ tt; limits = refl; asked = refl }))
     (λ c. rw (c .match .keys14) (record { few = lit≤ tt; limits = refl; asked = refl }))
-    other)
+    (λ c.
+    let entry : tie.Start = search in
+    rw (command-differs _ (entry .args .word) (c .match .rest)) (record { few = lit≤ tt; limits = refl; asked = refl })))
