@@ -10,7 +10,8 @@ use Rattle.listing_text.specs.Answer.{lineText, badText}
 use Rattle.listing.specs.Output.{answered, after, answeredAll, afterAll, ended, unended, lastLine, linesOf, output}
 
 prints : String → List ℕ
-unfolding bytes isEmpty all same isNumber value valueFrom decimal decimalIn longer wordsOf commands lookup taken asked ofWords parsed lineText badText answered after answeredAll afterAll ended unended lastLine linesOf output
+unfolding bytes isEmpty all same isNumber value valueFrom decimal decimalIn longer wordsOf commands lookup taken asked ofWords parsed
+    lineText badText answered after answeredAll afterAll ended unended lastLine linesOf output
 prints s = output [] (bytes s)
 
 -- no line in, no line out

@@ -93,10 +93,14 @@ too-many w n vs v ns e h =
     let g : min n (length vs) + suc (length ns) ≡ length (commandOf w .limits) = simp (length-append, length-take) at q in
     omega arith)
 
+-- after n numbers of vs the machine reads the arguments ws as what they ask for
+abbrev ReadsOn : ℕ → List (List ℕ) → ℕ → List ℕ → Type 0
+ReadsOn w ws n vs = length vs ≡ 4 → n ≤ 4 → requested (wordsFed (arguing w n vs 0 false) ws) ≡ asks (commandOf w) (take n vs) ws
+
 -- one argument more, given what those after it ask for
 argument-more : (w n : ℕ) (vs : List ℕ) (b : ℕ) (x : List ℕ) (ws : List (List ℕ)) → length vs ≡ 4
     → (all isDigit (b ∷ x) ≡ true) ⊎ (all isDigit (b ∷ x) ≡ false) → Dec (value (b ∷ x) < 2 ^ 64) → Dec (n < 4)
-    → (length (set vs n (value (b ∷ x))) ≡ 4 → n + 1 ≤ 4 → requested (wordsFed (arguing w (n + 1) (set vs n (value (b ∷ x))) 0 false) ws) ≡ asks (commandOf w) (take (n + 1) (set vs n (value (b ∷ x)))) ws)
+    → ReadsOn w ws (n + 1) (set vs n (value (b ∷ x)))
     → requested (wordsFed (arguing w n vs 0 false) ((b ∷ x) ∷ ws)) ≡ asks (commandOf w) (take n vs) ((b ∷ x) ∷ ws)
 unfolding wordsFed
 argument-more w n vs b x ws e (inr f) j k ih =
@@ -115,10 +119,10 @@ argument-more w n vs b x ws e (inl t) (yes j) (yes k) ih =
     ∙ ap (λ (ns : List ℕ). asks (commandOf w) ns ws) (take-more n (value (b ∷ x)) vs e k)
     ∙ sym (asks-number (commandOf w) (take n vs) (b ∷ x) ws (is-number b x ∙ t))
 
-pub arguments-read : (w : ℕ) (ws : List (List ℕ)) (n : ℕ) (vs : List ℕ) → length vs ≡ 4 → n ≤ 4
-    → requested (wordsFed (arguing w n vs 0 false) ws) ≡ asks (commandOf w) (take n vs) ws
+pub arguments-read : (w : ℕ) (ws : List (List ℕ)) (n : ℕ) (vs : List ℕ) → ReadsOn w ws n vs
 arguments-read w [] n vs e h = arguments-none w n vs h
 arguments-read w ([] ∷ ws) n vs e h =
     end-bad (arguing w n vs 0 false) [] ws (argument-empty w n vs) ∙ sym (asks-no-number (commandOf w) (take n vs) [] ws no-number)
 arguments-read w ((b ∷ x) ∷ ws) n vs e h =
-    argument-more w n vs b x ws e (either (all isDigit (b ∷ x))) (decLt (value (b ∷ x)) (2 ^ 64)) (decLt n 4) (arguments-read w ws (n + 1) (set vs n (value (b ∷ x))))
+    argument-more w n vs b x ws e (either (all isDigit (b ∷ x))) (decLt (value (b ∷ x)) (2 ^ 64)) (decLt n 4)
+    (arguments-read w ws (n + 1) (set vs n (value (b ∷ x))))

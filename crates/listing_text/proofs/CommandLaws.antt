@@ -146,12 +146,15 @@ grown-refused p b w e =
     ap (λ x. grownAll x w .bad) (grown-unnamed (naming p) b refl refl ∙ e)
     ∙ ap (λ x. x .bad) (grownAll-bad (refused (naming p)) w refl)
 
-name-read : (w : List ℕ) (p : ℕ) → (grownAll (naming p) w .bad ≡ true) ⊎ NamedBy p w
+abbrev NameRead : ℕ → List ℕ → Type 0
+NameRead p w = (grownAll (naming p) w .bad ≡ true) ⊎ NamedBy p w
+
+name-read : (w : List ℕ) (p : ℕ) → NameRead p w
 unfolding grownAll packedFrom all
 name-read [] p = inr (record { letters = refl; line = refl })
 name-read (b ∷ w) p = go (decLe 97 b) (decLe b 122) (decLt p (2 ^ 48)) (name-read w (p * 256 + b))
   where
-    go : Dec (97 ≤ b) → Dec (b ≤ 122) → Dec (p < 2 ^ 48) → (grownAll (naming (p * 256 + b)) w .bad ≡ true) ⊎ NamedBy (p * 256 + b) w → (grownAll (naming p) (b ∷ w) .bad ≡ true) ⊎ NamedBy p (b ∷ w)
+    go : Dec (97 ≤ b) → Dec (b ≤ 122) → Dec (p < 2 ^ 48) → NameRead (p * 256 + b) w → NameRead p (b ∷ w)
     go (no h) k j r = inl (grown-refused p b w (lettered-below (naming p) b (omega arith)))
     go (yes h) (no k) j r = inl (grown-refused p b w (lettered-above (naming p) b h (omega arith)))
     go (yes h) (yes k) (no j) r = inl (grown-refused p b w (lettered-full (naming p) b h k (omega arith)))

@@ -122,7 +122,9 @@ handed-taken (l ∷ ls) k i vs (n ∷ ns) h e =
 pub askedOf-within : (c : Command) (n : ℕ) (vs : List ℕ) → within (c .limits) n vs ≡ true → handed (c .limits) (c .makes) 0 vs ≡ askedOf c n vs
 unfolding within askedOf asked
 askedOf-within c n vs h =
-    handed-taken (c .limits) (c .makes) 0 vs (take n vs) (and-right (leb n 4) (fit (c .limits) (take n vs)) h) (λ j q. let t : length (take n vs) ≡ min n (length vs) = length-take n vs in sym (rw zero-add (getD-take n vs j 0 (omega arith))))
+    handed-taken (c .limits) (c .makes) 0 vs (take n vs) (and-right (leb n 4) (fit (c .limits) (take n vs)) h)
+    (λ j q. let t : length (take n vs) ≡ min n (length vs) = length-take n vs in
+    sym (rw zero-add (getD-take n vs j 0 (omega arith))))
     ∙ sym (ap (λ (t : Bool). cond t (taken (c .limits) (c .makes) (take n vs)) bad) (and-left (leb n 4) (fit (c .limits) (take n vs)) h))
 
 pub askedOf-other : (c : Command) (n : ℕ) (vs : List ℕ) → within (c .limits) n vs ≡ false → bad ≡ askedOf c n vs

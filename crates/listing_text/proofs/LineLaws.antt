@@ -69,12 +69,15 @@ longer-fed : (l : Line) (b : ℕ) (ws : List (List ℕ)) → Cons ws → wordsFe
 unfolding wordsFed grownAll longer
 longer-fed l b ws k = rw (k .is)
 
-bytes-words : (l : Line) (bs : List ℕ) → finished (fedAll l bs) ≡ requested (wordsFed l (wordsOf bs))
+abbrev Fuses : Line → List ℕ → Type 0
+Fuses l bs = finished (fedAll l bs) ≡ requested (wordsFed l (wordsOf bs))
+
+bytes-words : (l : Line) (bs : List ℕ) → Fuses l bs
 unfolding finished fed fedAll wordsOf wordsFed grownAll
 bytes-words l [] = refl
 bytes-words l (b ∷ bs) = go (eqb b space) refl (bytes-words (ended l) bs) (bytes-words (grown l b) bs)
   where
-    go : (t : Bool) → eqb b space ≡ t → finished (fedAll (ended l) bs) ≡ requested (wordsFed (ended l) (wordsOf bs)) → finished (fedAll (grown l b) bs) ≡ requested (wordsFed (grown l b) (wordsOf bs))
+    go : (t : Bool) → eqb b space ≡ t → Fuses (ended l) bs → Fuses (grown l b) bs
         → finished (fedAll (fed l b) bs) ≡ requested (wordsFed l (cond (eqb b space) ([] ∷ wordsOf bs) (longer b (wordsOf bs))))
     go true e p q = rw e p
     go false e p q = rw e (q ∙ ap requested (longer-fed l b (wordsOf bs) (words-cons bs)))

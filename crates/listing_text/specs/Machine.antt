@@ -35,7 +35,8 @@ abbrev pub withValue : Line → ℕ → Line
 withValue l v = record { bad = l .bad; named = l .named; word = l .word; digits = true; value = v; given = l .given; values = l .values }
 
 abbrev pub withArgument : Line → Line
-withArgument l = record { bad = l .bad; named = l .named; word = l .word; digits = false; value = 0; given = l .given + 1; values = set (l .values) (l .given) (l .value) }
+withArgument l =
+    record { bad = l .bad; named = l .named; word = l .word; digits = false; value = 0; given = l .given + 1; values = set (l .values) (l .given) (l .value) }
 
 abbrev pub withName : Line → Line
 withName l = record { bad = l .bad; named = true; word = l .word; digits = l .digits; value = l .value; given = l .given; values = l .values }
