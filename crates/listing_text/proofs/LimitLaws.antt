@@ -1,4 +1,5 @@
--- The limits of a command's arguments against the machine's tests: as many as the shape's count, each number below its own.
+-- The limits of a command's arguments against the machine's tests: as many as the command takes, each number below its own. Numbers that fit are not
+-- changed when they are cut to their widths, and others ask for nothing.
 use Prim.Native.Nat.{ℕ, zero, suc, _+_, _^_, _≤_, _<_, min}
 use mathlib.Core.Bool.{Bool, true, false, cond, _&&_}
 use mathlib.Core.List.{List, [], _∷_}
