@@ -21,7 +21,8 @@ use Rattle.listing.specs.declared.answers.Unended.{Unended}
 -- ---- a line that has ended
 
 -- the five words of a call
-pub prints-call : {m m' xs ys : List ℕ} {at e : ℕ} (k : Call) (r : Answer) → Does k m r m' → PutsWithin lineLength xs at (lineText (five r)) ys e → Prints m (call k) xs at m' ys e
+pub prints-call : {m m' xs ys : List ℕ} {at e : ℕ} (k : Call) (r : Answer) → Does k m r m' → PutsWithin lineLength xs at (lineText (five r)) ys e
+    → Prints m (call k) xs at m' ys e
 unfolding answered after
 prints-call {m} {m'} {xs} {ys} {at} {e} k r d t =
     record { text = subst (λ (w : List ℕ). PutsWithin lineLength xs at w ys e) (ap lineText (d .answer)) t; memory = d .memory }

@@ -31,7 +31,8 @@ unfolding unended
 unended-append p [] ys = refl
 unended-append p (b ∷ xs) ys = go (eqb newline b) refl (unended-append [] xs ys) (unended-append (p ++ b ∷ []) xs ys)
   where
-    go : (t : Bool) → eqb newline b ≡ t → unended [] (xs ++ ys) ≡ unended (unended [] xs) ys → unended (p ++ b ∷ []) (xs ++ ys) ≡ unended (unended (p ++ b ∷ []) xs) ys
+    go : (t : Bool) → eqb newline b ≡ t → unended [] (xs ++ ys) ≡ unended (unended [] xs) ys
+        → unended (p ++ b ∷ []) (xs ++ ys) ≡ unended (unended (p ++ b ∷ []) xs) ys
         → unended p (b ∷ xs ++ ys) ≡ unended (unended p (b ∷ xs)) ys
     go true e h k = rw e h
     go false e h k = rw e k
@@ -58,7 +59,8 @@ unfolding ended member firstLine
 line-ended p [] h = absurd (let w : _≡_ {A = ℕ} 0 1 = cc in omega arith)
 line-ended p (b ∷ bs) h = go (eqb newline b) refl (line-ended (p ++ b ∷ []) bs)
   where
-    go : (t : Bool) → eqb newline b ≡ t → (member newline bs ≡ true → ended (p ++ b ∷ []) (take (suc (length (firstLine bs))) bs) ≡ (p ++ b ∷ [] ++ firstLine bs) ∷ [])
+    go : (t : Bool) → eqb newline b ≡ t
+        → (member newline bs ≡ true → ended (p ++ b ∷ []) (take (suc (length (firstLine bs))) bs) ≡ (p ++ b ∷ [] ++ firstLine bs) ∷ [])
         → ended p (take (suc (length (firstLine (b ∷ bs)))) (b ∷ bs)) ≡ (p ++ firstLine (b ∷ bs)) ∷ []
     go true e k = rw e (ap (λ (l : List ℕ). l ∷ []) (sym (append-nil p)))
     go false e k = rw e (k (rw e at h) ∙ ap (λ (l : List ℕ). l ∷ []) (append-assoc p (b ∷ []) (firstLine bs)))

@@ -17,7 +17,8 @@ use Rattle.listing.specs.Output.{answered, answeredAll, afterAll, ended,
 use Rattle.listing.specs.ProgramContract.{Prints, Holds, Answers, Goes, AnswersLine}
 use Rattle.listing.specs.declared.answers.Unended.{Unended}
 use Rattle.listing.specs.declared.answers.Place.{Place}
-use Rattle.listing.proofs.LinesInParts.{ended-append, unended-append, answeredAll-append, afterAll-append, line-ended, line-unended, part-ended, part-unended, slice-take, slice-slice}
+use Rattle.listing.proofs.LinesInParts.{ended-append, unended-append, answeredAll-append, afterAll-append}
+use Rattle.listing.proofs.LinesInParts.{line-ended, line-unended, part-ended, part-unended, slice-take, slice-slice}
 use Rattle.listing.proofs.AnswerLaws.{holds-as, begun-append, answered-one, after-one, answered-nothing, after-nothing}
 
 puts-none : (xs : List ℕ) (at : ℕ) → Puts xs at [] xs at
@@ -58,9 +59,10 @@ module _ (m block xs : List ℕ) (a : Place) where
       both p x y =
           let s : List ℕ = slice (a .next) (b .next) block in
           let t : List ℕ = slice (b .next) (c .next) block in
-          let e : slice (a .next) (c .next) block ≡ slice (a .next) (b .next) block ++ slice (b .next) (c .next) block = slice-slice (a .next) (b .next) (c .next) block (g .on) (h .on) (h .inside) in
+          let e : slice (a .next) (c .next) block ≡ s ++ t = slice-slice (a .next) (b .next) (c .next) block (g .on) (h .on) (h .inside) in
           let ls : ended p (slice (a .next) (c .next) block) ≡ ended p s ++ ended (unended p s) t = ap (ended p) e ∙ ended-append p s t in
-          let n : m₂ ≡ afterAll (afterAll m (ended p s)) (ended (unended p s) t) = y .memory ∙ ap (λ (w : List ℕ). afterAll w (ended (unended p s) t)) (x .memory) in
+          let n : m₂ ≡ afterAll (afterAll m (ended p s)) (ended (unended p s) t) =
+          y .memory ∙ ap (λ (w : List ℕ). afterAll w (ended (unended p s) t)) (x .memory) in
           record {
             unended = holds-as (sym (ap (unended p) e ∙ unended-append p s t)) (y .unended);
             text =
@@ -89,7 +91,8 @@ module _ (m block xs : List ℕ) (a : Place) where
         paced = omega (arith, l .short, d .further h);
       }
     where
-      one : (p : List ℕ) → ended p (slice (a .next) (f .next) block) ≡ (p ++ firstLine (drop (a .next) block)) ∷ [] → unended p (slice (a .next) (f .next) block) ≡ []
+      one : (p : List ℕ) → ended p (slice (a .next) (f .next) block) ≡ (p ++ firstLine (drop (a .next) block)) ∷ []
+          → unended p (slice (a .next) (f .next) block) ≡ []
           → Prints m (parsed (p ++ firstLine (drop (a .next) block))) xs (a .end) m' ys e
           → Answers m xs (a .end) p (slice (a .next) (f .next) block) m' ys (record { unended = u; next = f .next; end = e })
       one p x y r =

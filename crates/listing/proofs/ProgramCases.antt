@@ -5,12 +5,13 @@ use Prim.Native.Nat.{ℕ}
 use Prim.Native.String.{String}
 use Rattle.model.specs.Lists.{isEmpty, all, same}
 use Rattle.listing_text.specs.Number.{bytes, isNumber, value, valueFrom, decimal, decimalIn}
-use Rattle.listing_text.specs.Call.{longer, wordsOf, names, lookup, limits, fit, callOf, asked, ofWords, parsed}
+use Rattle.listing_text.specs.Call.{longer, wordsOf, commands, lookup, taken, asked, ofWords, parsed}
 use Rattle.listing_text.specs.Answer.{lineText, badText}
 use Rattle.listing.specs.Output.{answered, after, answeredAll, afterAll, ended, unended, lastLine, linesOf, output}
 
 prints : String → List ℕ
-unfolding bytes isEmpty all same isNumber value valueFrom decimal decimalIn longer wordsOf names lookup limits fit callOf asked ofWords parsed lineText badText answered after answeredAll afterAll ended unended lastLine linesOf output
+unfolding bytes isEmpty all same isNumber value valueFrom decimal decimalIn longer wordsOf commands lookup taken asked ofWords parsed
+    lineText badText answered after answeredAll afterAll ended unended lastLine linesOf output
 prints s = output [] (bytes s)
 
 -- no line in, no line out

@@ -33,12 +33,14 @@ pub serving-none : (m block : List ℕ) (u : Unended) (e : ℕ) → Serving m bl
 unfolding ended unended afterAll
 serving-none m block u e = record { served = λ p h. record { unended = h; memory = refl }; inside = omega arith; words = refl }
 
-pub serving-more : {m block m₁ xs m₂ ys : List ℕ} {u : Unended} {a b : Place} → Serving m block u m₁ a → Goes m₁ block xs (record { unended = a .unended; next = a .next; end = 0 }) m₂ ys b
+pub serving-more : {m block m₁ xs m₂ ys : List ℕ} {u : Unended} {a b : Place} → Serving m block u m₁ a
+    → Goes m₁ block xs (record { unended = a .unended; next = a .next; end = 0 }) m₂ ys b
     → length m₂ ≡ length m₁ → Serving m block u m₂ b
 serving-more {m} {block} {m₁} {xs} {m₂} {ys} {u} {a} {b} s g k =
     record { served = λ p h. more p (s .served p h) (g .answers _ (s .served p h .unended)); inside = g .inside; words = k ∙ s .words }
   where
-    more : (p : List ℕ) → Served m p (slice 0 (a .next) block) m₁ (a .unended) → Answers m₁ xs 0 (unended p (slice 0 (a .next) block)) (slice (a .next) (b .next) block) m₂ ys b
+    more : (p : List ℕ) → Served m p (slice 0 (a .next) block) m₁ (a .unended)
+        → Answers m₁ xs 0 (unended p (slice 0 (a .next) block)) (slice (a .next) (b .next) block) m₂ ys b
         → Served m p (slice 0 (b .next) block) m₂ (b .unended)
     more p x y =
         let f : List ℕ = slice 0 (a .next) block in
@@ -52,19 +54,22 @@ serving-more {m} {block} {m₁} {xs} {m₂} {ys} {u} {a} {b} s g k =
               ∙ sym (ap (afterAll m) (ended-append p f l) ∙ afterAll-append m (ended p f) (ended (unended p f) l));
         })
 
-pub serving-all : {m block m' : List ℕ} {u : Unended} {a : Place} → Serving m block u m' a → length block ≤ a .next → (p : List ℕ) → Holds u p → Served m p block m' (a .unended)
+pub serving-all : {m block m' : List ℕ} {u : Unended} {a : Place} → Serving m block u m' a → length block ≤ a .next
+    → (p : List ℕ) → Holds u p → Served m p block m' (a .unended)
 serving-all {m} {block} {m'} {u} {a} s h p k =
     let e : a .next ≡ length block = omega (arith, s .inside) in
     served-as (ap (λ (i : ℕ). slice 0 i block) e ∙ slice-all block) (s .served p k)
 
-pub serves-all : {m block m' : List ℕ} {u : Unended} {a : Place} {g : Bool} → Serving m block u m' a → length block ≤ a .next → ServesBlock m block u m' (record { unended = a .unended; going = g })
+pub serves-all : {m block m' : List ℕ} {u : Unended} {a : Place} {g : Bool} → Serving m block u m' a → length block ≤ a .next
+    → ServesBlock m block u m' (record { unended = a .unended; going = g })
 serves-all s h = record { served = λ t. serving-all s h }
 
 pub serves-failed : {m block m' : List ℕ} {u v : Unended} {g : Bool} → g ≡ false → ServesBlock m block u m' (record { unended = v; going = g })
 serves-failed h = record { served = λ t. absurd (let w : _≡_ {A = ℕ} 0 1 = cc in omega arith) }
 
 -- with room for a line the block is answered further
-pub through-further : {m block xs m' ys : List ℕ} {a b : Place} → GoesThrough m block xs a m' ys b → a .end + lineLength ≤ length xs → a .next < length block → a .next < b .next
+pub through-further : {m block xs m' ys : List ℕ} {a b : Place} → GoesThrough m block xs a m' ys b → a .end + lineLength ≤ length xs
+    → a .next < length block → a .next < b .next
 through-further {m} {block} {xs} {m'} {ys} {a} {b} g h k = go (ltb (b .next) (length block)) refl
   where
     go : (t : Bool) → ltb (b .next) (length block) ≡ t → a .next < b .next

@@ -57,7 +57,7 @@ unfoldable pub output : List ℕ → List ℕ → List ℕ
 output m input = answeredAll m (linesOf input)
 
 -- what is printed for an input that is read in blocks, where p is what was read before: the lines that end in each block, and after the last block
--- the last line. That this is the output is a theorem (`blocks-output` of proofs/LineLaws.antt).
+-- the last line. That this is the output is a theorem (`blocks-output` of proofs/LinesInParts.antt).
 unfoldable pub printedIn : List ℕ → List ℕ → List (List ℕ) → List ℕ
 printedIn m p [] = answeredAll m (lastLine p)
 printedIn m p (b ∷ bs) = answeredAll m (ended p b) ++ printedIn (afterAll m (ended p b)) (unended p b) bs

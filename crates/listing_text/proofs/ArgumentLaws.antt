@@ -11,10 +11,9 @@ use lib.ListN.{length, take, set, length-set, length-append, length-take}
 use lib.Seq.{take-suc-set}
 use Rattle.model.specs.Lists.{isEmpty, all}
 use Rattle.listing_text.specs.Number.{isDigit, isNumber, value, valueFrom}
-use Rattle.listing_text.specs.Call.{Parsed, bad, limits, fit, asked}
-use Rattle.listing_text.specs.Machine.{arguing, refused, argued, ended, commandOf, requested}
+use Rattle.listing_text.specs.Call.{Parsed, bad, Command, asked}
+use Rattle.listing_text.specs.Machine.{arguing, refused, argued, ended, commandOf, fit, requested}
 use Rattle.listing_text.specs.declared.line.Line.{Line}
-use Rattle.listing_text.specs.declared.line.Command.{Command}
 use Rattle.listing_text.proofs.Bools.{either, true-false, and-left, and-right, cond-same}
 use Rattle.listing_text.proofs.NumberLaws.{valueFrom-grows}
 use Rattle.listing_text.proofs.MachineLaws.{argued-empty, argued-more, argued-full, ended-named, grownAll, wordsFed, word-bad, end-bad}
@@ -28,7 +27,7 @@ use Rattle.listing_text.proofs.DigitLaws.{digit-read, digits-read, digi
 abbrev pub asks : Command → List ℕ → List (List ℕ) → Parsed
 asks c ns ws = cond (all isNumber ws) (asked c (ns ++ map value ws)) bad
 
-asks-unfit : (c : Command) (ns : List ℕ) (ws : List (List ℕ)) → fit (limits c) (ns ++ map value ws) ≡ false → asks c ns ws ≡ bad
+asks-unfit : (c : Command) (ns : List ℕ) (ws : List (List ℕ)) → fit (c .limits) (ns ++ map value ws) ≡ false → asks c ns ws ≡ bad
 asks-unfit c ns ws e = ap (λ (p : Parsed). cond (all isNumber ws) p bad) (asked-unfit c (ns ++ map value ws) e) ∙ cond-same (all isNumber ws) bad
 
 asks-no-number : (c : Command) (ns x : List ℕ) (ws : List (List ℕ)) → isNumber x ≡ false → asks c ns (x ∷ ws) ≡ bad
@@ -87,17 +86,21 @@ unfolding isNumber isEmpty
 no-number = refl
 
 -- more than four do not fit
-too-many : (c : Command) (n : ℕ) (vs : List ℕ) (v : ℕ) (ns : List ℕ) → length vs ≡ 4 → 4 ≤ n → fit (limits c) (take n vs ++ v ∷ ns) ≡ false
-too-many c n vs v ns e h =
-    fit-count (limits c) (take n vs ++ v ∷ ns)
-    (λ q. let f : length (limits c) ≤ 4 = limits-few c in
-    let g : min n (length vs) + suc (length ns) ≡ length (limits c) = simp (length-append, length-take) at q in
+too-many : (w n : ℕ) (vs : List ℕ) (v : ℕ) (ns : List ℕ) → length vs ≡ 4 → 4 ≤ n → fit (commandOf w .limits) (take n vs ++ v ∷ ns) ≡ false
+too-many w n vs v ns e h =
+    fit-count (commandOf w .limits) (take n vs ++ v ∷ ns)
+    (λ q. let f : length (commandOf w .limits) ≤ 4 = limits-few w in
+    let g : min n (length vs) + suc (length ns) ≡ length (commandOf w .limits) = simp (length-append, length-take) at q in
     omega arith)
+
+-- after n numbers of vs the machine reads the arguments ws as what they ask for
+abbrev ReadsOn : ℕ → List (List ℕ) → ℕ → List ℕ → Type 0
+ReadsOn w ws n vs = length vs ≡ 4 → n ≤ 4 → requested (wordsFed (arguing w n vs 0 false) ws) ≡ asks (commandOf w) (take n vs) ws
 
 -- one argument more, given what those after it ask for
 argument-more : (w n : ℕ) (vs : List ℕ) (b : ℕ) (x : List ℕ) (ws : List (List ℕ)) → length vs ≡ 4
     → (all isDigit (b ∷ x) ≡ true) ⊎ (all isDigit (b ∷ x) ≡ false) → Dec (value (b ∷ x) < 2 ^ 64) → Dec (n < 4)
-    → (length (set vs n (value (b ∷ x))) ≡ 4 → n + 1 ≤ 4 → requested (wordsFed (arguing w (n + 1) (set vs n (value (b ∷ x))) 0 false) ws) ≡ asks (commandOf w) (take (n + 1) (set vs n (value (b ∷ x)))) ws)
+    → ReadsOn w ws (n + 1) (set vs n (value (b ∷ x)))
     → requested (wordsFed (arguing w n vs 0 false) ((b ∷ x) ∷ ws)) ≡ asks (commandOf w) (take n vs) ((b ∷ x) ∷ ws)
 unfolding wordsFed
 argument-more w n vs b x ws e (inr f) j k ih =
@@ -106,20 +109,20 @@ argument-more w n vs b x ws e (inr f) j k ih =
 argument-more w n vs b x ws e (inl t) (no j) k ih =
     let o : 2 ^ 64 ≤ value (b ∷ x) = omega arith in
     word-bad (arguing w n vs 0 false) (b ∷ x) ws (digits-bad w n 0 vs false (b ∷ x) (omega arith) (λ s. value-wide (b ∷ x) o))
-    ∙ sym (asks-unfit (commandOf w) (take n vs) ((b ∷ x) ∷ ws) (fit-wide (limits (commandOf w)) (take n vs) (value (b ∷ x)) (map value ws) (limits-narrow (commandOf w)) o))
+    ∙ sym (asks-unfit (commandOf w) (take n vs) ((b ∷ x) ∷ ws) (fit-wide (commandOf w .limits) (take n vs) (value (b ∷ x)) (map value ws) (limits-narrow w) o))
 argument-more w n vs b x ws e (inl t) (yes j) (no k) ih =
     end-bad (arguing w n vs 0 false) (b ∷ x) ws (argument-full w n vs b x (omega arith) t j)
-    ∙ sym (asks-unfit (commandOf w) (take n vs) ((b ∷ x) ∷ ws) (too-many (commandOf w) n vs (value (b ∷ x)) (map value ws) e (omega arith)))
+    ∙ sym (asks-unfit (commandOf w) (take n vs) ((b ∷ x) ∷ ws) (too-many w n vs (value (b ∷ x)) (map value ws) e (omega arith)))
 argument-more w n vs b x ws e (inl t) (yes j) (yes k) ih =
     ap (λ (l : Line). requested (wordsFed l ws)) (argument-read w n vs b x k t j)
     ∙ ih (length-set vs n (value (b ∷ x)) ∙ e) (omega arith)
     ∙ ap (λ (ns : List ℕ). asks (commandOf w) ns ws) (take-more n (value (b ∷ x)) vs e k)
     ∙ sym (asks-number (commandOf w) (take n vs) (b ∷ x) ws (is-number b x ∙ t))
 
-pub arguments-read : (w : ℕ) (ws : List (List ℕ)) (n : ℕ) (vs : List ℕ) → length vs ≡ 4 → n ≤ 4
-    → requested (wordsFed (arguing w n vs 0 false) ws) ≡ asks (commandOf w) (take n vs) ws
+pub arguments-read : (w : ℕ) (ws : List (List ℕ)) (n : ℕ) (vs : List ℕ) → ReadsOn w ws n vs
 arguments-read w [] n vs e h = arguments-none w n vs h
 arguments-read w ([] ∷ ws) n vs e h =
     end-bad (arguing w n vs 0 false) [] ws (argument-empty w n vs) ∙ sym (asks-no-number (commandOf w) (take n vs) [] ws no-number)
 arguments-read w ((b ∷ x) ∷ ws) n vs e h =
-    argument-more w n vs b x ws e (either (all isDigit (b ∷ x))) (decLt (value (b ∷ x)) (2 ^ 64)) (decLt n 4) (arguments-read w ws (n + 1) (set vs n (value (b ∷ x))))
+    argument-more w n vs b x ws e (either (all isDigit (b ∷ x))) (decLt (value (b ∷ x)) (2 ^ 64)) (decLt n 4)
+    (arguments-read w ws (n + 1) (set vs n (value (b ∷ x))))

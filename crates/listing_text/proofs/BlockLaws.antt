@@ -110,7 +110,8 @@ module _ (block : List ℕ) (l₀ : Line) (from : ℕ) (l : Line) (i : ℕ) (p :
   unfolding fedAll
   part-newline h k =
       let f : firstLine (drop i block) ≡ [] = ap firstLine (rest-cons block i h) ∙ first-newline (getD block i 0) (drop (i + 1) block) k in
-      let m : member newline (drop from block) ≡ true = sym (p .newlines) ∙ ap (member newline) (rest-cons block i h) ∙ member-newline (getD block i 0) (drop (i + 1) block) k in
+      let n : member newline (drop i block) ≡ true = ap (member newline) (rest-cons block i h) ∙ member-newline (getD block i 0) (drop (i + 1) block) k in
+      let m : member newline (drop from block) ≡ true = sym (p .newlines) ∙ n in
       let e : l ≡ fedAll l₀ (firstLine (drop from block)) = sym (ap (fedAll l) f) ∙ p .line in
       block-feeds l₀ block from _ e (sym m) (rw m (omega (arith, ap length f, p .end)))
 

@@ -59,15 +59,19 @@ puts-length {xs} {at} {s} h p = ap length (p .buffer) ∙ placed-length xs at s 
 
 -- ---- the texts of the listing
 
--- the four bytes of a bad line
-pub puts-bad : (xs : List ℕ) (at : ℕ) → at + 4 ≤ length xs → PutsWithin badLength xs at badText (set (set (set (set xs at 98) (at + 1) 97) (at + 2) 100) (at + 3) 10) (at + 4)
+-- the four bytes of a bad line, stored one after the other
+abbrev pub badStored : List ℕ → ℕ → List ℕ
+badStored xs at = set (set (set (set xs at 98) (at + 1) 97) (at + 2) 100) (at + 3) 10
+
+pub puts-bad : (xs : List ℕ) (at : ℕ) → at + 4 ≤ length xs → PutsWithin badLength xs at badText (badStored xs at) (at + 4)
 unfolding badText bytes
 puts-bad xs at h =
-    let e : sets xs at badText ≡ set (set (set (set xs at 98) (at + 1) 97) (at + 2) 100) (at + 3) 10 = simp towards-suc in
+    let e : sets xs at badText ≡ badStored xs at = simp towards-suc in
     record { puts = record { buffer = sym e ∙ sets-eq badText xs at h; end = refl }; short = omega arith }
 
 -- the digits of a number, and then a byte
-pub puts-word : (xs : List ℕ) (at n after : ℕ) {ys : List ℕ} {e : ℕ} → n < 2 ^ 32 → at + 11 ≤ length xs → Puts xs at (decimal n) ys e → PutsWithin wordLength xs at (wordText n after) (set ys e after) (e + 1)
+pub puts-word : (xs : List ℕ) (at n after : ℕ) {ys : List ℕ} {e : ℕ} → n < 2 ^ 32 → at + 11 ≤ length xs → Puts xs at (decimal n) ys e
+    → PutsWithin wordLength xs at (wordText n after) (set ys e after) (e + 1)
 puts-word xs at n after {ys} {e} h k p =
     let d : length (decimal n) ≤ 10 = decimal-length n h in
     let l : length ys ≡ length xs = puts-length (omega arith) p in

@@ -12,10 +12,8 @@ use lib.Dec.{ltb, eqb}
 use borrow.Author.Tests.{lt-ltb, ltb-true, eq-eqb, eqb-true, ne-eqb}
 use Rattle.model.specs.Lists.{all, same}
 use Rattle.listing_text.specs.Number.{bytes}
-use Rattle.listing_text.specs.Call.{Named, names, lookup}
+use Rattle.listing_text.specs.Call.{Command, commands, unknown, lookup}
 use Rattle.listing_text.specs.Machine.{naming, refused, lettered, grown, packedFrom, lookupPacked, commandOf}
-use Rattle.listing_text.specs.declared.line.Command.{Command}
-use Rattle.listing_text.specs.declared.line.Command.the-variants.{Unknown}
 use Rattle.listing_text.proofs.Bools.{either, true-false, and-left, and-right, and-true}
 use Rattle.listing_text.proofs.MachineLaws.{grownAll, grownAll-bad, lettered-below, lettered-above, lettered-letter, lettered-full, grown-unnamed}
 
@@ -94,24 +92,46 @@ packed-same u w hu hw =
     (λ e. subst (λ (x : List ℕ). same u x ≡ true) (packed-injective u w hu hw (eqb-true (packedFrom 0 u) (packedFrom 0 w) e)) (same-refl u))
     (λ e. eq-eqb (packedFrom 0 u) (packedFrom 0 w) (ap (packedFrom 0) (same-eq u w e)))
 
-abbrev isPlainName : Named → Bool
-isPlainName n = all isPlain (n .name)
+abbrev isPlainName : Command → Bool
+isPlainName c = all isPlain (c .name)
 
-lookup-packed : (w : List ℕ) (ns : List Named) → all isPlain w ≡ true → all isPlainName ns ≡ true → lookupPacked (packedFrom 0 w) ns ≡ lookup w ns
+lookup-packed : (w : List ℕ) (cs : List Command) → all isPlain w ≡ true → all isPlainName cs ≡ true → lookupPacked (packedFrom 0 w) cs ≡ lookup w cs
 unfolding all lookupPacked lookup
 lookup-packed w [] h k = refl
-lookup-packed w (n ∷ ns) h k =
-    let p : eqb (packedFrom 0 w) (packedFrom 0 (n .name)) ≡ same w (n .name) = packed-same w (n .name) h (and-left (isPlainName n) (all isPlainName ns) k) in
-    let q : lookupPacked (packedFrom 0 w) ns ≡ lookup w ns = lookup-packed w ns h (and-right (isPlainName n) (all isPlainName ns) k) in
-    ap (λ (t : Bool). cond t (n .command) (lookupPacked (packedFrom 0 w) ns)) p ∙ ap (λ (c : Command). cond (same w (n .name)) (n .command) c) q
+lookup-packed w (c ∷ cs) h k =
+    let p : eqb (packedFrom 0 w) (packedFrom 0 (c .name)) ≡ same w (c .name) = packed-same w (c .name) h (and-left (isPlainName c) (all isPlainName cs) k) in
+    let q : lookupPacked (packedFrom 0 w) cs ≡ lookup w cs = lookup-packed w cs h (and-right (isPlainName c) (all isPlainName cs) k) in
+    ap (λ (t : Bool). cond t c (lookupPacked (packedFrom 0 w) cs)) p ∙ ap (λ (d : Command). cond (same w (c .name)) c d) q
 
-names-plain : all isPlainName names ≡ true
-unfolding all names bytes
+names-plain : all isPlainName commands ≡ true
+unfolding all commands bytes
 names-plain = refl
 
-pub command-packed : (w : List ℕ) → all isPlain w ≡ true → commandOf (packedFrom 0 w) ≡ lookup w names
+pub command-packed : (w : List ℕ) → all isPlain w ≡ true → commandOf (packedFrom 0 w) ≡ lookup w commands
 unfolding commandOf
-command-packed w h = lookup-packed w names h names-plain
+command-packed w h = lookup-packed w commands h names-plain
+
+-- ---- letters of no command
+
+-- A, and p is not the letters of any of cs: the tests of a match, as they follow on each other
+abbrev pub Differs : Type 0 → ℕ → List Command → Type 0
+Differs A p [] = A
+Differs A p (c ∷ cs) = Differs (A × (p ≡ packedFrom 0 (c .name) → ⊥)) p cs
+
+differs-first : (A : Type 0) (p : ℕ) (cs : List Command) → Differs A p cs → A
+differs-first A p [] d = d
+differs-first A p (c ∷ cs) d = differs-first (A × (p ≡ packedFrom 0 (c .name) → ⊥)) p cs d .0
+
+lookup-differs : (A : Type 0) (p : ℕ) (cs : List Command) → Differs A p cs → lookupPacked p cs ≡ unknown
+unfolding lookupPacked
+lookup-differs A p [] d = refl
+lookup-differs A p (c ∷ cs) d =
+    rw (ne-eqb p (packedFrom 0 (c .name)) (differs-first (A × (p ≡ packedFrom 0 (c .name) → ⊥)) p cs d .1))
+    (lookup-differs (A × (p ≡ packedFrom 0 (c .name) → ⊥)) p cs d)
+
+pub command-differs : (A : Type 0) (p : ℕ) → Differs A p commands → commandOf p ≡ unknown
+unfolding commandOf
+command-differs A p d = lookup-differs A p commands d
 
 -- ---- the machine at the command word
 
@@ -126,12 +146,15 @@ grown-refused p b w e =
     ap (λ x. grownAll x w .bad) (grown-unnamed (naming p) b refl refl ∙ e)
     ∙ ap (λ x. x .bad) (grownAll-bad (refused (naming p)) w refl)
 
-name-read : (w : List ℕ) (p : ℕ) → (grownAll (naming p) w .bad ≡ true) ⊎ NamedBy p w
+abbrev NameRead : ℕ → List ℕ → Type 0
+NameRead p w = (grownAll (naming p) w .bad ≡ true) ⊎ NamedBy p w
+
+name-read : (w : List ℕ) (p : ℕ) → NameRead p w
 unfolding grownAll packedFrom all
 name-read [] p = inr (record { letters = refl; line = refl })
 name-read (b ∷ w) p = go (decLe 97 b) (decLe b 122) (decLt p (2 ^ 48)) (name-read w (p * 256 + b))
   where
-    go : Dec (97 ≤ b) → Dec (b ≤ 122) → Dec (p < 2 ^ 48) → (grownAll (naming (p * 256 + b)) w .bad ≡ true) ⊎ NamedBy (p * 256 + b) w → (grownAll (naming p) (b ∷ w) .bad ≡ true) ⊎ NamedBy p (b ∷ w)
+    go : Dec (97 ≤ b) → Dec (b ≤ 122) → Dec (p < 2 ^ 48) → NameRead (p * 256 + b) w → NameRead p (b ∷ w)
     go (no h) k j r = inl (grown-refused p b w (lettered-below (naming p) b (omega arith)))
     go (yes h) (no k) j r = inl (grown-refused p b w (lettered-above (naming p) b h (omega arith)))
     go (yes h) (yes k) (no j) r = inl (grown-refused p b w (lettered-full (naming p) b h k (omega arith)))
@@ -144,39 +167,39 @@ name-read (b ∷ w) p = go (decLe 97 b) (decLe b 122) (decLt p (2 ^ 48)) (name-r
         })
 
 -- the machine reads every name
-abbrev isRead : Named → Bool
-isRead n = not (grownAll (naming 0) (n .name) .bad)
+abbrev isRead : Command → Bool
+isRead c = not (grownAll (naming 0) (c .name) .bad)
 
-names-read : all isRead names ≡ true
-unfolding all names bytes grownAll grown lettered refused
+names-read : all isRead commands ≡ true
+unfolding all commands bytes grownAll grown lettered refused
 names-read = refl
 
 not-both : (b : Bool) → not b ≡ true → b ≡ true → ⊥
 not-both true p q = true-false false p refl
 not-both false p q = true-false false q refl
 
-lookup-refused : (w : List ℕ) (ns : List Named) → grownAll (naming 0) w .bad ≡ true → all isRead ns ≡ true → lookup w ns ≡ Unknown
+lookup-refused : (w : List ℕ) (cs : List Command) → grownAll (naming 0) w .bad ≡ true → all isRead cs ≡ true → lookup w cs ≡ unknown
 unfolding all lookup
 lookup-refused w [] e h = refl
-lookup-refused w (n ∷ ns) e h = go (either (same w (n .name))) (lookup-refused w ns e (and-right (isRead n) (all isRead ns) h))
+lookup-refused w (c ∷ cs) e h = go (either (same w (c .name))) (lookup-refused w cs e (and-right (isRead c) (all isRead cs) h))
   where
-    go : (same w (n .name) ≡ true) ⊎ (same w (n .name) ≡ false) → lookup w ns ≡ Unknown → lookup w (n ∷ ns) ≡ Unknown
+    go : (same w (c .name) ≡ true) ⊎ (same w (c .name) ≡ false) → lookup w cs ≡ unknown → lookup w (c ∷ cs) ≡ unknown
     go (inl t) ih =
-        absurd (not-both (grownAll (naming 0) (n .name) .bad) (and-left (isRead n) (all isRead ns) h)
-        (subst (λ (x : List ℕ). grownAll (naming 0) x .bad ≡ true) (same-eq w (n .name) t) e))
+        absurd (not-both (grownAll (naming 0) (c .name) .bad) (and-left (isRead c) (all isRead cs) h)
+        (subst (λ (x : List ℕ). grownAll (naming 0) x .bad ≡ true) (same-eq w (c .name) t) e))
     go (inr f) ih = rw f ih
 
 -- a word is refused and no command, or it has been read and its letters find what it names
 pub record Commanded (w : List ℕ) : Type 0 where
   pub line : grownAll (naming 0) w ≡ naming (packedFrom 0 w)
-  pub command : commandOf (packedFrom 0 w) ≡ lookup w names
+  pub command : commandOf (packedFrom 0 w) ≡ lookup w commands
 
 pub record Uncommanded (w : List ℕ) : Type 0 where
   pub line : grownAll (naming 0) w .bad ≡ true
-  pub command : lookup w names ≡ Unknown
+  pub command : lookup w commands ≡ unknown
 
 pub command-read : (w : List ℕ) → Uncommanded w ⊎ Commanded w
 command-read w =
-    ⊎-elim (λ e. inl (record { line = e; command = lookup-refused w names e names-read }))
+    ⊎-elim (λ e. inl (record { line = e; command = lookup-refused w commands e names-read }))
     (λ r. inr (record { line = r .line; command = command-packed w (r .letters) }))
     (name-read w 0)

@@ -20,13 +20,15 @@ use Rattle.listing_text.proofs.MachineLaws.{counted-below, counted-abov
 -- ---- an argument
 
 -- a digit after v
-pub digit-read : (w n v : ℕ) (vs : List ℕ) (d : Bool) (b : ℕ) → isDigit b ≡ true → v * 10 + (b - 48) < 2 ^ 64 → grown (arguing w n vs v d) b ≡ arguing w n vs (v * 10 + (b - 48)) true
+pub digit-read : (w n v : ℕ) (vs : List ℕ) (d : Bool) (b : ℕ) → isDigit b ≡ true → v * 10 + (b - 48) < 2 ^ 64
+    → grown (arguing w n vs v d) b ≡ arguing w n vs (v * 10 + (b - 48)) true
 digit-read w n v vs d b h k =
     let lo : 48 ≤ b = leb-true 48 b (and-left (leb 48 b) (leb b 57) h) in
     let hi : b ≤ 57 = leb-true b 57 (and-right (leb 48 b) (leb b 57) h) in
     grown-named (arguing w n vs v d) b refl refl ∙ counted-digit (arguing w n vs v d) b lo hi (omega arith)
 
-pub digits-read : (w n v : ℕ) (vs : List ℕ) (x : List ℕ) → all isDigit x ≡ true → valueFrom v x < 2 ^ 64 → grownAll (arguing w n vs v true) x ≡ arguing w n vs (valueFrom v x) true
+pub digits-read : (w n v : ℕ) (vs : List ℕ) (x : List ℕ) → all isDigit x ≡ true → valueFrom v x < 2 ^ 64
+    → grownAll (arguing w n vs v true) x ≡ arguing w n vs (valueFrom v x) true
 unfolding grownAll all valueFrom
 digits-read w n v vs [] h k = refl
 digits-read w n v vs (b ∷ x) h k =
@@ -48,20 +50,23 @@ no-digit w n v vs d b h = grown-named (arguing w n vs v d) b refl refl ∙ go (d
     go (yes p) (no q) = counted-above (arguing w n vs v d) b p (omega arith)
     go (yes p) (yes q) = absurd (true-false (isDigit b) (and-true (le-leb 48 b p) (le-leb b 57 q)) h)
 
-too-wide : (w n v : ℕ) (vs : List ℕ) (d : Bool) (b : ℕ) → isDigit b ≡ true → 2 ^ 64 ≤ v * 10 + (b - 48) → grown (arguing w n vs v d) b ≡ refused (arguing w n vs v d)
+too-wide : (w n v : ℕ) (vs : List ℕ) (d : Bool) (b : ℕ) → isDigit b ≡ true → 2 ^ 64 ≤ v * 10 + (b - 48)
+    → grown (arguing w n vs v d) b ≡ refused (arguing w n vs v d)
 too-wide w n v vs d b h k =
     let lo : 48 ≤ b = leb-true 48 b (and-left (leb 48 b) (leb b 57) h) in
     let hi : b ≤ 57 = leb-true b 57 (and-right (leb 48 b) (leb b 57) h) in
     grown-named (arguing w n vs v d) b refl refl ∙ counted-full (arguing w n vs v d) b lo hi (omega arith)
 
 -- a word that is no digits, or too large a number, makes the line bad
-pub digits-bad : (w n v : ℕ) (vs : List ℕ) (d : Bool) (x : List ℕ) → v < 2 ^ 64 → (all isDigit x ≡ true → 2 ^ 64 ≤ valueFrom v x) → grownAll (arguing w n vs v d) x .bad ≡ true
+abbrev BadAfter : ℕ → ℕ → ℕ → List ℕ → Bool → List ℕ → Type 0
+BadAfter w n v vs d x = v < 2 ^ 64 → (all isDigit x ≡ true → 2 ^ 64 ≤ valueFrom v x) → grownAll (arguing w n vs v d) x .bad ≡ true
+
+pub digits-bad : (w n v : ℕ) (vs : List ℕ) (d : Bool) (x : List ℕ) → BadAfter w n v vs d x
 unfolding grownAll all valueFrom
 digits-bad w n v vs d [] h k = absurd (let z : 2 ^ 64 ≤ v = k refl in omega arith)
 digits-bad w n v vs d (b ∷ x) h k = go (either (isDigit b)) (decLt (v * 10 + (b - 48)) (2 ^ 64)) (digits-bad w n (v * 10 + (b - 48)) vs true x)
   where
-    go : (isDigit b ≡ true) ⊎ (isDigit b ≡ false) → Dec (v * 10 + (b - 48) < 2 ^ 64)
-        → (v * 10 + (b - 48) < 2 ^ 64 → (all isDigit x ≡ true → 2 ^ 64 ≤ valueFrom (v * 10 + (b - 48)) x) → grownAll (arguing w n vs (v * 10 + (b - 48)) true) x .bad ≡ true)
+    go : (isDigit b ≡ true) ⊎ (isDigit b ≡ false) → Dec (v * 10 + (b - 48) < 2 ^ 64) → BadAfter w n (v * 10 + (b - 48)) vs true x
         → grownAll (arguing w n vs v d) (b ∷ x) .bad ≡ true
     go (inr f) j ih = grown-refused (arguing w n vs v d) b x (no-digit w n v vs d b f)
     go (inl t) (yes j) ih =

@@ -1,19 +1,20 @@
--- The limits of a command's arguments against the machine's tests: as many as the shape's count, each number below its own.
-use Prim.Native.Nat.{ℕ, zero, suc, _%_, _^_, _≤_, _<_}
+-- The limits of a command's arguments against the machine's tests: as many as the command takes, each number below its own. Numbers that fit are not
+-- changed when they are cut to their widths, and others ask for nothing.
+use Prim.Native.Nat.{ℕ, zero, suc, _+_, _^_, _≤_, _<_, min}
 use mathlib.Core.Bool.{Bool, true, false, cond, _&&_}
 use mathlib.Core.List.{List, [], _∷_}
+use mathlib.Core.Logic.{_⊎_, inl, inr}
 use mathlib.Core.Path.{_≡_, refl, sym, ap, _∙_}
-use native.Mathlib.Nat.{mod-eq-of-lt}
+use native.Mathlib.Nat.{add-zero, suc-add, add-suc, zero-add, mod-eq-of-lt}
+use native.Mathlib.Decide.{decLe}
 use native.Mathlib.Omega.{arith}
 use lib.ListN.{length, take, getD, length-take}
-use lib.Dec.{leb, ltb}
-use borrow.Author.Tests.{lt-ltb, le-ltb, le-leb, lt-leb, ltb-true}
-use Rattle.listing_text.specs.Call.{bad, word, limits, fit, callOf}
-use Rattle.listing_text.specs.Machine.{limitsOf, Shapes, within, askedOf, coded, made}
-use Rattle.listing_text.specs.declared.line.Shape.{Shape}
-use Rattle.listing_text.specs.declared.line.Command.{Command}
-use Rattle.listing_text.specs.declared.line.Command.the-variants.{Setup, Add, Replace, Delete, Begin, End, Start, Step, Pass, Clock, On, Off, HandBack, Awaited, Unknown}
-use Rattle.listing_text.proofs.Bools.{true-false, and-left, and-right, and-true, and-false}
+use lib.Seq.{getD-take}
+use lib.Dec.{leb, ltb, eqb}
+use borrow.Author.Tests.{lt-ltb, le-ltb, le-leb, lt-leb, ltb-true, eqb-true}
+use Rattle.listing_text.specs.Call.{bad, word, Takes, Command, taken, asked}
+use Rattle.listing_text.specs.Machine.{limitsOf, fit, within, askedOf, cut, handed}
+use Rattle.listing_text.proofs.Bools.{either, true-false, and-left, and-right, and-true, and-false}
 
 -- ---- one limit
 
@@ -56,82 +57,81 @@ fit-count [] (n ∷ ns) h = refl
 fit-count (l ∷ ls) [] h = refl
 fit-count (l ∷ ls) (n ∷ ns) h = and-false (ltb n l) (fit-count ls ns (λ e. h (ap suc e)))
 
--- ---- the machine's test, by the shape of a command
+-- ---- the machine's test, by how many arguments a command takes and the largest second
 
-module _ (c : Command) (r : Shape) (s : Shapes c r) (n : ℕ) (vs : List ℕ) (len : length vs ≡ 4) where
-  limits-length : length (limitsOf (r .0) (r .1)) ≡ r .0
-  limits-length = let f : r .0 ≤ 4 = s .few in simp length-take (omega arith)
-
-  pub within-other : (n ≡ r .0 → ⊥) → false ≡ within c n vs
+module _ (m s : ℕ) (few : m ≤ 4) (n : ℕ) (vs : List ℕ) (len : length vs ≡ 4) where
+  pub within-other : (n ≡ m → ⊥) → false ≡ within (limitsOf m s) n vs
   unfolding within
-  within-other h = sym (go (native.Mathlib.Decide.decLe n 4))
+  within-other h = sym (go (decLe n 4))
     where
-      go : Dec (n ≤ 4) → leb n 4 && fit (limits c) (take n vs) ≡ false
+      go : Dec (n ≤ 4) → leb n 4 && fit (limitsOf m s) (take n vs) ≡ false
       go (no k) = rw (lt-leb n 4 (omega arith))
       go (yes k) =
           and-false (leb n 4)
-          (fit-count (limits c) (take n vs)
-          (λ e. h (let m : length (limits c) ≡ r .0 = ap length (s .limits) ∙ limits-length in
+          (fit-count (limitsOf m s) (take n vs)
+          (λ e. h (let l : length (limitsOf m s) ≡ m = simp length-take (omega arith) in
           let t : length (take n vs) ≡ n = simp length-take (omega arith) in
           omega arith)))
 
-  pub within-below : n ≡ r .0 → ((k : ℕ) → k < n → getD vs k 0 < getD (limitsOf 4 (r .1)) k 0) → true ≡ within c n vs
+  pub within-below : n ≡ m → ((k : ℕ) → k < n → getD vs k 0 < getD (limitsOf 4 s) k 0) → true ≡ within (limitsOf m s) n vs
   unfolding within
   within-below e h =
-      let f : r .0 ≤ 4 = s .few in
       sym (and-true (le-leb n 4 (omega arith))
-      (ap (λ (ls : List ℕ). fit ls (take n vs)) (s .limits ∙ ap (λ (k : ℕ). limitsOf k (r .1)) (sym e))
-      ∙ fit-below n (limitsOf 4 (r .1)) vs (omega arith) (omega arith) h))
+      (ap (λ (k : ℕ). fit (limitsOf k s) (take n vs)) (sym e) ∙ fit-below n (limitsOf 4 s) vs (omega arith) (omega arith) h))
 
-  pub within-above : n ≡ r .0 → (k : ℕ) → k < n → getD (limitsOf 4 (r .1)) k 0 ≤ getD vs k 0 → false ≡ within c n vs
+  pub within-above : n ≡ m → (k : ℕ) → k < n → getD (limitsOf 4 s) k 0 ≤ getD vs k 0 → false ≡ within (limitsOf m s) n vs
   unfolding within
   within-above e k j h =
-      let f : r .0 ≤ 4 = s .few in
       sym (and-false (leb n 4)
-      (ap (λ (ls : List ℕ). fit ls (take n vs)) (s .limits ∙ ap (λ (k : ℕ). limitsOf k (r .1)) (sym e))
-      ∙ fit-above n (limitsOf 4 (r .1)) vs k (omega arith) (omega arith) j h))
+      (ap (λ (k : ℕ). fit (limitsOf k s) (take n vs)) (sym e) ∙ fit-above n (limitsOf 4 s) vs k (omega arith) (omega arith) j h))
 
--- ---- numbers that fit
+-- ---- what numbers ask for
 
--- the number at k is the one of vs, and below its limit
-pub record Fitting (l v x : ℕ) : Type 0 where
-  pub below : v < l
-  pub same : x ≡ v
+-- those that do not fit ask for nothing
+pub taken-unfit : (ls : List ℕ) (k : Takes ls) (ns : List ℕ) → fit ls ns ≡ false → taken ls k ns ≡ bad
+unfolding fit taken
+taken-unfit [] k [] h = absurd (true-false true refl h)
+taken-unfit [] k (n ∷ ns) h = refl
+taken-unfit (l ∷ ls) k [] h = refl
+taken-unfit (l ∷ ls) k (n ∷ ns) h = go (ltb n l) h (taken-unfit ls (k n) ns)
+  where
+    go : (t : Bool) → t && fit ls ns ≡ false → (fit ls ns ≡ false → taken ls (k n) ns ≡ bad) → cond t (taken ls (k n) ns) bad ≡ bad
+    go true e ih = ih e
+    go false e ih = refl
 
-fit-at : (ls : List ℕ) (n : ℕ) (vs : List ℕ) (k : ℕ) → fit ls (take n vs) ≡ true → k < length ls → Fitting (getD ls k 0) (getD vs k 0) (getD (take n vs) k 0)
-unfolding fit
-fit-at [] n vs k h j = absurd (omega arith)
-fit-at (l ∷ ls) zero vs k h j = absurd (true-false false h refl)
-fit-at (l ∷ ls) (suc n) [] k h j = absurd (true-false false h refl)
-fit-at (l ∷ ls) (suc n) (v ∷ vs) zero h j = record { below = ltb-true v l (and-left (ltb v l) (fit ls (take n vs)) h); same = refl }
-fit-at (l ∷ ls) (suc n) (v ∷ vs) (suc k) h j = fit-at ls n vs k (and-right (ltb v l) (fit ls (take n vs)) h) (omega arith)
+-- a number below its limit is not cut
+cut-below : (l v : ℕ) → v < l → cut l v ≡ v
+cut-below l v h = go (either (eqb l word))
+  where
+    go : (eqb l word ≡ true) ⊎ (eqb l word ≡ false) → cut l v ≡ v
+    go (inl t) = let e : l ≡ word = eqb-true l word t in rw t (mod-eq-of-lt (omega arith))
+    go (inr f) = rw f
 
--- cut to its width, it is the same
-cut : {v x : ℕ} → Fitting word v x → v % word ≡ x
-cut {v} {x} f = mod-eq-of-lt (f .below) ∙ sym (f .same)
+-- numbers ns that fit ask for the same when they are handed on, cut, from vs
+handed-taken : (ls : List ℕ) (k : Takes ls) (i : ℕ) (vs ns : List ℕ) → fit ls ns ≡ true → ((j : ℕ) → j < length ns → getD vs (i + j) 0 ≡ getD ns j 0)
+    → handed ls k i vs ≡ taken ls k ns
+unfolding fit handed taken
+handed-taken [] k i vs [] h e = refl
+handed-taken [] k i vs (n ∷ ns) h e = absurd (true-false false h refl)
+handed-taken (l ∷ ls) k i vs [] h e = absurd (true-false false h refl)
+handed-taken (l ∷ ls) k i vs (n ∷ ns) h e =
+    let t : ltb n l ≡ true = and-left (ltb n l) (fit ls ns) h in
+    let f : getD vs i 0 ≡ n = ap (λ j. getD vs j 0) (sym (add-zero i)) ∙ e 0 (omega arith) in
+    rw (t, f, cut-below l n (ltb-true n l t))
+    (handed-taken ls (k n) (suc i) vs ns (and-right (ltb n l) (fit ls ns) h) (λ j q. rw (suc-add i j, ← add-suc i j) (e (suc j) (omega arith))))
 
-made-call : (c : Command) (n : ℕ) (vs : List ℕ) → fit (limits c) (take n vs) ≡ true → made c vs ≡ callOf c (take n vs)
-unfolding made callOf limits coded
-made-call Setup n vs h = simp (cut (fit-at (limits Setup) n vs 0 h (omega arith)), cut (fit-at (limits Setup) n vs 1 h (omega arith)), cut (fit-at (limits Setup) n vs 2 h (omega arith)))
-made-call Add n vs h = simp (cut (fit-at (limits Add) n vs 0 h (omega arith)), fit-at (limits Add) n vs 1 h (omega arith) .same, cut (fit-at (limits Add) n vs 2 h (omega arith)), cut (fit-at (limits Add) n vs 3 h (omega arith)))
-made-call Replace n vs h = simp (cut (fit-at (limits Replace) n vs 0 h (omega arith)), fit-at (limits Replace) n vs 1 h (omega arith) .same, cut (fit-at (limits Replace) n vs 2 h (omega arith)), cut (fit-at (limits Replace) n vs 3 h (omega arith)))
-made-call Delete n vs h = simp (cut (fit-at (limits Delete) n vs 0 h (omega arith)), fit-at (limits Delete) n vs 1 h (omega arith) .same)
-made-call Begin n vs h = simp (cut (fit-at (limits Begin) n vs 0 h (omega arith)))
-made-call End n vs h = simp (cut (fit-at (limits End) n vs 0 h (omega arith)))
-made-call Start n vs h = simp (cut (fit-at (limits Start) n vs 0 h (omega arith)), fit-at (limits Start) n vs 1 h (omega arith) .same)
-made-call Step n vs h = simp (cut (fit-at (limits Step) n vs 0 h (omega arith)))
-made-call Pass n vs h = simp (cut (fit-at (limits Pass) n vs 0 h (omega arith)), cut (fit-at (limits Pass) n vs 1 h (omega arith)))
-made-call Clock n vs h = simp (cut (fit-at (limits Clock) n vs 0 h (omega arith)))
-made-call On n vs h = simp (cut (fit-at (limits On) n vs 0 h (omega arith)))
-made-call Off n vs h = simp (cut (fit-at (limits Off) n vs 0 h (omega arith)))
-made-call HandBack n vs h = simp (cut (fit-at (limits HandBack) n vs 0 h (omega arith)))
-made-call Awaited n vs h = refl
-made-call Unknown n vs h = refl
+pub askedOf-within : (c : Command) (n : ℕ) (vs : List ℕ) → within (c .limits) n vs ≡ true → handed (c .limits) (c .makes) 0 vs ≡ askedOf c n vs
+unfolding within askedOf asked
+askedOf-within c n vs h =
+    handed-taken (c .limits) (c .makes) 0 vs (take n vs) (and-right (leb n 4) (fit (c .limits) (take n vs)) h)
+    (λ j q. let t : length (take n vs) ≡ min n (length vs) = length-take n vs in
+    sym (rw zero-add (getD-take n vs j 0 (omega arith))))
+    ∙ sym (ap (λ (t : Bool). cond t (taken (c .limits) (c .makes) (take n vs)) bad) (and-left (leb n 4) (fit (c .limits) (take n vs)) h))
 
-pub askedOf-within : (c : Command) (n : ℕ) (vs : List ℕ) → within c n vs ≡ true → made c vs ≡ askedOf c n vs
-unfolding within askedOf
-askedOf-within c n vs h = made-call c n vs (and-right (leb n 4) (fit (limits c) (take n vs)) h) ∙ sym (ap (λ (t : Bool). cond t (callOf c (take n vs)) bad) h)
-
-pub askedOf-other : (c : Command) (n : ℕ) (vs : List ℕ) → within c n vs ≡ false → bad ≡ askedOf c n vs
-unfolding askedOf
-askedOf-other c n vs h = rw h
+pub askedOf-other : (c : Command) (n : ℕ) (vs : List ℕ) → within (c .limits) n vs ≡ false → bad ≡ askedOf c n vs
+unfolding within askedOf asked
+askedOf-other c n vs h = sym (go (leb n 4) h)
+  where
+    go : (t : Bool) → t && fit (c .limits) (take n vs) ≡ false → cond t (taken (c .limits) (c .makes) (take n vs)) bad ≡ bad
+    go true e = taken-unfit (c .limits) (c .makes) (take n vs) e
+    go false e = refl

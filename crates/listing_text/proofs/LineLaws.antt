@@ -8,14 +8,15 @@ use native.Mathlib.Omega.{arith}
 use lib.Dec.{eqb}
 use Rattle.model.specs.Lists.{all}
 use Rattle.listing_text.specs.Number.{space, isNumber, value}
-use Rattle.listing_text.specs.Call.{Parsed, bad, longer, wordsOf, asked, ofWords, parsed}
-use Rattle.listing_text.specs.Machine.{naming, started, grown, ended, fed, fedAll, packedFrom, commandOf, askedOf, requested, finished}
-use Rattle.listing_text.specs.LineReading.{parsedOf, Reads, Finishes}
+use Rattle.listing_text.specs.Call.{Parsed, bad, Command, longer, wordsOf, asked, ofWords, parsed}
+use Rattle.listing_text.specs.Machine.{naming, started, grown, ended, fed, fedAll, packedFrom, commandOf, within, askedOf, requested, finished, limitsOf}
+use Rattle.listing_text.specs.LineReading.{parsedOf, Requests, Reads, Finishes}
 use Rattle.listing_text.specs.declared.line.Line.{Line}
 use Rattle.listing_text.specs.declared.line.Asked.{Asked}
-use Rattle.listing_text.specs.declared.line.Command.{Command}
+use Rattle.listing_text.specs.declared.line.Request.{Request}
 use Rattle.listing_text.proofs.Bools.{cond-same}
 use Rattle.listing_text.proofs.MachineLaws.{ended-unnamed, grownAll, wordsFed, word-bad}
+use Rattle.listing_text.proofs.LimitLaws.{askedOf-within, askedOf-other}
 use Rattle.listing_text.proofs.ReachLaws.{asked-unknown}
 use Rattle.listing_text.proofs.ArgumentLaws.{asks, arguments-read}
 use Rattle.listing_text.proofs.CommandLaws.{Commanded, Uncommanded, command-read}
@@ -68,12 +69,15 @@ longer-fed : (l : Line) (b : ℕ) (ws : List (List ℕ)) → Cons ws → wordsFe
 unfolding wordsFed grownAll longer
 longer-fed l b ws k = rw (k .is)
 
-bytes-words : (l : Line) (bs : List ℕ) → finished (fedAll l bs) ≡ requested (wordsFed l (wordsOf bs))
+abbrev Fuses : Line → List ℕ → Type 0
+Fuses l bs = finished (fedAll l bs) ≡ requested (wordsFed l (wordsOf bs))
+
+bytes-words : (l : Line) (bs : List ℕ) → Fuses l bs
 unfolding finished fed fedAll wordsOf wordsFed grownAll
 bytes-words l [] = refl
 bytes-words l (b ∷ bs) = go (eqb b space) refl (bytes-words (ended l) bs) (bytes-words (grown l b) bs)
   where
-    go : (t : Bool) → eqb b space ≡ t → finished (fedAll (ended l) bs) ≡ requested (wordsFed (ended l) (wordsOf bs)) → finished (fedAll (grown l b) bs) ≡ requested (wordsFed (grown l b) (wordsOf bs))
+    go : (t : Bool) → eqb b space ≡ t → Fuses (ended l) bs → Fuses (grown l b) bs
         → finished (fedAll (fed l b) bs) ≡ requested (wordsFed l (cond (eqb b space) ([] ∷ wordsOf bs) (longer b (wordsOf bs))))
     go true e p q = rw e p
     go false e p q = rw e (q ∙ ap requested (longer-fed l b (wordsOf bs) (words-cons bs)))
@@ -92,6 +96,15 @@ pub reads-parsed : {l : Line} (bs : List ℕ) → Reads l bs → finished l ≡ 
 reads-parsed bs h = ap finished h ∙ parses bs
 
 -- ---- the end of the line
+
+-- what a command asks for with numbers that are within its limits, and with others
+pub fits-asked : {c : Command} {vs : List ℕ} {r : Request} (n : ℕ) (b : Bool) → Requests c vs r → b ≡ within (limitsOf (r .0) (r .1)) n vs → b ≡ true
+    → parsedOf (r .2) ≡ askedOf c n vs
+fits-asked {c} {vs} n b q e t = q .asked ∙ askedOf-within c n vs (rw (q .limits) (sym e ∙ t))
+
+pub fits-not : {c : Command} {vs : List ℕ} {r : Request} (n : ℕ) (b : Bool) → Requests c vs r → b ≡ within (limitsOf (r .0) (r .1)) n vs → b ≡ false
+    → bad ≡ askedOf c n vs
+fits-not {c} {vs} n b q e f = askedOf-other c n vs (rw (q .limits) (sym e ∙ f))
 
 pub finishes : {l : Line} {r : Asked} → parsedOf r ≡ finished l → Finishes l r
 finishes e = record { machine = e; reads = λ bs h. e ∙ reads-parsed bs h }

@@ -5,7 +5,8 @@ use mathlib.Core.List.{List, [], _∷_, _++_}
 use mathlib.Core.Path.{_≡_, refl, sym, ap, _∙_}
 use borrow.Author.Tests.{lt-ltb, le-ltb, le-leb, lt-leb, eq-eqb, ne-eqb}
 use Rattle.listing_text.specs.Call.{bad}
-use Rattle.listing_text.specs.Machine.{started, refused, withWord, withValue, withArgument, withName, lettered, counted, grown, argued, ended, fed, fedAll, requested}
+use Rattle.listing_text.specs.Machine.{started, refused, withWord, withValue, withArgument, withName}
+use Rattle.listing_text.specs.Machine.{lettered, counted, grown, argued, ended, fed, fedAll, requested}
 use Rattle.listing_text.specs.LineReading.{Reads, Feeds}
 use Rattle.listing_text.specs.declared.line.Line.{Line}
 

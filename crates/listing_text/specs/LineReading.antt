@@ -8,10 +8,11 @@ use lib.Dec.{eqb}
 use Rattle.model.specs.Lists.{member}
 use Rattle.calls.specs.CallOf.{callOf}
 use Rattle.listing_text.specs.Number.{newline}
-use Rattle.listing_text.specs.Call.{Parsed, bad, call, parsed}
-use Rattle.listing_text.specs.Machine.{started, fed, fedAll, finished}
+use Rattle.listing_text.specs.Call.{Parsed, bad, call, Command, parsed}
+use Rattle.listing_text.specs.Machine.{room, started, fed, fedAll, handed, finished, limitsOf}
 use Rattle.listing_text.specs.declared.line.Line.{Line}
 use Rattle.listing_text.specs.declared.line.Fed.{Fed}
+use Rattle.listing_text.specs.declared.line.Request.{Request}
 use Rattle.listing_text.specs.declared.line.Asked.{Asked}
 use Rattle.listing_text.specs.declared.line.Asked.the-variants.{Bad, Call}
 
@@ -19,6 +20,12 @@ use Rattle.listing_text.specs.declared.line.Asked.the-variants.{Bad, Cal
 unfoldable pub parsedOf : Asked → Parsed
 parsedOf Bad = bad
 parsedOf (Call k) = call (callOf k)
+
+-- r is what the command c asks for with the numbers vs: its limits, and its call if they fit
+pub record Requests (c : Command) (vs : List ℕ) (r : Request) : Type 0 where
+  pub few : r .0 ≤ room
+  pub limits : c .limits ≡ limitsOf (r .0) (r .1)
+  pub asked : parsedOf (r .2) ≡ handed (c .limits) (c .makes) 0 vs
 
 -- the line l is what has been read of the bytes bs
 abbrev pub Reads : Line → List ℕ → Type 0

@@ -1,17 +1,13 @@
 -- The machine that the code of `line` is: what a line has been read as, byte by byte. That it reads what `parsed` says is a theorem (`parses` of
 -- proofs/LineLaws.antt), so nothing here needs to be believed.
-use Prim.Native.Nat.{ℕ, suc, _+_, _-_, _*_, _/_, _%_, _^_, _≤_}
+use Prim.Native.Nat.{ℕ, suc, _+_, _-_, _*_, _/_, _%_, _^_}
 use mathlib.Core.Bool.{Bool, true, false, cond, _&&_}
 use mathlib.Core.List.{List, [], _∷_}
-use mathlib.Core.Path.{_≡_}
 use lib.ListN.{take, set, getD}
 use lib.Dec.{leb, ltb, eqb}
 use Rattle.listing_text.specs.Number.{space, digitZero, digitNine, base}
-use Rattle.listing_text.specs.Call.{Parsed, bad, Named, names, word, code, limits, fit, callOf}
-use Rattle.listing_text.specs.declared.line.Command.{Command}
-use Rattle.listing_text.specs.declared.line.Command.the-variants.{Unknown}
+use Rattle.listing_text.specs.Call.{Parsed, bad, word, code, Takes, Command, commands, unknown, asked}
 use Rattle.listing_text.specs.declared.line.Line.{Line}
-use Rattle.listing_text.specs.declared.line.Shape.{Shape}
 
 -- ---- states
 
@@ -39,7 +35,8 @@ abbrev pub withValue : Line → ℕ → Line
 withValue l v = record { bad = l .bad; named = l .named; word = l .word; digits = true; value = v; given = l .given; values = l .values }
 
 abbrev pub withArgument : Line → Line
-withArgument l = record { bad = l .bad; named = l .named; word = l .word; digits = false; value = 0; given = l .given + 1; values = set (l .values) (l .given) (l .value) }
+withArgument l =
+    record { bad = l .bad; named = l .named; word = l .word; digits = false; value = 0; given = l .given + 1; values = set (l .values) (l .given) (l .value) }
 
 abbrev pub withName : Line → Line
 withName l = record { bad = l .bad; named = true; word = l .word; digits = l .digits; value = l .value; given = l .given; values = l .values }
@@ -102,28 +99,36 @@ packedFrom p [] = p
 packedFrom p (b ∷ w) = packedFrom (p * letterBase + b) w
 
 -- the command of those letters
-unfoldable pub lookupPacked : ℕ → List Named → Command
-lookupPacked p [] = Unknown
-lookupPacked p (n ∷ ns) = cond (eqb p (packedFrom 0 (n .name))) (n .command) (lookupPacked p ns)
+unfoldable pub lookupPacked : ℕ → List Command → Command
+lookupPacked p [] = unknown
+lookupPacked p (c ∷ cs) = cond (eqb p (packedFrom 0 (c .name))) c (lookupPacked p cs)
 
 unfoldable pub commandOf : ℕ → Command
-commandOf p = lookupPacked p names
+commandOf p = lookupPacked p commands
 
--- the second argument of the command is a code
-unfoldable pub coded : Command → Bool
-coded c = eqb (getD (limits c) 1 0) code
+-- as many numbers as limits, each below its own
+unfoldable pub fit : List ℕ → List ℕ → Bool
+fit [] [] = true
+fit [] (n ∷ ns) = false
+fit (l ∷ ls) [] = false
+fit (l ∷ ls) (n ∷ ns) = ltb n l && fit ls ns
 
--- the first n of vs are what the command takes
-unfoldable pub within : Command → ℕ → List ℕ → Bool
-within c n vs = leb n room && fit (limits c) (take n vs)
+-- the first n of vs are within the limits ls
+unfoldable pub within : List ℕ → ℕ → List ℕ → Bool
+within ls n vs = leb n room && fit ls (take n vs)
 
--- the call of a command with the first n of vs
+-- what a command asks for with the first n of vs
 unfoldable pub askedOf : Command → ℕ → List ℕ → Parsed
-askedOf c n vs = cond (within c n vs) (callOf c (take n vs)) bad
+askedOf c n vs = cond (leb n room) (asked c (take n vs)) bad
 
--- the call of a command with as many of vs as it takes, cut to their widths
-unfoldable pub made : Command → List ℕ → Parsed
-made c vs = callOf c (getD vs 0 0 % word ∷ cond (coded c) (getD vs 1 0) (getD vs 1 0 % word) ∷ getD vs 2 0 % word ∷ getD vs 3 0 % word ∷ [])
+-- a number cut to its width
+abbrev pub cut : ℕ → ℕ → ℕ
+cut l v = cond (eqb l word) (v % word) v
+
+-- what is asked for by the numbers of vs from the i-th on, cut to their widths
+unfoldable pub handed : (ls : List ℕ) → Takes ls → ℕ → List ℕ → Parsed
+handed [] k i vs = k
+handed (l ∷ ls) k i vs = handed ls (k (cut l (getD vs i 0))) (suc i) vs
 
 -- what a line whose last word has ended asks for
 unfoldable pub requested : Line → Parsed
@@ -132,13 +137,6 @@ requested l = cond (l .bad) bad (askedOf (commandOf (l .word)) (l .given) (l .va
 unfoldable pub finished : Line → Parsed
 finished l = requested (ended l)
 
--- ---- limits
-
 -- the limits of a command's arguments, by how many they are and the largest second
 abbrev pub limitsOf : ℕ → ℕ → List ℕ
 limitsOf n s = take n (word ∷ suc s ∷ word ∷ word ∷ [])
-
--- the shape r gives the limits of the command c
-pub record Shapes (c : Command) (r : Shape) : Type 0 where
-  pub few : r .0 ≤ room
-  pub limits : limits c ≡ limitsOf (r .0) (r .1)

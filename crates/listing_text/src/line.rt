@@ -1,18 +1,19 @@
 // A line of a listing: what has been read of it so far, by value, and what it asks for at its end.
 ghost use mathlib.Core.Path.{_≡_};
-ghost use Prim.Native.Nat.{suc, _<_, _%_};
+ghost use Prim.Native.Nat.{suc, _≤_, _<_};
 ghost use mathlib.Core.List.{[]};
 ghost use lib.ListN.{getD};
-ghost use Rattle.listing_text.specs.Call.{word};
-ghost use Rattle.listing_text.specs.Machine.{refused, lettered, counted, argued, ended, grown, commandOf, limitsOf, room, Shapes, within, askedOf, made};
-ghost use Rattle.listing_text.specs.LineReading.{Reads, parsedOf, Feeds, Finishes, BlockFeeds};
+ghost use Rattle.listing_text.specs.Machine.{refused, lettered, counted, argued, ended, grown, commandOf, limitsOf, room, within, askedOf};
+ghost use Rattle.listing_text.specs.LineReading.{Reads, parsedOf, Requests, Feeds, Finishes, BlockFeeds};
 use crate::NEWLINE;
 use crate::SPACE;
 use calls::Call;
 use calls::Op;
 
-// The largest number of 32 bits, and of 64.
+// The largest number of 32 bits, how many there are, and the largest of 64 bits.
 const WORD: u64 = 4294967295;
+
+const WORDS: u64 = WORD + 1;
 
 const CODE: u64 = 18446744073709551615;
 
@@ -74,33 +75,14 @@ pub struct Line {
     values: [u64; ROOM],
 }
 
-// The first word of a line.
-pub enum Command {
-    Setup,
-    Add,
-    Replace,
-    Delete,
-    Begin,
-    End,
-    Start,
-    Step,
-    Pass,
-    Clock,
-    On,
-    Off,
-    HandBack,
-    Awaited,
-    Unknown,
-}
-
-// What a command's arguments are: how many, and the largest that the second may be. The others have 32 bits.
-struct Shape(usize, u64);
-
 // What a line asks for.
 pub enum Asked {
     Bad,
     Call(Call),
 }
+
+// What a command asks for: how many arguments, the largest that the second may be, where the others have 32 bits, and the call with them.
+struct Request(usize, u64, Asked);
 
 // A part of a block, fed: the line, where to go on, and whether a newline ended the line.
 pub struct Fed {
@@ -169,7 +151,7 @@ pub fn finish(line: Line) -> Asked
         return Asked::Bad;
     }
     let values = whole.values;
-    asked_of(command_of(whole.word), whole.given, values)
+    asked_of(whole.word, whole.given, values)
 }
 
 fn refuse(line: Line) -> Line
@@ -271,68 +253,24 @@ fn end_word(line: Line) -> Line
     }
 }
 
-fn command_of(word: u64) -> Command
-    ensures { λ r. ⌜ r ≡ commandOf word ⌝ }
-{
-    match word {
-        SETUP => Command::Setup,
-        ADD => Command::Add,
-        REP => Command::Replace,
-        DEL => Command::Delete,
-        BEGIN => Command::Begin,
-        END => Command::End,
-        START => Command::Start,
-        STEP => Command::Step,
-        PASS => Command::Pass,
-        CLOCK => Command::Clock,
-        ON => Command::On,
-        OFF => Command::Off,
-        BACK => Command::HandBack,
-        AWAITED => Command::Awaited,
-        _ => Command::Unknown,
-    }
-}
-
-fn shape_of(command: Command) -> Shape
-    ensures { λ r. ⌜ Shapes command r ⌝ }
-{
-    match command {
-        Command::Setup => Shape(3, WORD),
-        Command::Add => Shape(4, CODE),
-        Command::Replace => Shape(4, CODE),
-        Command::Delete => Shape(2, CODE),
-        Command::Begin => Shape(1, WORD),
-        Command::End => Shape(1, WORD),
-        Command::Start => Shape(2, CODE),
-        Command::Step => Shape(1, WORD),
-        Command::Pass => Shape(2, WORD),
-        Command::Clock => Shape(1, WORD),
-        Command::On => Shape(1, WORD),
-        Command::Off => Shape(1, WORD),
-        Command::HandBack => Shape(1, WORD),
-        Command::Awaited => Shape(0, WORD),
-        Command::Unknown => Shape(0, WORD),
-    }
-}
-
 // The largest that argument i may be.
-fn largest(shape: Shape, i: usize) -> u64
-    ensures { λ r. ⌜ (i < room → suc r ≡ getD (limitsOf room (shape .1)) i 0) ⌝ }
+fn largest(second: u64, i: usize) -> u64
+    ensures { λ r. ⌜ (i < room → suc r ≡ getD (limitsOf room second) i 0) ⌝ }
 {
-    if i == 1 { shape.1 } else { WORD }
+    if i == 1 { second } else { WORD }
 }
 
-// As many arguments as the command takes, each within its width.
-fn fits(command: Command, given: usize, values: [u64; ROOM]) -> bool
-    ensures { λ r. ⌜ r ≡ within command given values ⌝ }
+// As many arguments as `count`, each within its width.
+fn fits(count: usize, second: u64, given: usize, values: [u64; ROOM]) -> bool
+    requires { ⌜ count ≤ room ⌝ }
+    ensures { λ r. ⌜ r ≡ within (limitsOf count second) given values ⌝ }
 {
-    let shape = shape_of(command);
-    if given != shape.0 {
+    if given != count {
         return false;
     }
     let mut i = 0;
     while i < given {
-        if largest(shape, i) < values[i] {
+        if largest(second, i) < values[i] {
             return false;
         }
         i += 1;
@@ -340,47 +278,49 @@ fn fits(command: Command, given: usize, values: [u64; ROOM]) -> bool
     true
 }
 
-// The low 32 bits.
-fn low(x: u64) -> u32
-    ensures { λ r. ⌜ r ≡ x % word ⌝ }
+fn asked_of(word: u64, given: usize, values: [u64; ROOM]) -> Asked
+    ensures { λ r. ⌜ parsedOf r ≡ askedOf (commandOf word) given values ⌝ }
 {
-    (x % (WORD + 1)) as u32
-}
-
-fn asked_of(command: Command, given: usize, values: [u64; ROOM]) -> Asked
-    ensures { λ r. ⌜ parsedOf r ≡ askedOf command given values ⌝ }
-{
-    if fits(command, given, values) {
-        make_asked(command, values)
+    let request = request_of(word, values);
+    if fits(request.0, request.1, given, values) {
+        request.2
     } else {
         Asked::Bad
     }
 }
 
-// A call of a command, which may be unknown.
-fn make_asked(command: Command, values: [u64; ROOM]) -> Asked
-    ensures { λ r. ⌜ parsedOf r ≡ made command values ⌝ }
+// The commands, each with its call. An argument is cut to 32 bits, which changes none that fits; the second may be a code, which is not cut.
+fn request_of(word: u64, values: [u64; ROOM]) -> Request
+    ensures { λ r. ⌜ Requests (commandOf word) values r ⌝ }
 {
     let code = values[1];
-    let material = low(values[3]);
-    let deposit = low(values[2]);
-    let kind = low(code);
-    let lane = low(values[0]);
-    match command {
-        Command::Setup => Asked::Call(Call::SetUp(lane, kind, deposit)),
-        Command::Add => Asked::Call(Call::OnState(Op::Add(lane, code, deposit, material))),
-        Command::Replace => Asked::Call(Call::OnState(Op::Replace(lane, code, deposit, material))),
-        Command::Delete => Asked::Call(Call::OnState(Op::Delete(lane, code))),
-        Command::Begin => Asked::Call(Call::OnState(Op::Begin(lane))),
-        Command::End => Asked::Call(Call::OnState(Op::End(lane))),
-        Command::Start => Asked::Call(Call::OnState(Op::Start(lane, code))),
-        Command::Step => Asked::Call(Call::OnState(Op::Step(lane))),
-        Command::Pass => Asked::Call(Call::OnState(Op::Pass(lane, kind))),
-        Command::Clock => Asked::Call(Call::OnState(Op::Clock(lane))),
-        Command::On => Asked::Call(Call::OnState(Op::On(lane))),
-        Command::Off => Asked::Call(Call::OnState(Op::Off(lane))),
-        Command::HandBack => Asked::Call(Call::OnState(Op::HandBack(lane))),
-        Command::Awaited => Asked::Call(Call::OnState(Op::Awaited)),
-        Command::Unknown => Asked::Bad,
+    let lane = (values[0] % WORDS) as u32;
+    let kind = (code % WORDS) as u32;
+    let deposit = (values[2] % WORDS) as u32;
+    let material = (values[3] % WORDS) as u32;
+    match word {
+        SETUP => Request(3, WORD, Asked::Call(Call::SetUp(lane, kind, deposit))),
+        ADD => Request(
+            4,
+            CODE,
+            Asked::Call(Call::OnState(Op::Add(lane, code, deposit, material))),
+        ),
+        REP => Request(
+            4,
+            CODE,
+            Asked::Call(Call::OnState(Op::Replace(lane, code, deposit, material))),
+        ),
+        DEL => Request(2, CODE, Asked::Call(Call::OnState(Op::Delete(lane, code)))),
+        BEGIN => Request(1, WORD, Asked::Call(Call::OnState(Op::Begin(lane)))),
+        END => Request(1, WORD, Asked::Call(Call::OnState(Op::End(lane)))),
+        START => Request(2, CODE, Asked::Call(Call::OnState(Op::Start(lane, code)))),
+        STEP => Request(1, WORD, Asked::Call(Call::OnState(Op::Step(lane)))),
+        PASS => Request(2, WORD, Asked::Call(Call::OnState(Op::Pass(lane, kind)))),
+        CLOCK => Request(1, WORD, Asked::Call(Call::OnState(Op::Clock(lane)))),
+        ON => Request(1, WORD, Asked::Call(Call::OnState(Op::On(lane)))),
+        OFF => Request(1, WORD, Asked::Call(Call::OnState(Op::Off(lane)))),
+        BACK => Request(1, WORD, Asked::Call(Call::OnState(Op::HandBack(lane)))),
+        AWAITED => Request(0, WORD, Asked::Call(Call::OnState(Op::Awaited))),
+        _ => Request(0, WORD, Asked::Bad),
     }
 }

@@ -29,7 +29,8 @@ slice-aggregate-write : tie.Need-slice-aggregate-write
 slice-aggregate-write c =
     let at-answer-line : tie.After-answer-line = search in
     let at-buffer : tie.After-buffer = search in
-    sym (length-take-le _ _ (omega (arith, (at-answer-line .answer-line .ensures .short), (at-answer-line .answer-line .kept) .1 .1 .0, (at-buffer .buffer .ensures))))
+    let answered = at-answer-line .answer-line in
+    sym (length-take-le _ _ (omega (arith, answered .ensures .short, answered .kept .1 .1 .0, at-buffer .buffer .ensures)))
 
 write-requires : tie.Need-write-requires
 write-requires c κs = search needs

@@ -1,6 +1,6 @@
 -- The loop's invariant: the block is answered from the first place to this one. The measure is what is left of the block.
 use borrow.Author.Needs.{needs}
-use Prim.Native.Nat.{_-_}
+use Prim.Native.Nat.{ℕ, _-_}
 use mathlib.Core.Path.{_≡_}
 use native.Mathlib.Omega.{arith}
 use lib.ListN.{length}
@@ -31,7 +31,8 @@ answer-part-requires c κs =
     let at-if2 : tie.Then2 Inv-loop μ-loop = search in
     let at-if1 : tie.Then1 Inv-loop μ-loop = search in
     let at-loop : tie.At-loop Inv-loop μ-loop = search in
-    ((at-if1 .if1 .taken), omega (arith, leb-true lineLength (length (at-loop .loop .out) - (at-loop .loop .at .end)) (at-if2 .if2 .taken), (at-loop .loop .inv) .0 .room))
+    let left : ℕ = length (at-loop .loop .out) - (at-loop .loop .at .end) in
+    ((at-if1 .if1 .taken), omega (arith, leb-true lineLength left (at-if2 .if2 .taken), (at-loop .loop .inv) .0 .room))
 
 loop-less : tie.Need-loop-less Inv-loop μ-loop
 loop-less c =
@@ -55,7 +56,8 @@ same-length-2 c =
 returns : tie.Need-returns Inv-loop μ-loop
 returns c =
     let at-loop : tie.At-loop Inv-loop μ-loop = search in
-    record { goes = (at-loop .loop .inv) .0; full = λ h. omega (arith, leb-false lineLength (length (at-loop .loop .out) - (at-loop .loop .at .end)) (c .if2 .left), (at-loop .loop .inv) .0 .room) }
+    let left : ℕ = length (at-loop .loop .out) - (at-loop .loop .at .end) in
+    record { goes = (at-loop .loop .inv) .0; full = λ h. omega (arith, leb-false lineLength left (c .if2 .left), (at-loop .loop .inv) .0 .room) }
 
 same-length-3 : tie.Need-same-length-3 Inv-loop μ-loop
 same-length-3 c =

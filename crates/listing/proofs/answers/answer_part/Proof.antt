@@ -28,13 +28,20 @@ returns c =
     let at-if1 : tie.Then1 = search in
     let at-feed-until-newline : tie.After-feed-until-newline = search in
     let entry : tie.Start = search in
-    record { goes = goes-line _ _ _ _ _ _ _ (at-feed-until-newline .feed-until-newline .ensures) (at-if1 .if1 .taken) (at-answer-line .answer-line .ensures) (c .nothing .ensures) ((entry .pre) .0) ((entry .pre) .1) ((at-answer-line .answer-line .kept) .1 .1 .0); further = (at-feed-until-newline .feed-until-newline .ensures .further) ((entry .pre) .0) }
+    let fed = at-feed-until-newline .feed-until-newline .ensures in
+    let answered = at-answer-line .answer-line in
+    record {
+      goes =
+          goes-line _ _ _ _ _ _ _ fed (at-if1 .if1 .taken) (answered .ensures) (c .nothing .ensures) (entry .pre .0) (entry .pre .1) (answered .kept .1 .1 .0);
+      further = fed .further (entry .pre .0);
+    }
 
 returns-2 : tie.Need-returns-2
 returns-2 c =
     let at-feed-until-newline : tie.After-feed-until-newline = search in
     let entry : tie.Start = search in
-    record { goes = goes-part _ _ _ _ _ (at-feed-until-newline .feed-until-newline .ensures) (c .if1 .left) ((entry .pre) .0) (omega (arith, (entry .pre) .1)); further = (at-feed-until-newline .feed-until-newline .ensures .further) ((entry .pre) .0) }
+    let fed = at-feed-until-newline .feed-until-newline .ensures in
+    record { goes = goes-part _ _ _ _ _ fed (c .if1 .left) (entry .pre .0) (omega (arith, entry .pre .1)); further = fed .further (entry .pre .0) }
 
 pub answer-part-spec : {M : Type 1} → statement M
 answer-part-spec =

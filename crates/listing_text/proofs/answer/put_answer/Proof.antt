@@ -45,7 +45,8 @@ returns c =
     let w2 : tie.After-put-word2 = search in
     let w1 : tie.After-put-word = search in
     let entry : tie.Start = search in
-    puts-answer _ _ (entry .args .t3) (entry .pre) (w1 .put-word .ensures) (w2 .put-word2 .ensures) (w3 .put-word3 .ensures) (w4 .put-word4 .ensures) (w5 .put-word5 .ensures)
+    puts-answer _ _ (entry .args .t3) (entry .pre) (w1 .put-word .ensures) (w2 .put-word2 .ensures) (w3 .put-word3 .ensures) (w4 .put-word4 .ensures)
+    (w5 .put-word5 .ensures)
 
 pub put-answer-spec : {M : Type 1} → statement M
 put-answer-spec =

@@ -37,4 +37,16 @@ returns : tie.Need-returns
 returns c = puts-bad _ _ (c .pre)
 
 pub put-bad-spec : {M : Type 1} → statement M
-put-bad-spec = tie.close (tie.spec slice-write-out add-out slice-write-out-2 add-out-2 slice-write-out-3 add-out-3 slice-write-out-4 add-result same-length returns)
+put-bad-spec =
+    tie.close
+    (tie.spec
+    slice-write-out
+    add-out
+    slice-write-out-2
+    add-out-2
+    slice-write-out-3
+    add-out-3
+    slice-write-out-4
+    add-result
+    same-length
+    returns)

@@ -38,4 +38,17 @@ returns-4 : tie.Need-returns-4
 returns-4 c = search (needs, counted-full)
 
 pub add-digit-spec : {M : Type 1} → statement M
-add-digit-spec = tie.close (tie.spec refuse-requires returns refuse-requires-2 returns-2 sub-digit sub-if3 mul-next add-next refuse-requires-3 returns-3 returns-4)
+add-digit-spec =
+    tie.close
+    (tie.spec
+    refuse-requires
+    returns
+    refuse-requires-2
+    returns-2
+    sub-digit
+    sub-if3
+    mul-next
+    add-next
+    refuse-requires-3
+    returns-3
+    returns-4)

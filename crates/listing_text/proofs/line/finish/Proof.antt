@@ -1,7 +1,6 @@
 -- The last word has its end, and what the line asks for then is what `parsed` says.
 use borrow.Author.Needs.{needs}
-use mathlib.Core.Path.{sym, ap, _∙_}
-use Rattle.listing_text.specs.Machine.{askedOf}
+use mathlib.Core.Path.{sym, _∙_}
 use Rattle.listing_text.specs.LineReading.{parsedOf}
 use Rattle.listing_text.proofs.LineLaws.{finishes, finished-bad, finished-whole}
 use Rattle.listing_text.proofs.line.finish.Statement.{statement}
@@ -16,21 +15,16 @@ returns c =
     let at-end-word : tie.After-end-word = search in
     finishes (sym (finished-bad _ _ (at-end-word .end-word .ensures) (c .if1 .taken)))
 
-command-of-requires : tie.Need-command-of-requires
-command-of-requires c κs = search needs
-
 asked-of-requires : tie.Need-asked-of-requires
 asked-of-requires c κs = search needs
 
 returns-2 : tie.Need-returns-2
 returns-2 c =
-    let at-command-of : tie.After-command-of = search in
     let at-if1 : tie.Else1 = search in
     let called : tie.After-end-word = search in
     finishes
     (c .asked-of .ensures
-    ∙ ap (λ k. askedOf k (called .end-word .result .given) (called .end-word .result .values)) (at-command-of .command-of .ensures)
     ∙ sym (finished-whole _ _ (called .end-word .ensures) (at-if1 .if1 .left)))
 
 pub finish-spec : {M : Type 1} → statement M
-finish-spec = tie.close (tie.spec end-word-requires returns command-of-requires asked-of-requires returns-2)
+finish-spec = tie.close (tie.spec end-word-requires returns asked-of-requires returns-2)

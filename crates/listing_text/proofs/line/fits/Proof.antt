@@ -11,13 +11,10 @@ use Rattle.listing_text.proofs.line.fits.Statement.{statement}
 use Rattle.listing_text.proofs.line.fits.Tie as tie
 
 abbrev Inv-loop : tie.InvT-loop
-Inv-loop given values shape i₀ i = (i ≤ given) × ((k : ℕ) → k < i → getD values k 0 < getD (limitsOf 4 (shape .1)) k 0)
+Inv-loop count second given values i₀ i = (i ≤ given) × ((k : ℕ) → k < i → getD values k 0 < getD (limitsOf 4 second) k 0)
 
 abbrev μ-loop : tie.MeasureT-loop
-μ-loop given values shape i₀ i = given - i
-
-shape-of-requires : tie.Need-shape-of-requires Inv-loop μ-loop
-shape-of-requires c κs = search needs
+μ-loop count second given values i₀ i = given - i
 
 returns : tie.Need-returns Inv-loop μ-loop
 returns c = search (needs, within-other)
@@ -36,12 +33,15 @@ array-read-if2 c = search needs
 
 returns-2 : tie.Need-returns-2 Inv-loop μ-loop
 returns-2 c =
-    let head = c .before .before .before in
-    let called = head .before .before .before in
-    let few : head .loop .i < 4 = omega (arith, called .shape-of .ensures .few) in
-    let len : length (called .before .args .t3) ≡ 4 = search needs in
-    let above : getD (limitsOf 4 (called .shape-of .result .1)) (head .loop .i) 0 ≤ getD (called .before .args .t3) (head .loop .i) 0 = omega (arith, c .before .largest .ensures few) in
-    within-above _ _ (called .shape-of .ensures) _ _ len (head .before .if1 .left) (head .loop .i) (c .before .before .loop-test .taken) above
+    let at-largest : tie.After-largest Inv-loop μ-loop = search in
+    let entry : tie.Start Inv-loop μ-loop = search in
+    let head : tie.At-loop Inv-loop μ-loop = search in
+    let at-if1 : tie.Else1 Inv-loop μ-loop = search in
+    let inside : tie.In-loop Inv-loop μ-loop = search in
+    let len : length (entry .args .t4) ≡ 4 = search needs in
+    let above : getD (limitsOf 4 (entry .args .second)) (head .loop .i) 0 ≤ getD (entry .args .t4) (head .loop .i) 0 =
+    omega (arith, at-largest .largest .ensures (omega arith)) in
+    within-above _ _ (entry .pre) _ _ len (at-if1 .if1 .left) (head .loop .i) (inside .loop-test .taken) above
 
 add-i : tie.Need-add-i Inv-loop μ-loop
 add-i c = search needs
@@ -54,9 +54,8 @@ loop-again c =
     let at-largest : tie.After-largest Inv-loop μ-loop = search in
     let entry : tie.Start Inv-loop μ-loop = search in
     let head : tie.At-loop Inv-loop μ-loop = search in
-    let called : tie.After-shape-of Inv-loop μ-loop = search in
-    let few : head .loop .i < 4 = omega (arith, called .shape-of .ensures .few) in
-    let below : getD (entry .args .t3) (head .loop .i) 0 < getD (limitsOf 4 (called .shape-of .result .1)) (head .loop .i) 0 = omega (arith, at-largest .largest .ensures few) in
+    let below : getD (entry .args .t4) (head .loop .i) 0 < getD (limitsOf 4 (entry .args .second)) (head .loop .i) 0 =
+    omega (arith, at-largest .largest .ensures (omega arith)) in
     (omega arith, below-more _ _ (head .loop .inv .1) below)
 
 returns-3 : tie.Need-returns-3 Inv-loop μ-loop
@@ -64,9 +63,8 @@ returns-3 c =
     let at-if1 : tie.Else1 Inv-loop μ-loop = search in
     let entry : tie.Start Inv-loop μ-loop = search in
     let head : tie.At-loop Inv-loop μ-loop = search in
-    let called : tie.After-shape-of Inv-loop μ-loop = search in
-    let len : length (entry .args .t3) ≡ 4 = search needs in
-    within-below _ _ (called .shape-of .ensures) _ _ len (at-if1 .if1 .left) (λ k h. head .loop .inv .1 k (omega arith))
+    let len : length (entry .args .t4) ≡ 4 = search needs in
+    within-below _ _ (entry .pre) _ _ len (at-if1 .if1 .left) (λ k h. head .loop .inv .1 k (omega arith))
 
 pub fits-spec : {M : Type 1} → statement M
 fits-spec =
@@ -74,7 +72,6 @@ fits-spec =
     (tie.spec
     Inv-loop
     μ-loop
-    shape-of-requires
     returns
     loop-holds
     largest-requires

@@ -1,4 +1,4 @@
--- The second limit is the shape's, each other is that of 32 bits.
+-- The second limit is the command's own, each other is that of 32 bits.
 use Rattle.listing_text.proofs.LimitLaws.{limit-second, limit-other}
 use Rattle.listing_text.proofs.line.largest.Statement.{statement}
 use Rattle.listing_text.proofs.line.largest.Tie as tie
