@@ -8,30 +8,36 @@ use access::causes;
 use calls::Call;
 use calls::Op;
 
-// A call on a legal memory: each has its own function.
+// A call on a legal memory: each has its own function, and one of a lane is handed the lane, worked out here.
 fn perform(m: &mut [u32], k: Op) -> access::Answer
     requires { ⌜ Sound (now m) ⌝ }
     ensures { λ r. ⌜ Does (on-state (opOf k)) (now (m .entry)) r (now (m .exit)) ⌝ }
 {
     match k {
-        Op::Add(lane, code, deposit, material) => updates::add(m, lane, code, deposit, material),
-        Op::Replace(lane, code, deposit, material) => updates::replace(
+        Op::Add(lane, code, deposit, material) => updates::add(
             m,
-            lane,
+            access::lane_at(m, lane),
             code,
             deposit,
             material,
         ),
-        Op::Delete(lane, code) => updates::delete(m, lane, code),
-        Op::Begin(lane) => readers::begin(m, lane),
-        Op::End(lane) => readers::end(m, lane),
-        Op::Start(lane, code) => readers::start(m, lane, code),
-        Op::Step(lane) => readers::step(m, lane),
-        Op::Pass(lane, kind) => readers::pass(m, lane, kind),
-        Op::Clock(lane) => periods::clock(m, lane),
-        Op::On(lane) => readers::on(m, lane),
-        Op::Off(lane) => periods::off(m, lane),
-        Op::HandBack(lane) => updates::hand_back(m, lane),
+        Op::Replace(lane, code, deposit, material) => updates::replace(
+            m,
+            access::lane_at(m, lane),
+            code,
+            deposit,
+            material,
+        ),
+        Op::Delete(lane, code) => updates::delete(m, access::lane_at(m, lane), code),
+        Op::Begin(lane) => readers::begin(m, access::lane_at(m, lane)),
+        Op::End(lane) => readers::end(m, access::lane_at(m, lane)),
+        Op::Start(lane, code) => readers::start(m, access::lane_at(m, lane), code),
+        Op::Step(lane) => readers::step(m, access::lane_at(m, lane)),
+        Op::Pass(lane, kind) => readers::pass(m, access::lane_at(m, lane), kind),
+        Op::Clock(lane) => periods::clock(m, access::lane_at(m, lane)),
+        Op::On(lane) => readers::on(m, access::lane_at(m, lane)),
+        Op::Off(lane) => periods::off(m, access::lane_at(m, lane)),
+        Op::HandBack(lane) => updates::hand_back(m, access::lane_at(m, lane)),
         Op::Awaited => awaited::awaited(m),
     }
 }
