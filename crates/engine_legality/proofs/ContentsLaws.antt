@@ -16,17 +16,10 @@ use Rattle.model.specs.Legal.{sizesFit, contentsAgree}
 use Rattle.laws.specs.Tests.{and-true-right, every-true}
 use Rattle.laws.specs.ListLaws.{take-map-from}
 use Rattle.laws.specs.Loops.{all-fails, all-on}
-use Rattle.words.specs.Contents.{Small}
-use Rattle.engine_legality.specs.Contents.{Fits, sameWord, sameContents}
-
-pub sizes-small : (C P S : ℕ) → sizesFit (sized C P S) ≡ true → Small C P S
-unfolding sizesFit
-sizes-small C P S h =
-    let e = every-true _ h in
-    record { cabinets = leb-true _ _ (e .1 .0); places = leb-true _ _ (e .1 .1 .1 .0); slots = leb-true _ _ (e .1 .1 .1 .1 .1 .0) }
-
-pub sizes-known : (C P S : ℕ) (r : Bool) → r ≡ sizesFit (sized C P S) → r ≡ true → Small C P S
-sizes-known C P S r q e = sizes-small C P S (sym q ∙ e)
+use Rattle.words.specs.declared.Sizes.{Sizes}
+use Rattle.words.specs.Lent.{sizesOf, sizesIn, Lent}
+use Rattle.words.proofs.LentLaws.{few-fits}
+use Rattle.engine_legality.specs.Contents.{sameWord, sameContents}
 
 -- ---- word by word: of the words from a on n are left
 
@@ -40,33 +33,27 @@ module _ (m ws : List ℕ) (a n : ℕ) (w : Bool) (inv : all (sameWord m ws) (fr
 -- ---- the ways out of the check
 
 module _ (m : List ℕ) where
-  abbrev C : ℕ
-  C = at m cabinetsAt
-
-  abbrev P : ℕ
-  P = at m placesAt
-
-  abbrev S : ℕ
-  S = at m slotsAt
-
   pub contents-short : length m < contentsLength → false ≡ contentsAgree m
   unfolding contentsAgree every
   contents-short h = rw (lt-leb contentsLength (length m) h)
 
   -- the contents of the sizes, as they are written to words of 0
   abbrev own : List ℕ
-  own = sets (replicate contentsLength 0) 0 (contents (sized C P S))
+  own = sets (replicate contentsLength 0) 0 (contents (sizes m))
 
   own-eq : contentsLength ≤ length m → same (take contentsLength m) (contents (sizes m)) ≡ sameContents m own
   unfolding same contents from all sameContents
   own-eq l = ap (λ (xs : List ℕ). same xs (contents (sizes m))) (take-map-from m contentsLength l)
 
-  module _ (l : contentsLength ≤ length m) (r : Bool) (q : r ≡ sizesFit (sized C P S)) where
+  module _ (l : contentsLength ≤ length m) (z : Sizes) (ez : z ≡ sizesIn m) (r : Bool) (s : r ≡ sizesFit (sizesOf z)) where
+    q : r ≡ sizesFit (sizes m)
+    q = s ∙ ap (λ (x : Sizes). sizesFit (sizesOf x)) ez
+
     pub contents-unsized : r ≡ false → false ≡ contentsAgree m
     unfolding contentsAgree every
     contents-unsized e = rw (le-leb contentsLength (length m) l, sym q ∙ e)
 
-    module _ (e : r ≡ true) (ws : List ℕ) (o : ws ≡ own) (v : Bool) (k : v ≡ sameContents m ws) where
+    module _ (e : r ≡ true) (ws : List ℕ) (o : ws ≡ sets (replicate contentsLength 0) 0 (contents (sizesOf z))) (v : Bool) (k : v ≡ sameContents m ws) where
       abbrev long : Bool
       long = leb (total (sizes m)) (length m)
 
@@ -74,19 +61,17 @@ module _ (m : List ℕ) where
       rest : (v && long) ≡ contentsAgree m
       unfolding contentsAgree every
       rest =
-          ap (λ (b : Bool). b && long) (k ∙ ap (sameContents m) o ∙ sym (own-eq l))
+          ap (λ (b : Bool). b && long) (k ∙ ap (sameContents m) (o ∙ ap (λ (x : Sizes). sets (replicate contentsLength 0) 0 (contents (sizesOf x))) ez) ∙ sym (own-eq l))
           ∙ ap (λ (b : Bool). same (take contentsLength m) (contents (sizes m)) && b) (sym (and-true-right long))
           ∙ sym (rw (le-leb contentsLength (length m) l, sym q ∙ e))
 
       pub contents-other : v ≡ false → false ≡ contentsAgree m
-      contents-other z = ap (λ (b : Bool). b && long) (sym z) ∙ rest
+      contents-other h = ap (λ (b : Bool). b && long) (sym h) ∙ rest
 
-      pub contents-decided : v ≡ true → (n : ℕ) → n ≡ total (sizes m) → leb n (length m) ≡ contentsAgree m
-      contents-decided z n t = ap (λ (x : ℕ). leb x (length m)) t ∙ ap (λ (b : Bool). b && long) (sym z) ∙ rest
+      pub contents-decided : v ≡ true → (n : ℕ) → n ≡ total (sizesOf z) → leb n (length m) ≡ contentsAgree m
+      contents-decided h n t =
+          ap (λ (x : ℕ). leb x (length m)) (t ∙ ap (λ (x : Sizes). total (sizesOf x)) ez) ∙ ap (λ (b : Bool). b && long) (sym h) ∙ rest
 
-  pub contents-fits : contentsAgree m ≡ true → Fits m
+  pub contents-lent : contentsAgree m ≡ true → Lent m (sizes m)
   unfolding contentsAgree
-  contents-fits h =
-      let e = every-true _ h in
-      let s = sizes-small C P S (e .1 .0) in
-      record { cabinets = s .cabinets; places = s .places; slots = s .slots; total = leb-true _ _ (e .1 .1 .1 .0) }
+  contents-lent h = let e = every-true _ h in record { few = few-fits (sizes m) (e .1 .0); long = leb-true _ _ (e .1 .1 .1 .0) }

@@ -15,6 +15,8 @@ use Rattle.model.specs.Legal.{laneNumbers, flagsInRange, masksInRange, generati
 use Rattle.model.specs.Legal.{cabinetBits, largestFits, globalGenerationFits, periodRuns, largestAgrees, laneGenerations, globalGeneration}
 use Rattle.laws.specs.Tests.{_&_, Every, iff-eq, every-true, every-intro, and-true, and-intro, all-below, all-below-intro, all-map-below}
 use Rattle.laws.specs.Tests.{all-map-intro, every-all}
+use Rattle.words.specs.declared.Sizes.{Sizes}
+use Rattle.words.specs.Lent.{sizesOf, sizesIn}
 use Rattle.engine_legality.specs.LaneSentences.{laneRests, emptyFirst, laneFits, cabinetLanes, allLanes, cabinetFits, allCabinets, globalFits}
 use Rattle.engine_legality.specs.LaneSentences.{globalWordsFit}
 use Rattle.engine_legality.specs.WordSentences.{engineLegal}
@@ -216,18 +218,26 @@ module _ (m : List ℕ) where
   pub engine-eq : tests ≡ engineLegal m
   engine-eq = iff-eq tests (engineLegal m) (λ h. said-engine (tests-said h)) (λ h. said-tests (engine-said h))
 
-  -- ---- the ways out of the check
+  -- ---- the ways out of the check, by the sizes that were read
 
-  module _ (r : Bool) (q : r ≡ globalWordsFit m (C m) (S m)) where
+  module _ (z : Sizes) (ez : z ≡ sizesIn m) (r : Bool) (q : r ≡ globalWordsFit m (z .cabinets) (z .slots)) where
+    global-read : r ≡ globalWordsFit m (C m) (S m)
+    global-read = q ∙ ap (λ (x : Sizes). globalWordsFit m (x .cabinets) (x .slots)) ez
+
     pub engine-global : r ≡ false → false ≡ engineLegal m
-    engine-global e = ap (λ (b : Bool). b && cabinetsTest) (sym e ∙ q) ∙ engine-eq
+    engine-global e = ap (λ (b : Bool). b && cabinetsTest) (sym e ∙ global-read) ∙ engine-eq
 
-    module _ (e : r ≡ true) (r₂ : Bool) (q₂ : r₂ ≡ allCabinets m (C m) (P m)) where
+    module _ (e : r ≡ true) (r₂ : Bool) (q₂ : r₂ ≡ allCabinets m (z .cabinets) (z .places)) where
+      cabinets-read : r₂ ≡ allCabinets m (C m) (P m)
+      cabinets-read = q₂ ∙ ap (λ (x : Sizes). allCabinets m (x .cabinets) (x .places)) ez
+
       onward : (b : Bool) → (b && lanesTest) ≡ cabinetsTest → (b && lanesTest) ≡ engineLegal m
-      onward b h = ap₂ _&&_ (sym e ∙ q) h ∙ engine-eq
+      onward b h = ap₂ _&&_ (sym e ∙ global-read) h ∙ engine-eq
 
       pub engine-cabinets : r₂ ≡ false → false ≡ engineLegal m
-      engine-cabinets z = onward false (ap (λ (b : Bool). b && lanesTest) (sym z ∙ q₂))
+      engine-cabinets h = onward false (ap (λ (b : Bool). b && lanesTest) (sym h ∙ cabinets-read))
 
-      pub engine-lanes : r₂ ≡ true → (r₃ : Bool) → r₃ ≡ lanesTest → r₃ ≡ engineLegal m
-      engine-lanes z r₃ q₃ = q₃ ∙ onward true (ap (λ (b : Bool). b && lanesTest) (sym z ∙ q₂))
+      pub engine-lanes : r₂ ≡ true → (r₃ : Bool) → r₃ ≡ allLanes m (z .slots) (z .cabinets) (z .places) (lanesBody (sizesOf z)) → r₃ ≡ engineLegal m
+      engine-lanes h r₃ q₃ =
+          q₃ ∙ ap (λ (x : Sizes). allLanes m (x .slots) (x .cabinets) (x .places) (lanesBody (sizesOf x))) ez
+          ∙ onward true (ap (λ (b : Bool). b && lanesTest) (sym h ∙ cabinets-read))

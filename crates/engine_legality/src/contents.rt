@@ -30,17 +30,15 @@ pub fn contents_agree(m: &[u32]) -> bool
     if m.len() < words::CONTENTS_LENGTH {
         return false;
     }
-    let cabinets = m[words::CABINETS_AT];
-    let places = m[words::PLACES_AT];
-    let slots = m[words::SLOTS_AT];
-    if !words::sizes_fit(cabinets, places, slots) {
+    let z = words::read_sizes(m);
+    if !words::sizes_fit(z) {
         return false;
     }
     let mut own = [0u32; words::CONTENTS_LENGTH];
-    words::contents::write(&mut own, cabinets, places, slots);
+    words::contents::write(&mut own, z);
     if !begins_with(m, &own) {
         return false;
     }
-    let b = words::contents::bodies_of(cabinets, places, slots);
+    let b = words::contents::bodies_of(z);
     words::index(b.total) <= m.len()
 }

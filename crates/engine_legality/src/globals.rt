@@ -3,7 +3,8 @@ ghost use mathlib.Core.Path.{_≡_};
 ghost use Prim.Native.Nat.{_+_, _^_, _<_, _≤_};
 ghost use lib.ListN.{length};
 ghost use lib.Dec.{ltb};
-ghost use Rattle.model.specs.Layout.{maxCabinets, maxPlaces, masksAt};
+ghost use Rattle.model.specs.Layout.{maxPlaces};
+ghost use Rattle.words.specs.Lent.{sizesOf, Lent};
 ghost use Rattle.masks.specs.Bits.{width};
 ghost use Rattle.engine_legality.specs.LaneSentences.{cabinetFits, allCabinets, globalWordsFit};
 
@@ -33,16 +34,16 @@ fn cabinet_fits(mask: u32, bit: bool, places: u32) -> bool
 
 // "masks are in range", the cabinet mask apart, and "a cabinet's bit is set exactly when its lane mask
 // is not 0".
-pub fn cabinets_fit(m: &[u32], cabinets: u32, places: u32) -> bool
-    requires { ⌜ (masksAt + cabinets ≤ length (now m)) × (cabinets ≤ maxCabinets) × (places ≤ maxPlaces) ⌝ }
-    ensures { λ r. ⌜ r ≡ allCabinets (now (m .entry)) cabinets places ⌝ }
+pub fn cabinets_fit(m: &[u32], z: words::Sizes) -> bool
+    requires { ⌜ Lent (now m) (sizesOf z) ⌝ }
+    ensures { λ r. ⌜ r ≡ allCabinets (now (m .entry)) (z .cabinets) (z .places) ⌝ }
 {
     let bits = m[words::CABINET_MASK_AT];
     let mut c: u32 = 0;
-    let mut left = cabinets;
+    let mut left = z.cabinets;
     while left > 0 {
         let bit = masks::test(bits, c);
-        if !cabinet_fits(m[words::MASKS_AT + (c as usize)], bit, places) {
+        if !cabinet_fits(m[words::MASKS_AT + (c as usize)], bit, z.places) {
             return false;
         }
         c = c + 1;
@@ -53,15 +54,15 @@ pub fn cabinets_fit(m: &[u32], cabinets: u32, places: u32) -> bool
 
 // The global words: "masks are in range" of the cabinet mask, the largest generation and the global
 // queues' generation. Chain heads and the ends of the global queues are the walks' to test.
-pub fn global_words_fit(m: &[u32], cabinets: u32, slots: u32) -> bool
-    requires { ⌜ (masksAt ≤ length (now m)) × (cabinets ≤ maxCabinets) ⌝ }
-    ensures { λ r. ⌜ r ≡ globalWordsFit (now (m .entry)) cabinets slots ⌝ }
+pub fn global_words_fit(m: &[u32], z: words::Sizes) -> bool
+    requires { ⌜ Lent (now m) (sizesOf z) ⌝ }
+    ensures { λ r. ⌜ r ≡ globalWordsFit (now (m .entry)) (z .cabinets) (z .slots) ⌝ }
 {
     let current = m[words::CURRENT_GENERATION_AT];
     let largest = m[words::LARGEST_GENERATION_AT];
     let runs = !(m[words::CABINET_MASK_AT] == 0);
-    let empty = slots <= m[GLOBAL_CURRENT_FIRST];
-    fits_in(m[words::CABINET_MASK_AT], cabinets)
+    let empty = z.slots <= m[GLOBAL_CURRENT_FIRST];
+    fits_in(m[words::CABINET_MASK_AT], z.cabinets)
         & crate::generations::largest_fits(current, largest, runs)
         & crate::generations::global_fits(m[words::GLOBAL_GENERATION_AT], empty, current, largest)
 }

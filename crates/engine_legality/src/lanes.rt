@@ -2,7 +2,8 @@
 ghost use mathlib.Core.Path.{_≡_};
 ghost use Prim.Native.Nat.{_+_, _*_, _≤_};
 ghost use lib.ListN.{length};
-ghost use Rattle.model.specs.Layout.{maxCabinets, maxPlaces, masksAt, laneLength};
+ghost use Rattle.model.specs.Layout.{maxPlaces, masksAt, laneLength, lanesBody};
+ghost use Rattle.words.specs.Lent.{sizesOf, Lent};
 ghost use Rattle.engine_legality.specs.LaneSentences.{laneInRange, lookupInRange, wordsAtRest, laneAtRest, noneQueuedAt, laneAgrees, laneFits};
 ghost use Rattle.engine_legality.specs.LaneSentences.{cabinetLanes, allLanes};
 
@@ -125,18 +126,18 @@ fn cabinet_lanes(m: &[u32], b: usize, places: u32, mask: u32, slots: u32) -> boo
     true
 }
 
-// The lanes of all cabinets, the first one's words at b.
-pub fn lanes_fit(m: &[u32], b: usize, cabinets: u32, places: u32, slots: u32) -> bool
-    requires { ⌜ (b + laneLength * (cabinets * places) ≤ length (now m)) × (masksAt + cabinets ≤ length (now m)) × (cabinets ≤ maxCabinets)
-        × (places ≤ maxPlaces) ⌝ }
-    ensures { λ r. ⌜ r ≡ allLanes (now (m .entry)) slots cabinets places b ⌝ }
+// The lanes of all cabinets.
+pub fn lanes_fit(m: &[u32], z: words::Sizes) -> bool
+    requires { ⌜ Lent (now m) (sizesOf z) ⌝ }
+    ensures { λ r. ⌜ r ≡ allLanes (now (m .entry)) (z .slots) (z .cabinets) (z .places) (lanesBody (sizesOf z)) ⌝ }
 {
-    let stride = words::LANE_LENGTH * (places as usize);
+    let b = words::MASKS_AT + (z.cabinets as usize);
+    let stride = words::LANE_LENGTH * (z.places as usize);
     let mut c: u32 = 0;
-    let mut left = cabinets;
+    let mut left = z.cabinets;
     while left > 0 {
         let mask = m[words::MASKS_AT + (c as usize)];
-        if !cabinet_lanes(m, b + stride * (c as usize), places, mask, slots) {
+        if !cabinet_lanes(m, b + stride * (c as usize), z.places, mask, z.slots) {
             return false;
         }
         c = c + 1;

@@ -7,28 +7,21 @@ mod lanes;
 mod links;
 
 ghost use mathlib.Core.Path.{_≡_};
-ghost use Rattle.engine_legality.specs.Contents.{Fits};
+ghost use Rattle.model.specs.Memory.{sizes};
+ghost use Rattle.words.specs.Lent.{Lent};
 ghost use Rattle.engine_legality.specs.WordSentences.{engineLegal};
 
 // The sentences about the global words, the cabinets and the lanes.
 pub fn engine_fits(m: &[u32]) -> bool
-    requires { ⌜ Fits (now m) ⌝ }
+    requires { ⌜ Lent (now m) (sizes (now m)) ⌝ }
     ensures { λ r. ⌜ r ≡ engineLegal (now (m .entry)) ⌝ }
 {
-    let cabinets = m[words::CABINETS_AT];
-    let places = m[words::PLACES_AT];
-    let slots = m[words::SLOTS_AT];
-    if !globals::global_words_fit(m, cabinets, slots) {
+    let z = words::read_sizes(m);
+    if !globals::global_words_fit(m, z) {
         return false;
     }
-    if !globals::cabinets_fit(m, cabinets, places) {
+    if !globals::cabinets_fit(m, z) {
         return false;
     }
-    lanes::lanes_fit(
-        m,
-        words::MASKS_AT + (cabinets as usize),
-        cabinets,
-        places,
-        slots,
-    )
+    lanes::lanes_fit(m, z)
 }

@@ -2,4 +2,5 @@
 mod StepsRead
 mod TableSaid
 mod TableLaws
+mod TableRead
 mod LegalLaws

@@ -30,7 +30,7 @@ use Rattle.slot_places.proofs.Marked.{checks, marks-are, marks-most, marks-chec
 use Rattle.slot_places.proofs.Places.{Told, checks-both, both-check, told-append, told-several, several-check, check-several, walks-begin, walks-told}
 use Rattle.slot_places.proofs.Places.{told-walks}
 use Rattle.engine_legality.specs.WordSentences.{engineLegal}
-use Rattle.legality.specs.Parts.{Table, tableLegal, queuedSteps, Lent}
+use Rattle.legality.specs.Parts.{Table, tableLegal, queuedSteps, Arrays}
 use Rattle.legality.proofs.StepsRead.{S, base, laneTotal, chainPart, freePart, threeSteps, lanePart, queuedPart, chain-slots, chains-are}
 use Rattle.legality.proofs.StepsRead.{free-count, retired-count, all-count, steps-right, queue-last, steps-lasts, lasts-steps}
 use Rattle.legality.proofs.TableSaid.{chainedCount, freeCount, retiredCount, TableSaid, chain-below, queue-below-at, chain-chained, table-said}
@@ -298,7 +298,7 @@ module _ (m : List ℕ) where
 
 -- ---- the same for the addresses that the code has
 
-module _ (m : List ℕ) (base lane n : ℕ) (t : Table m base lane n) (few : Bool) (s k a : List ℕ) (l : Lent few (at m slotsAt) s k a) where
+module _ (m : List ℕ) (base lane n : ℕ) (t : Table m base lane n) (few : Bool) (s k a : List ℕ) (l : Arrays few (at m slotsAt) s k a) where
   abbrev chainSide : List Step
   chainSide = several (chainSteps m base (at m slotsAt)) 1 0 chainCount
 
@@ -405,7 +405,7 @@ module _ (m : List ℕ) (base lane n : ℕ) (t : Table m base lane n) (few : Boo
               (f ∙ sym (meets-told (codeAt m base) (spread (cellsOf few)) k (l .cells) spread-below (slotsOf chainSide) j (take y b) (passed .1)) ∙ codes-same)
 
 -- arrays of 0
-pub lent-zeros : (few : Bool) (S n c : ℕ) → S ≤ n → cellsOf few ≤ c → Lent few S (replicate n 0) (replicate c 0) (replicate n 0)
+pub lent-zeros : (few : Bool) (S n c : ℕ) → S ≤ n → cellsOf few ≤ c → Arrays few S (replicate n 0) (replicate c 0) (replicate n 0)
 lent-zeros few S n c h g = record {
   marks = getD-replicate-default 0 n;
   cells = getD-replicate-default 0 c;

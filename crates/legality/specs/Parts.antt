@@ -58,7 +58,7 @@ queuedSteps m base lane n S =
     ++ (several (queueSteps m base S false) queueWidth globalQueuesAt queueCount ++ several (laneSteps m base S) laneLength lane n)
 
 -- the marks, the cells and the slots put aside as they are lent: all 0
-pub record Lent (few : Bool) (S : ℕ) (s k a : List ℕ) : Type 0 where
+pub record Arrays (few : Bool) (S : ℕ) (s k a : List ℕ) : Type 0 where
   pub marks : (i : ℕ) → getD s i 0 ≡ 0
   pub cells : (i : ℕ) → getD k i 0 ≡ 0
   pub markRoom : S ≤ length s

@@ -10,9 +10,9 @@ ghost use Rattle.model.specs.Memory.{sizes};
 ghost use Rattle.model.specs.Legal.{legal as isLegal};
 ghost use Rattle.distinct_codes.specs.Cells.{fewCells};
 ghost use Rattle.slot_places.specs.WalkSteps.{Counted, Runs};
-ghost use Rattle.engine_legality.specs.Contents.{Fits};
+ghost use Rattle.words.specs.Lent.{Lent};
 ghost use Rattle.engine_legality.specs.WordSentences.{engineLegal};
-ghost use Rattle.legality.specs.Parts.{Table, tableLegal, queuedSteps, Lent};
+ghost use Rattle.legality.specs.Parts.{Table, tableLegal, queuedSteps, Arrays};
 
 // the slots of a small table, and of any
 const FEW_SLOTS: u32 = 64;
@@ -67,7 +67,7 @@ fn slots_agree(
     cells: &mut [u16],
     aside: &mut [u16],
 ) -> bool
-    requires { ⌜ Table (now m) base lane lanes × Lent few (sizes (now m) .slots) (now marks) (now cells) (now aside) ⌝ }
+    requires { ⌜ Table (now m) base lane lanes × Arrays few (sizes (now m) .slots) (now marks) (now cells) (now aside) ⌝ }
     ensures { λ r. ⌜ r ≡ tableLegal (now (m .entry)) ⌝ }
 {
     let slots = m[words::SLOTS_AT];
@@ -127,16 +127,14 @@ fn many_agree(m: &[u32], base: usize, lane: usize, lanes: usize) -> bool
 
 // The sentences about the slots, where those about the rest hold.
 fn table_fits(m: &[u32]) -> bool
-    requires { ⌜ Fits (now m) × (engineLegal (now m) ≡ true) ⌝ }
+    requires { ⌜ (Lent (now m) (sizes (now m))) × (engineLegal (now m) ≡ true) ⌝ }
     ensures { λ r. ⌜ r ≡ tableLegal (now (m .entry)) ⌝ }
 {
-    let lanes = words::index(words::contents::lane_count(
-        m[words::CABINETS_AT],
-        m[words::PLACES_AT],
-    ));
-    let lane = words::MASKS_AT + words::index(m[words::CABINETS_AT]);
-    let base = lane + words::LANE_LENGTH * lanes;
-    if m[words::SLOTS_AT] <= FEW_SLOTS {
+    let z = words::read_sizes(m);
+    let lanes = words::index(words::lane_count(z));
+    let lane = words::lane_address(z, 0);
+    let base = words::slots_start(z);
+    if z.slots <= FEW_SLOTS {
         return few_agree(m, base, lane, lanes);
     }
     many_agree(m, base, lane, lanes)

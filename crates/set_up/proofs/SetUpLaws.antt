@@ -8,14 +8,9 @@ use borrow.Author.Tests.{lt-ltb, le-ltb}
 use Rattle.model.specs.Layout.{total}
 use Rattle.model.specs.Rules.{accepted, refused, firstOf, fresh}
 use Rattle.model.specs.Legal.{sizesFit}
-use Rattle.representation.proofs.Sentences.Split.{sizes-fit}
-use Rattle.words.specs.Contents.{Small}
 use Rattle.access.specs.declared.Answer.{Answer}
 use Rattle.access.specs.Contract.{five, Does}
 use Rattle.model.specs.Calls.{set-up, sized, stored, refusalOf, replyOf, leftOf, reply, left}
-
-pub sizes-small : (c p s : ℕ) → sizesFit (sized c p s) ≡ true → Small c p s
-sizes-small c p s h = let f = sizes-fit (sized c p s) h in record { cabinets = f .fewCabinets; places = f .fewPlaces; slots = f .fewSlots }
 
 module _ (m : List ℕ) (c p s : ℕ) where
   refusal-1 : sizesFit (sized c p s) ≡ false → refusalOf m (set-up c p s) ≡ 1

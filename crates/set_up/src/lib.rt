@@ -6,8 +6,9 @@ ghost use lib.ListN.{length, replicate};
 ghost use Rattle.model.specs.Layout.{globalBody, masksAt, laneLength, slotLength, total};
 ghost use Rattle.model.specs.Rules.{fresh};
 ghost use Rattle.model.specs.Legal.{sizesFit};
-ghost use Rattle.model.specs.Calls.{sized, stored, set-up};
+ghost use Rattle.model.specs.Calls.{stored, set-up};
 ghost use Rattle.set_up.specs.Written.{Written, rows};
+ghost use Rattle.words.specs.Lent.{sizesOf};
 ghost use Rattle.access.specs.Contract.{Does};
 ghost use Rattle.set_up.specs.FreshWords.{freshGlobal, freshLaneWords, linkAfter, freshSlotWords};
 
@@ -104,29 +105,29 @@ fn write_slots(m: &mut [u32], first: usize, slots: u32)
 }
 
 // Writes the words of a fresh table of these sizes. All words past its total stay.
-pub fn write_fresh(m: &mut [u32], cabinets: u32, places: u32, slots: u32)
-    requires { ⌜ (sizesFit (sized cabinets places slots) ≡ true) × (total (sized cabinets places slots) ≤ length (now m)) ⌝ }
-    ensures { λ _. ⌜ now (m .exit) ≡ stored (fresh (sized cabinets places slots)) (now (m .entry)) ⌝ }
+pub fn write_fresh(m: &mut [u32], z: words::Sizes)
+    requires { ⌜ (sizesFit (sizesOf z) ≡ true) × (total (sizesOf z) ≤ length (now m)) ⌝ }
+    ensures { λ _. ⌜ now (m .exit) ≡ stored (fresh (sizesOf z)) (now (m .entry)) ⌝ }
 {
-    let masks = words::index(cabinets);
-    let records = words::index(words::contents::lane_count(cabinets, places));
-    words::contents::write(m, cabinets, places, slots);
-    write_global(m, slots);
+    let masks = words::index(z.cabinets);
+    let records = words::index(words::lane_count(z));
+    words::contents::write(m, z);
+    write_global(m, z.slots);
     fill(m, words::MASKS_AT, masks, 0);
     write_lanes(m, words::MASKS_AT + masks, records);
     write_slots(
         m,
         words::MASKS_AT + masks + words::LANE_LENGTH * records,
-        slots,
+        z.slots,
     );
 }
 
 // The number of words of a table of these sizes.
-pub fn total_words(cabinets: u32, places: u32, slots: u32) -> u32
-    requires { ⌜ sizesFit (sized cabinets places slots) ≡ true ⌝ }
-    ensures { λ r. ⌜ r ≡ total (sized cabinets places slots) ⌝ }
+pub fn total_words(z: words::Sizes) -> u32
+    requires { ⌜ sizesFit (sizesOf z) ≡ true ⌝ }
+    ensures { λ r. ⌜ r ≡ total (sizesOf z) ⌝ }
 {
-    let b = words::contents::bodies_of(cabinets, places, slots);
+    let b = words::contents::bodies_of(z);
     b.total
 }
 
@@ -135,13 +136,18 @@ pub fn total_words(cabinets: u32, places: u32, slots: u32) -> u32
 pub fn set_up(m: &mut [u32], cabinets: u32, places: u32, slots: u32) -> access::Answer
     ensures { λ r. ⌜ Does (set-up cabinets places slots) (now (m .entry)) r (now (m .exit)) ⌝ }
 {
-    if !words::sizes_fit(cabinets, places, slots) {
+    let z = words::Sizes {
+        cabinets,
+        places,
+        slots,
+    };
+    if !words::sizes_fit(z) {
         return access::refused(access::causes::BAD_SIZE);
     }
-    let total = total_words(cabinets, places, slots);
+    let total = total_words(z);
     if m.len() < words::index(total) {
         return access::refused(access::causes::SHORT_MEMORY);
     }
-    write_fresh(m, cabinets, places, slots);
+    write_fresh(m, z);
     access::accepted(total, 0, 0, 0)
 }

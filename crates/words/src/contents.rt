@@ -4,10 +4,10 @@ ghost use mathlib.Core.Path.{_≡_};
 ghost use Prim.Native.Nat.{_≤_};
 ghost use lib.ListN.{length};
 ghost use lib.Seq.{sets};
-ghost use Rattle.model.specs.Layout.{maxCabinets, maxPlaces, contentsLength};
+ghost use Rattle.model.specs.Layout.{contentsLength};
 ghost use Rattle.model.specs.Memory.{contents};
-ghost use Rattle.model.specs.Calls.{sized};
-ghost use Rattle.words.specs.Contents.{Small, LaneCount, BodiesOf};
+ghost use Rattle.words.specs.Lent.{sizesOf, Few};
+ghost use Rattle.words.specs.Contents.{BodiesOf};
 
 // where first word and length of each body stand
 const GLOBAL_AT: usize = crate::BODIES_AT;
@@ -46,23 +46,15 @@ pub struct Bodies {
     pub total: u32,
 }
 
-// The number of lanes.
-pub fn lane_count(cabinets: u32, places: u32) -> u32
-    requires { ⌜ (cabinets ≤ maxCabinets) × (places ≤ maxPlaces) ⌝ }
-    ensures { λ r. ⌜ LaneCount cabinets places r ⌝ }
-{
-    cabinets * places
-}
-
 // The bodies of a table with these sizes.
-pub fn bodies_of(cabinets: u32, places: u32, slots: u32) -> Bodies
-    requires { ⌜ Small cabinets places slots ⌝ }
-    ensures { λ r. ⌜ BodiesOf (sized cabinets places slots) (r .lanes) (r .«lanes_long») (r .slots) (r .«slots_long») (r .total) ⌝ }
+pub fn bodies_of(z: crate::Sizes) -> Bodies
+    requires { ⌜ Few (sizesOf z) ⌝ }
+    ensures { λ r. ⌜ BodiesOf (sizesOf z) (r .lanes) (r .«lanes_long») (r .slots) (r .«slots_long») (r .total) ⌝ }
 {
-    let first_lane = MASKS_BODY + cabinets;
-    let lanes_length = LANE_LENGTH * lane_count(cabinets, places);
+    let first_lane = MASKS_BODY + z.cabinets;
+    let lanes_length = LANE_LENGTH * crate::lane_count(z);
     let first_slot = first_lane + lanes_length;
-    let slots_length = SLOT_LENGTH * slots;
+    let slots_length = SLOT_LENGTH * z.slots;
     Bodies {
         lanes: first_lane,
         lanes_long: lanes_length,
@@ -73,19 +65,19 @@ pub fn bodies_of(cabinets: u32, places: u32, slots: u32) -> Bodies
 }
 
 // Writes the contents of a table with these sizes.
-pub fn write(m: &mut [u32], cabinets: u32, places: u32, slots: u32)
-    requires { ⌜ (contentsLength ≤ length (now m)) × Small cabinets places slots ⌝ }
-    ensures { λ _. ⌜ now (m .exit) ≡ sets (now (m .entry)) 0 (contents (sized cabinets places slots)) ⌝ }
+pub fn write(m: &mut [u32], z: crate::Sizes)
+    requires { ⌜ (contentsLength ≤ length (now m)) × Few (sizesOf z) ⌝ }
+    ensures { λ _. ⌜ now (m .exit) ≡ sets (now (m .entry)) 0 (contents (sizesOf z)) ⌝ }
 {
-    let b = bodies_of(cabinets, places, slots);
+    let b = bodies_of(z);
     m[crate::VERSION_AT] = crate::VERSION;
-    m[crate::CABINETS_AT] = cabinets;
-    m[crate::PLACES_AT] = places;
-    m[crate::SLOTS_AT] = slots;
+    m[crate::CABINETS_AT] = z.cabinets;
+    m[crate::PLACES_AT] = z.places;
+    m[crate::SLOTS_AT] = z.slots;
     m[GLOBAL_AT] = GLOBAL_BODY;
     m[GLOBAL_LENGTH_AT] = GLOBAL_LENGTH;
     m[MASKS_AT] = MASKS_BODY;
-    m[MASKS_LENGTH_AT] = cabinets;
+    m[MASKS_LENGTH_AT] = z.cabinets;
     m[LANES_AT] = b.lanes;
     m[LANES_LENGTH_AT] = b.lanes_long;
     m[SLOTS_BODY_AT] = b.slots;

@@ -11,7 +11,6 @@ ghost use Rattle.model.specs.Word.{wordLimit};
 ghost use Rattle.model.specs.State.{laneCount};
 ghost use Rattle.model.specs.Layout.{contentsLength, laneAddress, slotsBody, slotAddress};
 ghost use Rattle.model.specs.Legal.{sizesFit};
-ghost use Rattle.model.specs.Calls.{sized};
 ghost use Rattle.model.specs.Memory.{wide, wholeOf, low as lowWord, high as highWord};
 ghost use Rattle.words.specs.Lent.{sizesOf, sizesIn, Few};
 
@@ -123,21 +122,21 @@ pub const SLOT_LENGTH: usize = QUEUE_LINK_AT + 1;
 
 // ---- sizes
 
-// Cabinets 1 to 8, lanes per cabinet 1 to 8, slots 1 to 1,024.
-pub fn sizes_fit(cabinets: u32, places: u32, slots: u32) -> bool
-    ensures { λ r. ⌜ r ≡ sizesFit (sized cabinets places slots) ⌝ }
-{
-    (1 <= cabinets)
-        & ((cabinets <= MAX_CABINETS)
-            & ((1 <= places)
-                & ((places <= MAX_PLACES) & ((1 <= slots) & ((slots <= MAX_SLOTS) & true)))))
-}
-
 // The sizes of a table, handed on by value.
 pub struct Sizes {
     pub cabinets: u32,
     pub places: u32,
     pub slots: u32,
+}
+
+// Cabinets 1 to 8, lanes per cabinet 1 to 8, slots 1 to 1,024.
+pub fn sizes_fit(z: Sizes) -> bool
+    ensures { λ r. ⌜ r ≡ sizesFit (sizesOf z) ⌝ }
+{
+    (1 <= z.cabinets)
+        & ((z.cabinets <= MAX_CABINETS)
+            & ((1 <= z.places)
+                & ((z.places <= MAX_PLACES) & ((1 <= z.slots) & ((z.slots <= MAX_SLOTS) & true)))))
 }
 
 // The sizes that a memory's contents name.

@@ -1,7 +1,7 @@
 -- A law for each way out.
 use mathlib.Core.Path.{sym, _∙_}
 use borrow.Author.Tests.{not-true, not-false}
-use Rattle.engine_legality.proofs.ContentsLaws.{contents-fits}
+use Rattle.engine_legality.proofs.ContentsLaws.{contents-lent}
 use Rattle.legality.proofs.LegalLaws.{legal-contents, legal-engine, legal-table}
 use borrow.Author.Needs.{needs}
 use Rattle.legality.proofs.legal.Statement.{statement}
@@ -16,7 +16,7 @@ returns c = search (needs, legal-contents, not-true)
 engine-fits-requires : tie.Need-engine-fits-requires
 engine-fits-requires c κs =
     let at-contents-agree : tie.After-contents-agree = search in
-    contents-fits _ (sym (at-contents-agree .contents-agree .ensures) ∙ not-false _ (c .if1 .left))
+    contents-lent _ (sym (at-contents-agree .contents-agree .ensures) ∙ not-false _ (c .if1 .left))
 
 returns-2 : tie.Need-returns-2
 returns-2 c = search (needs, legal-engine, not-false, not-true)
@@ -26,7 +26,7 @@ table-fits-requires c κs =
     let at-engine-fits : tie.After-engine-fits = search in
     let at-if1 : tie.Else1 = search in
     let at-contents-agree : tie.After-contents-agree = search in (
-      contents-fits _ (sym (at-contents-agree .contents-agree .ensures) ∙ not-false _ (at-if1 .if1 .left)),
+      contents-lent _ (sym (at-contents-agree .contents-agree .ensures) ∙ not-false _ (at-if1 .if1 .left)),
       sym (at-engine-fits .engine-fits .ensures) ∙
           not-false _ (c .if2 .left),
     )

@@ -2,10 +2,10 @@
 use mathlib.Core.Path.{_∙_}
 use native.Mathlib.Omega.{arith}
 use borrow.Author.Needs.{needs}
-use Rattle.model.specs.Calls.{sized}
+use Rattle.words.specs.Lent.{sizesOf}
+use Rattle.words.proofs.LentLaws.{few-fits}
 use Rattle.representation.proofs.Sentences.Split.{sizes-fit}
 use Rattle.set_up.proofs.FreshLaws.{all-written}
-use Rattle.set_up.proofs.SetUpLaws.{sizes-small}
 use Rattle.set_up.proofs.write_fresh.Statement.{statement}
 use Rattle.set_up.proofs.write_fresh.Tie as tie
 
@@ -15,8 +15,7 @@ index-requires c κs = search needs
 lane-count-requires : tie.Need-lane-count-requires
 lane-count-requires c κs =
     let entry : tie.Start = search in
-    let s = sizes-small _ _ _ (entry .pre .0) in
-    (s .cabinets, s .places)
+    few-fits _ (entry .pre .0)
 
 index-requires-2 : tie.Need-index-requires-2
 index-requires-2 c κs = search needs
@@ -24,13 +23,13 @@ index-requires-2 c κs = search needs
 write-requires : tie.Need-write-requires
 write-requires c κs =
     let entry : tie.Start = search in
-    (omega arith, sizes-small _ _ _ (entry .pre .0))
+    (omega arith, few-fits _ (entry .pre .0))
 
 write-global-requires : tie.Need-write-global-requires
 write-global-requires c κs =
     let entry : tie.Start = search in
     let a = entry .args in
-    let f = sizes-fit (sized (a .cabinets) (a .places) (a .slots)) (entry .pre .0) in
+    let f = sizes-fit (sizesOf (a .z)) (entry .pre .0) in
     (omega arith, omega arith)
 
 fill-requires : tie.Need-fill-requires
@@ -69,13 +68,13 @@ returns c =
     let at-index : tie.After-index = search in
     let entry : tie.Start = search in
     let a = entry .args in
-    let f = sizes-fit (sized (a .cabinets) (a .places) (a .slots)) (entry .pre .0) in
+    let f = sizes-fit (sizesOf (a .z)) (entry .pre .0) in
     all-written
-    (sized (a .cabinets) (a .places) (a .slots))
+    (sizesOf (a .z))
     (at-index .index .result)
     (at-index2 .index2 .result)
     (at-index .index .ensures)
-    (at-index2 .index2 .ensures ∙ at-lane-count .lane-count .ensures .lanes)
+    (at-index2 .index2 .ensures ∙ at-lane-count .lane-count .ensures)
     (omega arith)
     (entry .pre .1)
     (record { is = at-write .write .ensures })

@@ -1,22 +1,17 @@
 -- A law for each way out: too few words, sizes out of range, other contents, or the total decides.
 use mathlib.Core.Path.{_∙_}
 use borrow.Author.Tests.{not-true, not-false}
+use Rattle.words.proofs.LentLaws.{few-tested}
 use borrow.Author.Needs.{needs}
-use Rattle.engine_legality.proofs.ContentsLaws.{sizes-known, contents-short, contents-unsized, contents-other, contents-decided}
+use Rattle.engine_legality.proofs.ContentsLaws.{contents-short, contents-unsized, contents-other, contents-decided}
 use Rattle.engine_legality.proofs.contents.contents_agree.Statement.{statement}
 use Rattle.engine_legality.proofs.contents.contents_agree.Tie as tie
 
 returns : tie.Need-returns
 returns c = contents-short _ (c .if1 .taken)
 
-shared-slice-read-cabinets : tie.Need-shared-slice-read-cabinets
-shared-slice-read-cabinets c = search needs
-
-shared-slice-read-places : tie.Need-shared-slice-read-places
-shared-slice-read-places c = search needs
-
-shared-slice-read-slots : tie.Need-shared-slice-read-slots
-shared-slice-read-slots c = search needs
+read-sizes-requires : tie.Need-read-sizes-requires
+read-sizes-requires c κs = search needs
 
 sizes-fit-requires : tie.Need-sizes-fit-requires
 sizes-fit-requires c κs = search needs
@@ -28,7 +23,7 @@ slice-aggregate-write : tie.Need-slice-aggregate-write
 slice-aggregate-write c = search needs
 
 write-requires : tie.Need-write-requires
-write-requires c κs = search (needs, sizes-known, not-false)
+write-requires c κs = search (needs, few-tested, not-false)
 
 slice-aggregate-begins-with : tie.Need-slice-aggregate-begins-with
 slice-aggregate-begins-with c = search needs
@@ -43,7 +38,7 @@ bodies-of-requires : tie.Need-bodies-of-requires
 bodies-of-requires c κs =
     let at-if2 : tie.Else2 = search in
     let at-sizes-fit : tie.After-sizes-fit = search in
-    sizes-known _ _ _ _ (at-sizes-fit .sizes-fit .ensures) (not-false _ (at-if2 .if2 .left))
+    few-tested _ _ (at-sizes-fit .sizes-fit .ensures) (not-false _ (at-if2 .if2 .left))
 
 index-requires : tie.Need-index-requires
 index-requires c κs = search needs
@@ -57,8 +52,9 @@ returns-4 c =
     let at-write : tie.After-write = search in
     let at-if2 : tie.Else2 = search in
     let at-sizes-fit : tie.After-sizes-fit = search in
+    let at-read-sizes : tie.After-read-sizes = search in
     let at-if1 : tie.Else1 = search in
-    contents-decided _ (at-if1 .if1 .left) _ (at-sizes-fit .sizes-fit .ensures) (not-false _ (at-if2 .if2 .left))
+    contents-decided _ (at-if1 .if1 .left) _ (at-read-sizes .read-sizes .ensures) _ (at-sizes-fit .sizes-fit .ensures) (not-false _ (at-if2 .if2 .left))
     _ (at-write .write .ensures) _ (at-begins-with .begins-with .ensures) (not-false _ (at-if3 .if3 .left))
     _ (at-index .index .ensures ∙ at-bodies-of .bodies-of .ensures .total)
 
@@ -67,9 +63,7 @@ contents-agree-spec =
     tie.close
     (tie.spec
     returns
-    shared-slice-read-cabinets
-    shared-slice-read-places
-    shared-slice-read-slots
+    read-sizes-requires
     sizes-fit-requires
     returns-2
     slice-aggregate-write

@@ -14,12 +14,12 @@ use Rattle.engine_legality.proofs.globals.cabinets_fit.Statement.{state
 use Rattle.engine_legality.proofs.globals.cabinets_fit.Tie as tie
 
 abbrev Inv-loop : tie.InvT-loop
-Inv-loop m cabinets places bits c₀ left₀ c left =
-    (c + left ≡ cabinets) × (bits ≡ at m cabinetMaskAt)
-    × (all (λ (c : ℕ). cabinetFits places (maskWord m c) (flag c (at m cabinetMaskAt))) (from c left) ≡ allCabinets m cabinets places)
+Inv-loop m z bits c₀ left₀ c left =
+    (c + left ≡ z .cabinets) × (bits ≡ at m cabinetMaskAt)
+    × (all (λ (c : ℕ). cabinetFits (z .places) (maskWord m c) (flag c (at m cabinetMaskAt))) (from c left) ≡ allCabinets m (z .cabinets) (z .places))
 
 abbrev μ-loop : tie.MeasureT-loop
-μ-loop m cabinets places bits c₀ left₀ c left = left
+μ-loop m z bits c₀ left₀ c left = left
 
 shared-slice-read-bits : tie.Need-shared-slice-read-bits Inv-loop μ-loop
 shared-slice-read-bits c = search needs

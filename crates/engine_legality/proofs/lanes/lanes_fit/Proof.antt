@@ -4,9 +4,10 @@ use mathlib.Core.Path.{_≡_, refl}
 use native.Mathlib.Omega.{arith}
 use borrow.Author.Tests.{not-true, not-false}
 use Rattle.model.specs.Lists.{all, from}
-use Rattle.model.specs.Layout.{laneLength}
+use Rattle.model.specs.Layout.{laneLength, lanesBody}
 use Rattle.model.specs.Memory.{maskWord}
 use Rattle.engine_legality.specs.LaneSentences.{cabinetLanes, allLanes}
+use Rattle.words.specs.Lent.{sizesOf}
 use Rattle.laws.specs.Loops.{all-end, all-fails, all-on}
 use Rattle.engine_legality.proofs.LaneLoops.{stride-within, lanes-most}
 use borrow.Author.Needs.{needs}
@@ -14,12 +15,22 @@ use Rattle.engine_legality.proofs.lanes.lanes_fit.Statement.{statement}
 use Rattle.engine_legality.proofs.lanes.lanes_fit.Tie as tie
 
 abbrev Inv-loop : tie.InvT-loop
-Inv-loop m b cabinets places slots stride c₀ left₀ c left =
-    (c + left ≡ cabinets) × (stride ≡ laneLength * places)
-    × (all (λ (c : ℕ). cabinetLanes m slots places (b + laneLength * places * c) (maskWord m c)) (from c left) ≡ allLanes m slots cabinets places b)
+Inv-loop m z b stride c₀ left₀ c left =
+    (c + left ≡ z .cabinets) × (stride ≡ laneLength * z .places)
+    × (all (λ (c : ℕ). cabinetLanes m (z .slots) (z .places) (lanesBody (sizesOf z) + laneLength * z .places * c) (maskWord m c)) (from c left)
+    ≡ allLanes m (z .slots) (z .cabinets) (z .places) (lanesBody (sizesOf z)))
 
 abbrev μ-loop : tie.MeasureT-loop
-μ-loop m b cabinets places slots stride c₀ left₀ c left = left
+μ-loop m z b stride c₀ left₀ c left = left
+
+cast-b : tie.Need-cast-b Inv-loop μ-loop
+cast-b c = search needs
+
+add-b : tie.Need-add-b Inv-loop μ-loop
+add-b c = search needs
+
+cast-stride : tie.Need-cast-stride Inv-loop μ-loop
+cast-stride c = search needs
 
 mul-stride : tie.Need-mul-stride Inv-loop μ-loop
 mul-stride c = search needs
@@ -47,25 +58,29 @@ mul-cabinet-lanes : tie.Need-mul-cabinet-lanes Inv-loop μ-loop
 mul-cabinet-lanes c =
     let at-loop : tie.At-loop Inv-loop μ-loop = search in
     let entry : tie.Start Inv-loop μ-loop = search in
-    let within = stride-within (entry .args .cabinets) (entry .args .places) (at-loop .loop .c) (omega arith) in
-    omega (arith, within, lanes-most (entry .args .cabinets) (entry .args .places) (omega arith) (omega arith))
+    let within = stride-within (entry .args .z .cabinets) (entry .args .z .places) (at-loop .loop .c) (omega arith) in
+    omega (arith, within, lanes-most (entry .args .z .cabinets) (entry .args .z .places) (omega arith) (omega arith))
 
 add-cabinet-lanes : tie.Need-add-cabinet-lanes Inv-loop μ-loop
 add-cabinet-lanes c =
     let at-loop : tie.At-loop Inv-loop μ-loop = search in
     let entry : tie.Start Inv-loop μ-loop = search in
-    let within = stride-within (entry .args .cabinets) (entry .args .places) (at-loop .loop .c) (omega arith) in
-    omega (arith, within, lanes-most (entry .args .cabinets) (entry .args .places) (omega arith) (omega arith))
+    let within = stride-within (entry .args .z .cabinets) (entry .args .z .places) (at-loop .loop .c) (omega arith) in
+    omega (arith, within, lanes-most (entry .args .z .cabinets) (entry .args .z .places) (omega arith) (omega arith))
 
 cabinet-lanes-requires : tie.Need-cabinet-lanes-requires Inv-loop μ-loop
 cabinet-lanes-requires c κs =
     let at-loop : tie.At-loop Inv-loop μ-loop = search in
     let entry : tie.Start Inv-loop μ-loop = search in
-    let within = stride-within (entry .args .cabinets) (entry .args .places) (at-loop .loop .c) (omega arith) in
-    omega (arith, within, lanes-most (entry .args .cabinets) (entry .args .places) (omega arith) (omega arith))
+    let within = stride-within (entry .args .z .cabinets) (entry .args .z .places) (at-loop .loop .c) (omega arith) in
+    omega (arith, within, lanes-most (entry .args .z .cabinets) (entry .args .z .places) (omega arith) (omega arith))
 
 returns : tie.Need-returns Inv-loop μ-loop
-returns c = search (needs, all-fails, not-true)
+returns c =
+    let at-cabinet-lanes : tie.After-cabinet-lanes Inv-loop μ-loop = search in
+    let at-loop-test : tie.In-loop Inv-loop μ-loop = search in
+    let at-loop : tie.At-loop Inv-loop μ-loop = search in
+    all-fails _ _ _ _ (at-loop .loop .inv .2) (at-loop-test .loop-test .taken) _ (at-cabinet-lanes .cabinet-lanes .ensures) (not-true _ (c .if1 .taken))
 
 add-c : tie.Need-add-c Inv-loop μ-loop
 add-c c = search needs
@@ -94,6 +109,9 @@ lanes-fit-spec =
     (tie.spec
     Inv-loop
     μ-loop
+    cast-b
+    add-b
+    cast-stride
     mul-stride
     loop-holds
     cast-mask
