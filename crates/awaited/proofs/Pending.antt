@@ -18,7 +18,7 @@ use Rattle.model.specs.Rules.{pendingFrom}
 use Rattle.model.specs.Memory.{at, flag, contents, maskWord, isNotZero, laneMask, laneMasks, cabinetMask, sizes, state}
 use Rattle.laws.specs.ListLaws.{length-map-from}
 use Rattle.laws.specs.Masks.{some, mask-zero}
-use Rattle.laws.specs.Loops.{sumBelow, sumBelow-alike}
+use Rattle.laws.specs.Loops.{sumBelow, sumBelow-alike, Summed, summed-start, summed-on, summed-done}
 use Rattle.laws.specs.MaskFlags.{trues, firstTrue, firstTrue-lt}
 use Rattle.masks.specs.Bits.{width, bits}
 use Rattle.masks.proofs.BitLaws.{ones-trues, trailing-firstTrue, firstTrue-mask}
@@ -51,11 +51,22 @@ length-bits w = length-map-from (λ (k : ℕ). flag k w) 0 width
 -- ---- the masks of a legal memory
 
 -- the set bits of the lane mask of cabinet c
-abbrev pub pendingOf : List ℕ → ℕ → ℕ
+abbrev pendingOf : List ℕ → ℕ → ℕ
 pendingOf m c = trues (bits (maskWord m c))
 
-pub pending-few : (m : List ℕ) (c : ℕ) → pendingOf m c ≤ width
+pending-few : (m : List ℕ) (c : ℕ) → pendingOf m c ≤ width
 pending-few m c = omega (arith, trues-le (bits (maskWord m c)), length-bits (maskWord m c))
+
+-- n lanes of the cabinets before c are pending, of b cabinets
+pub record MasksCounted (m : List ℕ) (b c n : ℕ) : Type 0 where
+  pub soFar : Summed (pendingOf m) b c n
+  pub few : n ≤ width * c
+
+pub masks-start : (m : List ℕ) (b : ℕ) → MasksCounted m b 0 0
+masks-start m b = record { soFar = summed-start _ _; few = omega arith }
+
+pub masks-on : (m : List ℕ) (b c n : ℕ) → MasksCounted m b c n → c < b → (v : ℕ) → v ≡ pendingOf m c → MasksCounted m b (c + 1) (n + v)
+masks-on m b c n k h v e = record { soFar = summed-on _ _ c n (k .soFar) h v e; few = omega (arith, k .few, e, pending-few m c) }
 
 module _ (m : List ℕ) (z : Sizes) (table : TableIn m z) where
   abbrev s : State
@@ -79,11 +90,11 @@ module _ (m : List ℕ) (z : Sizes) (table : TableIn m z) where
   unfolding state contents
   cabinets-shown = shown m v .image (top cabinetMaskAt) (omega arith)
 
-  -- counted over b cabinets, which are all
-  pub count-shown : (b n : ℕ) → n ≡ sumBelow (pendingOf m) b → b ≡ z .cabinets → n ≡ length pending
+  pub masks-done : (b c n : ℕ) → MasksCounted m b c n → b ≤ c → b ≡ z .cabinets → n ≡ length pending
   unfolding state
-  count-shown b n en eb =
-      en ∙ ap (sumBelow (pendingOf m)) (eb ∙ ap (λ (y : Sizes). y .cabinets) (table .sizes))
+  masks-done b c n k h eb =
+      summed-done _ _ c n (k .soFar) h
+      ∙ ap (sumBelow (pendingOf m)) (eb ∙ ap (λ (y : Sizes). y .cabinets) (table .sizes))
       ∙ sumBelow-alike (pendingOf m) (λ (c : ℕ). ones (laneMask s c)) (sizes m .cabinets)
       (λ c h. sym (ones-trues (maskWord m c) (v .words (masksAt + c))) ∙ ap ones (mask-shown c h))
       ∙ sym (awaited-count s lanes-each)
