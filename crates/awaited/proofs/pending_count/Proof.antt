@@ -36,7 +36,7 @@ add-n c =
     let at-loop : tie.At-loop Inv-loop μ-loop = search in
     let at-index : tie.After-index Inv-loop μ-loop = search in
     let entry : tie.Start Inv-loop μ-loop = search in
-    let next = masks-on _ _ _ _ (at-loop .loop .inv) (at-loop-test .loop-test .taken) _ (c .ones .ensures) in
+    let next = masks-on _ _ _ _ (at-loop .loop .inv) (omega (arith, at-loop-test .loop-test .taken)) _ (c .ones .ensures) in
     omega (arith, next .few, at-index .index .ensures, entry .pre .lent .few .cabinets)
 
 add-c : tie.Need-add-c Inv-loop μ-loop
