@@ -2,3 +2,4 @@
 pub mod AwaitedAnswer
 pub mod OwnerLengths
 pub mod Pending
+pub mod QueueLengths

@@ -1,26 +1,29 @@
--- The queues of a legal memory: each ends, and what the owners have together.
+-- The queues of a legal memory: each ends, since it has no slot twice, and what the owners have together.
 use Prim.Native.Nat.{ℕ, _+_, _*_, _≤_, _<_}
-use mathlib.Core.Path.{_≡_, refl, ap, ap₂, sym, subst, _∙_}
+use mathlib.Core.Path.{_≡_, refl, ap, ap₂, sym, _∙_}
 use mathlib.Core.List.{List, [], _∷_}
 use native.Mathlib.Omega.{arith}
 use lib.ListN.{length}
 use Rattle.model.specs.Word.{wordLimit}
 use Rattle.model.specs.Lists.{from}
-use Rattle.model.specs.State.{laneCount, Lane}
-use Rattle.model.specs.Layout.{maxSlots, freeAt, globalQueuesAt, queuesAt, queueLinkAt, laneAddress, slotsBody}
+use Rattle.model.specs.State.{Sizes as TableSizes, laneCount, Lane}
+use Rattle.model.specs.Layout.{maxSlots, freeAt, globalQueuesAt, queuesAt, laneLength, laneAddress}
 use Rattle.model.specs.Rules.{queued, queuedIn}
-use Rattle.model.specs.Memory.{at, readQueue, readLane, sizes, state}
+use Rattle.model.specs.Memory.{readQueue, readLane, sizes, state}
 use Rattle.laws.specs.Repeats.{length-at-most}
 use Rattle.laws.specs.Sums.{sum, sum-of-map}
+use Rattle.laws.specs.Loops.{sumBelow, sumBelow-few, Summed, summed-start, summed-on, summed-done}
 use Rattle.representation.proofs.FromMemory.Reading.{state-lane}
 use Rattle.representation.specs.Sound.{Sound}
+use Rattle.words.specs.declared.Sizes.{Sizes}
+use Rattle.words.specs.Lent.{sizesOf}
 use Rattle.changes.proofs.Shape.{wellFormed-shape}
 use Rattle.changes.specs.Queues.{Part, next, current, done, Queue, free, global, lane, queueOf, partAt}
 use Rattle.changes.proofs.OfQueues.QueueStates.{queue-le}
 use Rattle.changes.proofs.OfQueues.QueueChanges.{queue-below, queues-once}
-use Rattle.access.proofs.Ways.{wellFormed, inRange, long}
-use Rattle.laws.specs.Loops.{sumBelow, sumBelow-few}
-use Rattle.awaited.specs.Lengths.{ownerLength, laneLengths, retiredLength, LinksAt, QueueAt, OwnerAt}
+use Rattle.access.specs.Tables.{TableIn}
+use Rattle.access.proofs.Ways.{wellFormed}
+use Rattle.awaited.specs.Lengths.{ownerLength, retiredLength, OwnerAt}
 
 -- ---- the queues of a legal memory end
 
@@ -30,10 +33,6 @@ module _ (m : List ℕ) (v : Sound m) where
   short q =
       let w = wellFormed-shape (state m) (wellFormed m v) in
       length-at-most (sizes m .slots) (queueOf (state m) q) (queue-below (state m) w q) (λ x. omega (arith, queue-le (state m) q x, queues-once (state m) w x))
-
-  free-short : length (readQueue m freeAt) ≤ sizes m .slots
-  unfolding state
-  free-short = short free
 
   global-short : (p : Part) → length (readQueue m (partAt globalQueuesAt p)) ≤ sizes m .slots
   unfolding state
@@ -47,52 +46,78 @@ module _ (m : List ℕ) (v : Sound m) where
   lane-short i h current = rw (state-lane m i h) at (short (lane i current))
   lane-short i h done = rw (state-lane m i h) at (short (lane i done))
 
-  module _ (a : ℕ) (e : a ≡ slotsBody (sizes m) + queueLinkAt) where
-    abbrev links : LinksAt m a
-    links = record { sound = v; links = e }
-
-    pub free-at : QueueAt m a (at m freeAt)
-    free-at = record { links = links; short = free-short }
-
-    pub global-at : OwnerAt m a globalQueuesAt
-    global-at = record { links = links; inside = omega (arith, long m v); short = global-short }
-
-    pub lane-at : (i : ℕ) → i < laneCount (sizes m) → (b : ℕ) → b ≡ laneAddress (sizes m) i + queuesAt → OwnerAt m a b
-    lane-at i h b d = subst (OwnerAt m a) (sym d) (record { links = links; inside = omega (arith, long m v); short = lane-short i h })
-
--- ---- the queues of an owner
-
-pub part-at : (m : List ℕ) (a e : ℕ) → OwnerAt m a e → (p : Part) → QueueAt m a (at m (partAt e p))
-part-at m a e k p = record { links = k .links; short = k .short p }
-
 -- the queues of an owner: next, current and done
-abbrev pub ownerQueues : ℕ
+abbrev ownerQueues : ℕ
 ownerQueues = 3
 
 -- none has more slots than there are
-pub owner-few : (m : List ℕ) (a e : ℕ) → OwnerAt m a e → ownerLength m e ≤ ownerQueues * maxSlots
-owner-few m a e k = omega (arith, k .short next, k .short current, k .short done, inRange m (k .links .sound) .fewSlots)
-
--- ---- the lanes
+pub owner-few : (m : List ℕ) (z : Sizes) (e : ℕ) → OwnerAt m z e → ownerLength m e ≤ ownerQueues * maxSlots
+owner-few m z e k = omega (arith, k .short next, k .short current, k .short done, k .table .lent .few .slots)
 
 queuedIn-sum : (ls : List Lane) → queuedIn ls ≡ sum (λ (l : Lane). queued (l .queues)) ls
 unfolding queuedIn
 queuedIn-sum [] = refl
 queuedIn-sum (l ∷ ls) = ap (λ (n : ℕ). queued (l .queues) + n) (queuedIn-sum ls)
 
-pub lanes-shown : (m : List ℕ) → sumBelow (laneLengths m) (laneCount (sizes m)) ≡ queuedIn (state m .engine .lanes)
-unfolding state readLane
-lanes-shown m = sym (queuedIn-sum (state m .engine .lanes) ∙ sum-of-map (λ (l : Lane). queued (l .queues)) (readLane m) (from 0 (laneCount (sizes m))))
+-- the slots in the queues of lane i
+abbrev laneSlots : List ℕ → TableSizes → ℕ → ℕ
+laneSlots m z i = ownerLength m (laneAddress z i + queuesAt)
 
-module _ (m : List ℕ) (a : ℕ) (k : LinksAt m a) where
-  lanes-few : sumBelow (laneLengths m) (laneCount (sizes m)) ≤ ownerQueues * maxSlots * laneCount (sizes m)
-  lanes-few = sumBelow-few (laneLengths m) (ownerQueues * maxSlots) (laneCount (sizes m)) (λ i h. owner-few m a _ (lane-at m (k .sound) a (k .links) i h _ refl))
+-- the lanes before i have n slots, and the ends of lane i stand from e on
+pub record LanesCounted (m : List ℕ) (z : Sizes) (e n i : ℕ) : Type 0 where
+  pub ends : e ≡ laneAddress (sizesOf z) i + queuesAt
+  pub soFar : Summed (laneSlots m (sizesOf z)) (laneCount (sizesOf z)) i n
+  pub few : n ≤ ownerQueues * maxSlots * i
+
+pub lanes-start : (m : List ℕ) (z : Sizes) (a : ℕ) → a ≡ laneAddress (sizesOf z) 0 → LanesCounted m z (a + queuesAt) 0 0
+lanes-start m z a e = record { ends = omega (arith, e); soFar = summed-start _ _; few = omega arith }
+
+-- ---- by the sizes that were read
+
+module _ (m : List ℕ) (z : Sizes) (k : TableIn m z) where
+  pub free-short : length (readQueue m freeAt) ≤ z .slots
+  unfolding state
+  free-short = rw (k .sizes) (short m (k .sound) free)
+
+  pub global-at : OwnerAt m z globalQueuesAt
+  global-at = record { table = k; inside = omega (arith, k .lent .long); short = λ p. rw (k .sizes) (global-short m (k .sound) p) }
+
+  lane-at : (i : ℕ) → i < laneCount (sizesOf z) → (e : ℕ) → e ≡ laneAddress (sizesOf z) i + queuesAt → OwnerAt m z e
+  lane-at i h e d = record {
+    table = k;
+    inside = omega (arith, k .lent .long);
+    short = λ p. rw (d, k .sizes) (lane-short m (k .sound) i (rw (k .sizes) at h) p);
+  }
+
+  lanes-shown : sumBelow (laneSlots m (sizesOf z)) (laneCount (sizesOf z)) ≡ queuedIn (state m .engine .lanes)
+  unfolding state readLane
+  lanes-shown =
+      rw (k .sizes)
+      (sym (queuedIn-sum (state m .engine .lanes) ∙ sum-of-map (λ (l : Lane). queued (l .queues)) (readLane m) (from 0 (laneCount (sizes m)))))
+
+  -- lane by lane, of b lanes
+  module _ (b e n i : ℕ) (eb : b ≡ laneCount (sizesOf z)) (c : LanesCounted m z e n i) where
+    pub lanes-next : i < b → OwnerAt m z e
+    lanes-next h = lane-at i (omega (arith, eb)) e (c .ends)
+
+    pub lanes-on : i < b → (v : ℕ) → v ≡ ownerLength m e → LanesCounted m z (e + laneLength) (n + v) (i + 1)
+    lanes-on h v ev = record {
+      ends = omega (arith, c .ends);
+      soFar = summed-on _ _ i n (c .soFar) (omega (arith, eb)) v (ev ∙ ap (ownerLength m) (c .ends));
+      few = omega (arith, c .few, ev, owner-few m z e (lanes-next h));
+    }
+
+    pub lanes-done : b ≤ i → n ≡ queuedIn (state m .engine .lanes)
+    lanes-done h = summed-done _ _ i n (c .soFar) (omega (arith, eb)) ∙ lanes-shown
+
+  lanes-few : sumBelow (laneSlots m (sizesOf z)) (laneCount (sizesOf z)) ≤ ownerQueues * maxSlots * laneCount (sizesOf z)
+  lanes-few =
+      sumBelow-few (laneSlots m (sizesOf z)) (ownerQueues * maxSlots) (laneCount (sizesOf z)) (λ i h. owner-few m z _ (lane-at i h _ refl))
 
   -- what the owners have, as it was counted
   module _ (g q : ℕ) (eg : g ≡ ownerLength m globalQueuesAt) (eq : q ≡ queuedIn (state m .engine .lanes)) where
     pub retired-fits : g + q < wordLimit
-    retired-fits =
-        omega (arith, owner-few m a globalQueuesAt (global-at m (k .sound) a (k .links)), lanes-few, lanes-shown m, inRange m (k .sound) .fewLanes)
+    retired-fits = omega (arith, owner-few m z globalQueuesAt global-at, lanes-few, lanes-shown, k .lent .few .lanes)
 
     pub retired-shown : g + q ≡ retiredLength (state m)
     unfolding state

@@ -1,5 +1,5 @@
 -- Delete that no cause refuses: what its stores need, and what they leave. The slot that was found leaves its chain for the lane's next queue.
-use Prim.Native.Nat.{ℕ, _+_, _≤_, _<_}
+use Prim.Native.Nat.{ℕ, _+_, _≤_}
 use mathlib.Core.Bool.{true}
 use mathlib.Core.Path.{_≡_, refl, ap, _∙_}
 use mathlib.Core.List.{List}

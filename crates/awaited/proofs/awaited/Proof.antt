@@ -1,19 +1,17 @@
 -- Each of the four words is counted by one function, and no word of the memory is written.
 use native.Mathlib.Omega.{arith}
-use Rattle.access.proofs.Ways.{inRange, long}
-use Rattle.awaited.proofs.OwnerLengths.{free-at}
+use Rattle.access.proofs.Ways.{long}
+use Rattle.access.proofs.TableLaws.{table-read}
+use Rattle.awaited.proofs.OwnerLengths.{free-short}
 use Rattle.awaited.proofs.AwaitedAnswer.{answered}
 use borrow.Author.Needs.{needs}
 use Rattle.awaited.proofs.awaited.Statement.{statement}
 use Rattle.awaited.proofs.awaited.Tie as tie
 
-slots-start-requires : tie.Need-slots-start-requires
-slots-start-requires c κs = search needs
-
-add-links : tie.Need-add-links
-add-links c =
+read-sizes-requires : tie.Need-read-sizes-requires
+read-sizes-requires c κs =
     let entry : tie.Start = search in
-    omega (arith, c .slots-start .ensures, inRange _ (entry .pre) .fewCabinets, inRange _ (entry .pre) .fewLanes)
+    omega (arith, long _ (entry .pre))
 
 slice-reshared-read-queue-length : tie.Need-slice-reshared-read-queue-length
 slice-reshared-read-queue-length c =
@@ -22,18 +20,19 @@ slice-reshared-read-queue-length c =
 
 queue-length-requires : tie.Need-queue-length-requires
 queue-length-requires c κs =
-    let at-slots-start : tie.After-slots-start = search in
+    let at-read-sizes : tie.After-read-sizes = search in
     let entry : tie.Start = search in
-    free-at _ (entry .pre) _ (omega (arith, at-slots-start .slots-start .ensures))
+    let table = table-read _ (entry .pre) _ (at-read-sizes .read-sizes .ensures) in
+    (table, free-short _ _ table)
 
 retired-length-requires : tie.Need-retired-length-requires
-retired-length-requires c κs = search needs
+retired-length-requires c κs = search (needs, table-read)
 
 pending-count-requires : tie.Need-pending-count-requires
-pending-count-requires c κs = search needs
+pending-count-requires c κs = search (needs, table-read)
 
 lowest-pending-requires : tie.Need-lowest-pending-requires
-lowest-pending-requires c κs = search needs
+lowest-pending-requires c κs = search (needs, table-read)
 
 accepted-requires : tie.Need-accepted-requires
 accepted-requires c κs = search needs
@@ -48,8 +47,7 @@ pub awaited-spec : {M : Type 1} → statement M
 awaited-spec =
     tie.close
     (tie.spec
-    slots-start-requires
-    add-links
+    read-sizes-requires
     slice-reshared-read-queue-length
     queue-length-requires
     retired-length-requires

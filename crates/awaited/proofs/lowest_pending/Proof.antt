@@ -1,16 +1,12 @@
 -- A law for each way out.
-use mathlib.Core.Path.{_∙_}
 use native.Mathlib.Omega.{arith}
-use Rattle.access.proofs.Ways.{long}
 use Rattle.awaited.proofs.Pending.{none-shown, cabinet-below, lowest-few, lowest-shown}
 use borrow.Author.Needs.{needs}
 use Rattle.awaited.proofs.lowest_pending.Statement.{statement}
 use Rattle.awaited.proofs.lowest_pending.Tie as tie
 
 shared-slice-read-cabinets : tie.Need-shared-slice-read-cabinets
-shared-slice-read-cabinets c =
-    let entry : tie.Start = search in
-    omega (arith, long _ (entry .pre))
+shared-slice-read-cabinets c = search needs
 
 returns : tie.Need-returns
 returns c = search (needs, none-shown)
@@ -33,15 +29,10 @@ shared-slice-read-lowest c =
     let at-lowest : tie.After-lowest = search in
     let at-if1 : tie.Else1 = search in
     let entry : tie.Start = search in
-    omega (arith, at-index .index .ensures, cabinet-below _ (entry .pre) (at-if1 .if1 .left) _ (at-lowest .lowest .ensures), long _ (entry .pre))
+    omega (arith, at-index .index .ensures, cabinet-below _ _ (entry .pre) (at-if1 .if1 .left) _ (at-lowest .lowest .ensures), entry .pre .lent .long)
 
 lowest-requires-2 : tie.Need-lowest-requires-2
 lowest-requires-2 c κs = search needs
-
-shared-slice-read-lane-number : tie.Need-shared-slice-read-lane-number
-shared-slice-read-lane-number c =
-    let entry : tie.Start = search in
-    omega (arith, long _ (entry .pre))
 
 lane-number-requires : tie.Need-lane-number-requires
 lane-number-requires c κs =
@@ -50,16 +41,10 @@ lane-number-requires c κs =
     let at-lowest : tie.After-lowest = search in
     let at-if1 : tie.Else1 = search in
     let entry : tie.Start = search in
-    omega (arith, lowest-few _ (entry .pre) (at-if1 .if1 .left) _ (at-lowest .lowest .ensures) _ _ (at-index .index .ensures) (at-lowest2 .lowest2 .ensures))
+    omega (arith, lowest-few _ _ (entry .pre) (at-if1 .if1 .left) _ (at-lowest .lowest .ensures) _ _ (at-index .index .ensures) (at-lowest2 .lowest2 .ensures))
 
 returns-2 : tie.Need-returns-2
-returns-2 c =
-    let at-lowest2 : tie.After-lowest2 = search in
-    let at-index : tie.After-index = search in
-    let at-lowest : tie.After-lowest = search in
-    let at-if1 : tie.Else1 = search in
-    let entry : tie.Start = search in
-    c .lane-number .ensures ∙ lowest-shown _ (entry .pre) (at-if1 .if1 .left) _ (at-lowest .lowest .ensures) _ _ (at-index .index .ensures) (at-lowest2 .lowest2 .ensures)
+returns-2 c = search (needs, lowest-shown)
 
 pub lowest-pending-spec : {M : Type 1} → statement M
 lowest-pending-spec =
@@ -73,6 +58,5 @@ lowest-pending-spec =
     mul-lowest
     shared-slice-read-lowest
     lowest-requires-2
-    shared-slice-read-lane-number
     lane-number-requires
     returns-2)

@@ -1,7 +1,7 @@
 -- It adds up the lengths of next, current and done.
 use native.Mathlib.Omega.{arith}
 use Rattle.changes.specs.Queues.{next, current, done}
-use Rattle.awaited.proofs.OwnerLengths.{part-at, owner-few}
+use Rattle.awaited.proofs.OwnerLengths.{owner-few}
 use borrow.Author.Needs.{needs}
 use Rattle.awaited.proofs.owner_length.Statement.{statement}
 use Rattle.awaited.proofs.owner_length.Tie as tie
@@ -15,7 +15,7 @@ shared-slice-read-queue-length c = search needs
 queue-length-requires : tie.Need-queue-length-requires
 queue-length-requires c κs =
     let entry : tie.Start = search in
-    part-at _ _ _ (entry .pre) next
+    (entry .pre .table, entry .pre .short next)
 
 add-queue-length : tie.Need-add-queue-length
 add-queue-length c = search needs
@@ -29,7 +29,7 @@ shared-slice-read-queue-length-2 c = search needs
 queue-length-requires-2 : tie.Need-queue-length-requires-2
 queue-length-requires-2 c κs =
     let entry : tie.Start = search in
-    part-at _ _ _ (entry .pre) current
+    (entry .pre .table, entry .pre .short current)
 
 add-result : tie.Need-add-result
 add-result c =
@@ -49,7 +49,7 @@ shared-slice-read-queue-length-3 c = search needs
 queue-length-requires-3 : tie.Need-queue-length-requires-3
 queue-length-requires-3 c κs =
     let entry : tie.Start = search in
-    part-at _ _ _ (entry .pre) done
+    (entry .pre .table, entry .pre .short done)
 
 add-result-2 : tie.Need-add-result-2
 add-result-2 c =

@@ -1,85 +1,55 @@
 -- The loop's invariant: the count is that of the cabinets before c. The measure: the cabinets left.
---
-use Prim.Native.Nat.{_-_, _*_, _≤_}
-use mathlib.Core.Path.{_∙_}
+use Prim.Native.Nat.{_-_}
 use native.Mathlib.Omega.{arith}
-use Rattle.model.specs.Memory.{sizes}
-use denote.Ref.{now}
-use Rattle.masks.specs.Bits.{width}
-use Rattle.access.proofs.Ways.{inRange, long}
-use Rattle.laws.specs.Loops.{Summed, summed-start, summed-on, summed-done}
-use Rattle.awaited.proofs.Pending.{pendingOf, pending-few, count-shown}
+use Rattle.awaited.proofs.Pending.{MasksCounted, masks-start, masks-on, masks-done}
 use borrow.Author.Needs.{needs}
 use Rattle.awaited.proofs.pending_count.Statement.{statement}
 use Rattle.awaited.proofs.pending_count.Tie as tie
 
 abbrev Inv-loop : tie.InvT-loop
-Inv-loop m cabinets n₀ c₀ n c = Summed (pendingOf m) (sizes m .cabinets) c n × (n ≤ width * c)
+Inv-loop m cabinets n₀ c₀ n c = MasksCounted m cabinets c n
 
 abbrev μ-loop : tie.MeasureT-loop
 μ-loop m cabinets n₀ c₀ n c = cabinets - c
-
-shared-slice-read-index : tie.Need-shared-slice-read-index Inv-loop μ-loop
-shared-slice-read-index c =
-    let entry : tie.Start Inv-loop μ-loop = search in
-    omega (arith, long _ (entry .pre))
 
 index-requires : tie.Need-index-requires Inv-loop μ-loop
 index-requires c κs = search needs
 
 loop-holds : tie.Need-loop-holds Inv-loop μ-loop
-loop-holds c = (summed-start _ _, omega arith)
+loop-holds c = masks-start _ _
 
 add-ones : tie.Need-add-ones Inv-loop μ-loop
-add-ones c =
-    let at-index : tie.After-index Inv-loop μ-loop = search in
-    let entry : tie.Start Inv-loop μ-loop = search in
-    omega (arith, at-index .index .ensures, inRange _ (entry .pre) .fewCabinets)
+add-ones c = search needs
 
 mul-ones : tie.Need-mul-ones Inv-loop μ-loop
-mul-ones c =
-    let at-index : tie.After-index Inv-loop μ-loop = search in
-    let entry : tie.Start Inv-loop μ-loop = search in
-    omega (arith, at-index .index .ensures, inRange _ (entry .pre) .fewCabinets)
+mul-ones c = search needs
 
 shared-slice-read-ones : tie.Need-shared-slice-read-ones Inv-loop μ-loop
-shared-slice-read-ones c =
-    let at-index : tie.After-index Inv-loop μ-loop = search in
-    let entry : tie.Start Inv-loop μ-loop = search in
-    omega (arith, at-index .index .ensures, inRange _ (entry .pre) .fewCabinets, long _ (entry .pre))
+shared-slice-read-ones c = search needs
 
 ones-requires : tie.Need-ones-requires Inv-loop μ-loop
 ones-requires c κs = search needs
 
 add-n : tie.Need-add-n Inv-loop μ-loop
 add-n c =
+    let at-loop-test : tie.In-loop Inv-loop μ-loop = search in
     let at-loop : tie.At-loop Inv-loop μ-loop = search in
     let at-index : tie.After-index Inv-loop μ-loop = search in
     let entry : tie.Start Inv-loop μ-loop = search in
-    let few = pending-few (now (entry .args .m)) (at-loop .loop .c) in
-    omega (arith, c .ones .ensures, few, at-loop .loop .inv .1, at-index .index .ensures, inRange _ (entry .pre) .fewCabinets)
+    let next = masks-on _ _ _ _ (at-loop .loop .inv) (omega (arith, at-loop-test .loop-test .taken)) _ (c .ones .ensures) in
+    omega (arith, next .few, at-index .index .ensures, entry .pre .lent .few .cabinets)
 
 add-c : tie.Need-add-c Inv-loop μ-loop
-add-c c = search (needs, inRange)
+add-c c = search needs
 
 loop-less : tie.Need-loop-less Inv-loop μ-loop
-loop-less c = search (needs, inRange)
+loop-less c = search needs
 
 loop-again : tie.Need-loop-again Inv-loop μ-loop
-loop-again c =
-    let at-loop : tie.At-loop Inv-loop μ-loop = search in
-    let at-index : tie.After-index Inv-loop μ-loop = search in
-    let entry : tie.Start Inv-loop μ-loop = search in
-    let few = pending-few (now (entry .args .m)) (at-loop .loop .c) in
-    let summed = summed-on _ _ _ _ (at-loop .loop .inv .0) (omega (arith, at-index .index .ensures)) _ (c .ones .ensures) in
-    (summed, omega (arith, c .ones .ensures, few, at-loop .loop .inv .1))
+loop-again c = search (needs, masks-on)
 
 returns : tie.Need-returns Inv-loop μ-loop
-returns c =
-    let at-loop : tie.At-loop Inv-loop μ-loop = search in
-    let at-index : tie.After-index Inv-loop μ-loop = search in
-    let entry : tie.Start Inv-loop μ-loop = search in
-    summed-done _ _ _ _ (at-loop .loop .inv .0) (omega (arith, at-index .index .ensures)) ∙ count-shown _ (entry .pre)
+returns c = search (needs, masks-done)
 
 pub pending-count-spec : {M : Type 1} → statement M
 pending-count-spec =
@@ -87,7 +57,6 @@ pending-count-spec =
     (tie.spec
     Inv-loop
     μ-loop
-    shared-slice-read-index
     index-requires
     loop-holds
     add-ones

@@ -1,6 +1,6 @@
 -- The global queues and those of the lanes.
-use borrow.Author.Needs.{needs}
 use Rattle.awaited.proofs.OwnerLengths.{global-at, retired-fits, retired-shown}
+use borrow.Author.Needs.{needs}
 use Rattle.awaited.proofs.retired_length.Statement.{statement}
 use Rattle.awaited.proofs.retired_length.Tie as tie
 
