@@ -18,7 +18,7 @@ use Rattle.representation.proofs.Round.{ready, stored-state}
 use Rattle.representation.proofs.MemoryCalls.{reply-illegal, left-illegal, reply-legal, left-legal}
 use Rattle.representation.specs.Sound.{Sound}
 use Rattle.representation.proofs.Causes.Accepted.{Accepted, accepts}
-use Rattle.changes.specs.Shows.{Shows, shows-state}
+use Rattle.changes.proofs.Shows.{Shows, shows-state}
 use Rattle.access.specs.declared.Answer.{Answer}
 use Rattle.access.specs.Contract.{five, Does}
 

@@ -1,4 +1,3 @@
--- What contracts and their definitions cite: the words that hold a state, queues by name, the search for a code.
-pub mod Shows
+-- What contracts and their definitions cite: queues by name, the search for a code.
 pub mod Queues
 pub mod Search

@@ -10,7 +10,7 @@ use Rattle.model.specs.State.{Sizes, Queues, Engine, State}
 use Rattle.model.specs.Engine.{settled, ready, target, batched}
 use Rattle.model.specs.Rules.{withEngine}
 use Rattle.model.specs.Calls.{stored}
-use Rattle.changes.specs.Shows.{Shows, stored-shown, shows-then, stored-then}
+use Rattle.changes.proofs.Shows.{Shows, stored-shown, shows-then, stored-then}
 use Rattle.changes.proofs.Shape.{Shape}
 use Rattle.changes.specs.Queues.{next, current, done}
 use Rattle.changes.proofs.OfOwners.Owners.{Owner, Known, queuesBy, withQueues}

@@ -14,7 +14,7 @@ use Rattle.model.specs.Engine.{runs, target}
 use Rattle.model.specs.Memory.{at, laneWords}
 use Rattle.laws.specs.Tests.{not-not}
 use Rattle.representation.proofs.Addresses.Fields.{end, lane}
-use Rattle.changes.specs.Shows.{Shows}
+use Rattle.changes.proofs.Shows.{Shows}
 use Rattle.changes.proofs.Shape.{Shape}
 use Rattle.changes.specs.Queues.{Part, next, current, done, partOf, queueOf, endsAt}
 use Rattle.changes.proofs.OfQueues.QueueChanges.{empty-shown}

@@ -16,7 +16,7 @@ use Rattle.representation.proofs.Causes.Passed.{clear, within}
 use Rattle.representation.proofs.FromState.Periods.{cabinet-below}
 use Rattle.representation.proofs.FromState.Standing.{fit}
 use Rattle.representation.proofs.WellFormed.{WellFormed}
-use Rattle.changes.specs.Shows.{Shows, shows-then}
+use Rattle.changes.proofs.Shows.{Shows, shows-then}
 use Rattle.changes.proofs.Shape.{LaneAtEach}
 use Rattle.lanes.specs.Cabinet.{stand}
 use Rattle.engine.proofs.PeriodLaws.{current-shown, largest-shown, mask-shown, mask-runs}

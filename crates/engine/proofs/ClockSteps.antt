@@ -12,7 +12,7 @@ use Rattle.model.specs.Calls.{stored}
 use Rattle.masks.specs.Bits.{width}
 use Rattle.representation.proofs.FromState.Standing.{fit}
 use Rattle.representation.proofs.WellFormed.{WellFormed}
-use Rattle.changes.specs.Shows.{Shows, stored-shown, shows-then, stored-then}
+use Rattle.changes.proofs.Shows.{Shows, stored-shown, shows-then, stored-then}
 use Rattle.changes.proofs.Shape.{Shape, wellFormed-shape}
 use Rattle.changes.proofs.OfOwners.Owners.{allLanes, oneLane}
 use Rattle.lanes.specs.declared.Place.{Place}

@@ -14,7 +14,7 @@ use Rattle.laws.specs.ListLaws.{map-from-getD}
 use Rattle.laws.specs.Masks.{flag-mask}
 use Rattle.representation.proofs.Addresses.Fields.{lane}
 use Rattle.representation.proofs.WellFormed.{SnapshotFits, LaneFits}
-use Rattle.changes.specs.Shows.{Shows}
+use Rattle.changes.proofs.Shows.{Shows}
 use Rattle.changes.proofs.OfLanes.LaneWords.{snapshotWords}
 use Rattle.lanes.specs.Record.{recordAt, sameCounts, movedOn}
 

@@ -17,7 +17,7 @@ use Rattle.lanes.specs.declared.Place.{Place}
 use Rattle.lanes.specs.RecordChanges.{changedAt}
 use Rattle.lanes.specs.Cabinet.{stand}
 use Rattle.lanes.proofs.CabinetLaws.{cabinetAt-lane, row-within}
-use Rattle.changes.specs.Shows.{Shows, shows-then, stored-then}
+use Rattle.changes.proofs.Shows.{Shows, shows-then, stored-then}
 use Rattle.changes.proofs.Shape.{wellFormed-shape}
 use Rattle.changes.proofs.OfOwners.Owners.{allLanes}
 use Rattle.engine.specs.Release.{releasedWords}

@@ -20,7 +20,7 @@ use Rattle.representation.proofs.Causes.Passed.{within}
 use Rattle.lanes.specs.declared.Change.the-variants.{Leave}
 use Rattle.lanes.specs.RecordChanges.{changedAt}
 use Rattle.lanes.proofs.CabinetLaws.{changed-offline}
-use Rattle.changes.specs.Shows.{Shows, shows-then, stored-then}
+use Rattle.changes.proofs.Shows.{Shows, shows-then, stored-then}
 use Rattle.changes.proofs.Shape.{Shape}
 use Rattle.changes.proofs.OfLanes.EngineWords.{atGeneration}
 use Rattle.changes.proofs.OfLanes.LaneWords.{lane-flags, lane-generation}

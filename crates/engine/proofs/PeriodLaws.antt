@@ -22,7 +22,7 @@ use Rattle.laws.specs.Elements.{any-map}
 use Rattle.laws.specs.Masks.{isTrue, some, mask-zero}
 use Rattle.laws.specs.Levels.{concat-rows, upper, some-concat}
 use Rattle.representation.proofs.Addresses.Fields.{top, end, mask}
-use Rattle.changes.specs.Shows.{Shows, stored-shown, shows-then, stored-then}
+use Rattle.changes.proofs.Shows.{Shows, stored-shown, shows-then, stored-then}
 use Rattle.changes.proofs.Shape.{LaneAtEach, Shape}
 use Rattle.changes.proofs.OfLanes.EngineWords.{write-current, write-largest, shape-engine}
 use Rattle.engine.specs.Period.{startedWords, endedWords, raisedWords, requestedWords}

@@ -18,7 +18,7 @@ use Rattle.model.specs.Memory.{at, flags, snapshotCount, laneWords, laneQueues}
 use Rattle.model.specs.Calls.{stored}
 use Rattle.laws.specs.Tests.{other}
 use Rattle.representation.proofs.Addresses.Fields.{lane}
-use Rattle.changes.specs.Shows.{Shows, stored-shown}
+use Rattle.changes.proofs.Shows.{Shows, stored-shown}
 use Rattle.changes.proofs.Shape.{LaneAtEach}
 use Rattle.changes.proofs.OfLanes.LaneWords.{lane-snapshot}
 use Rattle.masks.specs.Bits.{withoutBit}

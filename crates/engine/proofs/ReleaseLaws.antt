@@ -13,7 +13,7 @@ use Rattle.model.specs.Calls.{stored}
 use Rattle.laws.specs.ListLaws.{getD-update-same, update-update, length-update}
 use Rattle.masks.specs.Bits.{width}
 use Rattle.representation.proofs.Addresses.Fields.{lane}
-use Rattle.changes.specs.Shows.{Shows, shows-then, stored-then}
+use Rattle.changes.proofs.Shows.{Shows, shows-then, stored-then}
 use Rattle.changes.proofs.Shape.{LaneAtEach, Shape}
 use Rattle.changes.proofs.OfLanes.EngineWords.{shape-engine}
 use Rattle.lanes.specs.declared.Change.the-variants.{Drop}

@@ -19,7 +19,7 @@ use Rattle.laws.specs.Masks.{flag-zero, flag-mask-from}
 use Rattle.masks.specs.Bits.{width, withoutBit}
 use Rattle.masks.proofs.BitLaws.{withoutBit-from}
 use Rattle.representation.proofs.Addresses.Fields.{mask, lane}
-use Rattle.changes.specs.Shows.{Shows}
+use Rattle.changes.proofs.Shows.{Shows}
 use Rattle.changes.proofs.Shape.{LaneAtEach}
 use Rattle.changes.proofs.OfLanes.EngineWords.{withPending}
 use Rattle.lanes.proofs.CabinetLaws.{row-within}

@@ -23,7 +23,7 @@ use Rattle.masks.specs.Bits.{width, withoutBit}
 use Rattle.representation.proofs.Addresses.Fields.{top, head, end, mask, lane, slot, value}
 use Rattle.representation.proofs.Addresses.Writes.{Image, by-fields}
 use Rattle.laws.specs.Updates.{update-same}
-use Rattle.changes.specs.Shows.{Shows, stored-shown, shows-then, stored-then}
+use Rattle.changes.proofs.Shows.{Shows, stored-shown, shows-then, stored-then}
 use Rattle.changes.proofs.Shape.{LaneAtEach}
 use Rattle.changes.proofs.OfLanes.EngineWords.{withPending, maskedValue, value-withPending}
 use Rattle.lanes.specs.Cabinet.{stand}

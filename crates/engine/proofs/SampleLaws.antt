@@ -16,7 +16,7 @@ use Rattle.laws.specs.Tests.{and-true}
 use Rattle.laws.specs.Masks.{flag-mask-from}
 use Rattle.representation.proofs.Addresses.Fields.{mask, lane}
 use Rattle.laws.specs.Updates.{update-same, update-alike}
-use Rattle.changes.specs.Shows.{Shows, stored-shown}
+use Rattle.changes.proofs.Shows.{Shows, stored-shown}
 use Rattle.changes.proofs.Shape.{LaneAtEach, Shape}
 use Rattle.changes.proofs.OfLanes.OneLane.{shape-lane}
 use Rattle.changes.proofs.OfLanes.LaneWords.{lane-snapshot}

@@ -21,7 +21,7 @@ use Rattle.laws.specs.Elements.{getD-map}
 use Rattle.laws.specs.Masks.{flag-mask}
 use Rattle.representation.proofs.Addresses.Fields.{top, head, end, mask, lane, slot, value}
 use Rattle.representation.proofs.Addresses.Writes.{Image, by-fields}
-use Rattle.changes.specs.Shows.{Shows}
+use Rattle.changes.proofs.Shows.{Shows}
 use Rattle.changes.proofs.Shape.{LaneAtEach, Shape}
 use Rattle.changes.proofs.OfLanes.EngineWords.{shape-engine, withPending, maskedValue, value-withPending}
 use Rattle.lanes.specs.Cabinet.{cabinetAt, onlineAt, onlineMask}

@@ -61,7 +61,8 @@ module _ (m : List ℕ) where
       rest : (v && long) ≡ contentsAgree m
       unfolding contentsAgree every
       rest =
-          ap (λ (b : Bool). b && long) (k ∙ ap (sameContents m) (o ∙ ap (λ (x : Sizes). sets (replicate contentsLength 0) 0 (contents (sizesOf x))) ez) ∙ sym (own-eq l))
+          let same-own = o ∙ ap (λ (x : Sizes). sets (replicate contentsLength 0) 0 (contents (sizesOf x))) ez in
+          ap (λ (b : Bool). b && long) (k ∙ ap (sameContents m) same-own ∙ sym (own-eq l))
           ∙ ap (λ (b : Bool). same (take contentsLength m) (contents (sizes m)) && b) (sym (and-true-right long))
           ∙ sym (rw (le-leb contentsLength (length m) l, sym q ∙ e))
 

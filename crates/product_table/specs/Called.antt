@@ -1,15 +1,12 @@
 -- What a call for C leaves behind: the status, the words of the memory and the words of the answer, for every input (document 01, "Parts and sources").
-use Prim.Native.Nat.{ℕ, _≤_, _<_}
+use Prim.Native.Nat.{ℕ}
 use mathlib.Core.Path.{_≡_}
 use mathlib.Core.Bool.{cond}
 use mathlib.Core.List.{List, [], _∷_, _++_}
 use lib.ListN.{length, drop}
 use lib.Dec.{ltb}
-use borrow.Author.Tests.{lt-ltb, le-ltb}
 use Rattle.model.specs.Rules.{Answer as Reply}
 use Rattle.model.specs.Calls.{Call, reply, left}
-use Rattle.access.specs.declared.Answer.{Answer}
-use Rattle.access.specs.Contract.{five, Does}
 
 -- how many words an answer has
 abbrev pub answerLength : ℕ
@@ -35,19 +32,11 @@ outcome s n b = record { status = s; memory = n; answer = b }
 -- the call k on the memory m with the words a lent for the answer: fewer than five, and nothing is done; else the
 -- answer's words go into the first five, and those past them stay
 unfoldable pub outcomeOf : Call → List ℕ → List ℕ → Outcome
-outcomeOf k m a = cond (ltb (length a) answerLength) (outcome shortAnswer m a) (outcome (reply m k .status) (left m k) (answerWords (reply m k) ++ drop answerLength a))
+outcomeOf k m a =
+    cond (ltb (length a) answerLength)
+    (outcome shortAnswer m a)
+    (outcome (reply m k .status) (left m k) (answerWords (reply m k) ++ drop answerLength a))
 
 -- the call k on m and a returned s and left n and b
 abbrev pub Called : Call → List ℕ → List ℕ → List ℕ → List ℕ → ℕ → Type 0
 Called k m a n b s = outcome s n b ≡ outcomeOf k m a
-
-module _ (k : Call) (m a : List ℕ) where
-  -- fewer than five words are lent
-  pub too-short : length a < answerLength → Called k m a m a shortAnswer
-  unfolding outcomeOf
-  too-short h = rw (lt-ltb (length a) answerLength h)
-
-  -- the call is made, and its answer is written
-  pub answered : answerLength ≤ length a → (r : Answer) (n b : List ℕ) → Does k m r n → b ≡ answerWords (five r) ++ drop answerLength a → Called k m a n b (r .status)
-  unfolding outcomeOf
-  answered h r n b d e = rw (le-ltb (length a) answerLength h) (cc (d .answer, d .memory, e))

@@ -12,7 +12,7 @@ use Rattle.model.specs.Calls.{stored}
 use Rattle.representation.proofs.Causes.Accepted.{AddAccepted, ReplaceAccepted, DeleteAccepted, HandBackAccepted}
 use Rattle.representation.proofs.WellFormed.{WellFormed}
 use Rattle.chains.specs.declared.Found.{Found}
-use Rattle.changes.specs.Shows.{Shows}
+use Rattle.changes.proofs.Shows.{Shows}
 use Rattle.changes.proofs.Shape.{Shape, wellFormed-shape}
 use Rattle.changes.specs.Queues.{global, lane, done, endsAt}
 use Rattle.changes.specs.Search.{searchWords}

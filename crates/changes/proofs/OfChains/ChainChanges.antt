@@ -20,7 +20,7 @@ use Rattle.representation.proofs.Addresses.Fields.{Field, head, slot, Inside, v
 use Rattle.representation.proofs.Addresses.Writes.{Writes, put, writes-none, writes-put, writes-done}
 use Rattle.chains.specs.Chain.{linkAddress, pointed, linkedAtHead, putInPlace, unlinked}
 use Rattle.chains.proofs.AllChains.{add-links}
-use Rattle.changes.specs.Shows.{Shows}
+use Rattle.changes.proofs.Shows.{Shows}
 use Rattle.changes.proofs.Shape.{Shape, chained}
 use Rattle.changes.proofs.Puts.{put-over, linked, linked-alike, linked-same, linked-put, linked-put-one, headed, headed-same, headed-put, writes-alike}
 use Rattle.changes.proofs.OfChains.ChainStates.{withChains, headAdded, chainLess, chainSwapped, headsWith, chainLinksWith, value-withChains}

@@ -29,7 +29,7 @@ use Rattle.chains.specs.Chained.{beforeCode}
 use Rattle.chains.specs.Outcome.{outcomeAt}
 use Rattle.chains.proofs.SeekLaws.{seek-walk, beforeCode-slotIn}
 use Rattle.chains.proofs.OutcomeLaws.{outcomeAt-outcome}
-use Rattle.changes.specs.Shows.{Shows}
+use Rattle.changes.proofs.Shows.{Shows}
 use Rattle.changes.proofs.Shape.{Shape}
 use Rattle.changes.proofs.OfChains.ChainChanges.{link-shown, head-shown}
 

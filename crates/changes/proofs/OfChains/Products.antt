@@ -19,7 +19,7 @@ use Rattle.laws.specs.Successors.{successorIn-out}
 use Rattle.representation.proofs.Addresses.Fields.{Field, top, head, end, mask, lane, slot, Inside, value}
 use Rattle.representation.proofs.Addresses.Writes.{Writes, put, writes-none, writes-put, writes-done}
 use Rattle.chains.specs.Chain.{linkAddress, productSet, cleared}
-use Rattle.changes.specs.Shows.{Shows, shows-then, stored-then}
+use Rattle.changes.proofs.Shows.{Shows, shows-then, stored-then}
 use Rattle.changes.proofs.Shape.{Shape, chained}
 use Rattle.changes.proofs.Puts.{linked, linked-put-one, headed-same}
 use Rattle.changes.proofs.OfChains.ChainStates.{withLink, withProduct, slotCleared, headsWith, chainLinksWith, value-withChains}

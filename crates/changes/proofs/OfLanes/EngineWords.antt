@@ -17,7 +17,7 @@ use Rattle.model.specs.Calls.{stored}
 use Rattle.laws.specs.ListLaws.{getD-set}
 use Rattle.representation.proofs.Addresses.Fields.{Field, top, head, end, mask, lane, slot, Inside, value, topWords, endWords}
 use Rattle.representation.proofs.Addresses.Writes.{Writes, put, writes-none, writes-put, writes-done}
-use Rattle.changes.specs.Shows.{Shows}
+use Rattle.changes.proofs.Shows.{Shows}
 use Rattle.changes.proofs.Shape.{Shape, queued}
 
 -- one word of a list set, as the values of fields have it

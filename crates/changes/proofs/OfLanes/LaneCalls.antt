@@ -16,7 +16,7 @@ use Rattle.model.specs.Calls.{stored}
 use Rattle.representation.proofs.Causes.Accepted.{PassAccepted}
 use Rattle.representation.proofs.WellFormed.{WellFormed}
 use Rattle.laws.specs.Updates.{update-alike}
-use Rattle.changes.specs.Shows.{Shows}
+use Rattle.changes.proofs.Shows.{Shows}
 use Rattle.changes.proofs.OfLanes.OneLane.{storedFrom}
 use Rattle.changes.proofs.OfLanes.LaneWords.{lookupWords, lane-lookup, lane-position, lane-count}
 

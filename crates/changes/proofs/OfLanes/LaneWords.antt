@@ -17,7 +17,7 @@ use Rattle.model.specs.Calls.{stored}
 use Rattle.laws.specs.ListLaws.{getD-update}
 use Rattle.representation.proofs.Addresses.Fields.{lane}
 use Rattle.laws.specs.Updates.{update-set}
-use Rattle.changes.specs.Shows.{Shows}
+use Rattle.changes.proofs.Shows.{Shows}
 use Rattle.changes.proofs.Shape.{LaneAtEach}
 use Rattle.changes.proofs.OfLanes.OneLane.{lane-none, lane-put, lane-run, lane-done, lane-change, storedFrom}
 use Rattle.changes.proofs.OfLanes.EngineWords.{atGeneration}

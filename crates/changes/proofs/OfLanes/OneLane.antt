@@ -21,7 +21,7 @@ use Rattle.laws.specs.Elements.{Each}
 use Rattle.representation.proofs.Addresses.Fields.{Field, top, head, end, mask, lane, slot, value}
 use Rattle.representation.proofs.Addresses.Writes.{Writes, put, writes-none, writes-put, writes-done}
 use Rattle.representation.proofs.Addresses.MaskWords.{laneMask-kept, top-kept}
-use Rattle.changes.specs.Shows.{Shows}
+use Rattle.changes.proofs.Shows.{Shows}
 use Rattle.changes.proofs.Shape.{LaneAtEach, Shape}
 use Rattle.changes.proofs.Puts.{writes-alike}
 use Rattle.changes.proofs.OfQueues.QueueFields.{pending-kept}

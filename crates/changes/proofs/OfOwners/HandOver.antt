@@ -11,7 +11,7 @@ use Rattle.model.specs.Rules.{withEngine}
 use Rattle.model.specs.Calls.{stored}
 use Rattle.laws.specs.ListLaws.{update-update}
 use Rattle.queues.specs.Queue.{joined}
-use Rattle.changes.specs.Shows.{Shows, shows-then, stored-then}
+use Rattle.changes.proofs.Shows.{Shows, shows-then, stored-then}
 use Rattle.changes.proofs.Shape.{Shape}
 use Rattle.changes.specs.Queues.{Queue, Part, next, current, done, global, lane, atPart, queueOf, withQueue, joinedState, endsAt}
 use Rattle.changes.proofs.OfQueues.QueuePlaces.{queueOf-other}

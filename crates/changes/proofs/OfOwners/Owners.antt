@@ -18,7 +18,7 @@ use Rattle.laws.specs.ListLaws.{update-update}
 use Rattle.laws.specs.Elements.{isEmpty-true}
 use Rattle.queues.specs.Queue.{joined}
 use Rattle.laws.specs.Updates.{update-same, update-alike}
-use Rattle.changes.specs.Shows.{Shows, shows-then, stored-then}
+use Rattle.changes.proofs.Shows.{Shows, shows-then, stored-then}
 use Rattle.changes.proofs.Shape.{LaneAtEach, Shape}
 use Rattle.changes.specs.Queues.{Part, next, current, done, Queue, global, lane, Named, partOf, withPart, atPart, queueOf}
 use Rattle.changes.specs.Queues.{withQueue, joinedState, endsAt}

@@ -20,7 +20,7 @@ use Rattle.representation.proofs.Addresses.Fields.{Field, slot, Inside, value}
 use Rattle.representation.proofs.Addresses.Writes.{Writes, put, writes-none, writes-put, writes-if, writes-done}
 use Rattle.queues.specs.Queue.{linkAddress, followed, appendedRun, appended}
 use Rattle.queues.proofs.AllQueues.{append-links}
-use Rattle.changes.specs.Shows.{Shows}
+use Rattle.changes.proofs.Shows.{Shows}
 use Rattle.changes.proofs.Shape.{Shape, queued}
 use Rattle.changes.proofs.Puts.{linked, linked-put-one, linked-same, put-same, put-over}
 use Rattle.changes.specs.Queues.{Queue, Named, queueOf, withQueue, endsAt}

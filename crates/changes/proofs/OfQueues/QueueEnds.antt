@@ -10,7 +10,7 @@ use Rattle.model.specs.Layout.{lastOffset, queueWidth, queuesAt}
 use Rattle.model.specs.Memory.{at, laneWords}
 use Rattle.laws.specs.Tests.{other}
 use Rattle.representation.proofs.Addresses.Fields.{Field, end, lane, slot, address, Inside, value, sameField}
-use Rattle.changes.specs.Shows.{Shows}
+use Rattle.changes.proofs.Shows.{Shows}
 use Rattle.changes.specs.Queues.{next, current, done, Queue, free, global, lane as ofLane, Named, partAt, queueOf}
 use Rattle.changes.specs.Queues.{endsAt}
 

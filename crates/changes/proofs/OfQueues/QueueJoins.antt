@@ -19,7 +19,7 @@ use Rattle.representation.proofs.Addresses.Writes.{put, writes-done}
 use Rattle.queues.specs.Queue.{endsSet, appendedRun, joined}
 use Rattle.queues.proofs.AllQueues.{join-links}
 use Rattle.laws.specs.Updates.{update-commutes}
-use Rattle.changes.specs.Shows.{Shows, stored-shown}
+use Rattle.changes.proofs.Shows.{Shows, stored-shown}
 use Rattle.changes.proofs.Shape.{Shape}
 use Rattle.changes.proofs.Puts.{linked, put-over}
 use Rattle.changes.specs.Queues.{Queue, Named, queueOf, withQueue, joinedState, endsAt}

@@ -18,7 +18,7 @@ use Rattle.representation.proofs.Addresses.Fields.{Field, slot, Inside, value}
 use Rattle.representation.proofs.Addresses.Writes.{Writes, put, writes-none, writes-put, writes-done}
 use Rattle.queues.specs.Queue.{linkAddress, endsSet, begunAt, lessFirst}
 use Rattle.queues.proofs.AllQueues.{take-links}
-use Rattle.changes.specs.Shows.{Shows, stored-shown}
+use Rattle.changes.proofs.Shows.{Shows, stored-shown}
 use Rattle.changes.proofs.Shape.{Shape}
 use Rattle.changes.proofs.Puts.{linked, linked-put-one, put-same, put-over}
 use Rattle.changes.specs.Queues.{Queue, Named, queueOf, withQueue, endsAt}

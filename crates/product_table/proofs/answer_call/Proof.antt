@@ -1,5 +1,5 @@
 -- Fewer than five words: nothing is done. Else the call is made, and its five words are written.
-use Rattle.product_table.specs.Called.{too-short, answered}
+use Rattle.product_table.proofs.CalledLaws.{too-short, answered}
 use borrow.Author.Needs.{needs}
 use Rattle.product_table.proofs.answer_call.Statement.{statement}
 use Rattle.product_table.proofs.answer_call.Tie as tie

@@ -101,7 +101,9 @@ module _ (s : State) (l : length (s .engine .lanes) ≡ laneCount (s .sizes)) wh
     length-upper = length-map rows some ∙ length-map-from row 0 C
 
     lowest-first : lowest ≡ firstTrue (upper rows)
-    lowest-first = ap (trailingZeros wordBits) cabinetMask-upper ∙ trailing-mask wordBits (upper rows) (omega (arith, length-upper, fit .fewCabinets)) some-upper
+    lowest-first =
+        ap (trailingZeros wordBits) cabinetMask-upper
+        ∙ trailing-mask wordBits (upper rows) (omega (arith, length-upper, fit .fewCabinets)) some-upper
 
     lowest-lt : lowest < C
     lowest-lt = omega (arith, lowest-first, firstTrue-lt (upper rows) some-upper, length-upper)

@@ -1,0 +1,2 @@
+-- The ways out of a call for C.
+mod CalledLaws
