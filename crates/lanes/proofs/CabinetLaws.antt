@@ -26,7 +26,7 @@ use Rattle.lanes.specs.declared.LaneRecord.{LaneRecord}
 use Rattle.lanes.specs.declared.Place.{Place}
 use Rattle.lanes.specs.declared.Change.{Change}
 use Rattle.lanes.specs.declared.Change.the-variants.{Pass, Sample, Drop, Leave}
-use Rattle.lanes.specs.Record.{recordAt, recordWords, recordStored, countedRecord, sampledRecord, droppedRecord, offlineRecord}
+use Rattle.lanes.specs.Record.{recordAt, recordWords, recordStored, countedRecord, sampledRecord, droppedRecord, offlineRecord, recordLength}
 use Rattle.lanes.proofs.RecordLaws.{wordsAt, recordAt-words, recordStored-recordAt}
 use Rattle.lanes.specs.RecordChanges.{Fits, changedRecord, changedAt}
 use Rattle.lanes.specs.Cabinet.{placeAt, cabinetAt, stand, LaneLent, onlineAt, onlineMask, countedAt, sampledAt, droppedAt, offlineAt}
@@ -75,7 +75,7 @@ module _ (m : List ℕ) (a : ℕ) where
   changed-counted k fits h =
       let e : a + (1 + k) ≡ a + quiescentAt + k = omega arith in
       ap (sets m a) (go k h)
-      ∙ sym (update-sets (recordWords (recordAt m a)) m 0 a (1 + k) (upTo countLimit) fits (omega arith))
+      ∙ sym (update-sets (recordWords (recordAt m a)) m 0 a (1 + k) (upTo countLimit) (omega arith) (omega arith))
       ∙ ap (λ (l : List ℕ). update l (a + (1 + k)) (upTo countLimit)) (recordStored-recordAt m a)
       ∙ ap (λ (i : ℕ). update m i (upTo countLimit)) e
     where
@@ -135,7 +135,7 @@ module _ (m : List ℕ) (a n : ℕ) where
     pub part-record : recordAt part (placeAt p) ≡ recordAt m (a + placeAt p)
     part-record =
         recordAt-words part (placeAt p)
-        ∙ ap (λ (ws : List ℕ). recordAt ws 0) (part-words laneLength (placeAt p) h)
+        ∙ ap (λ (ws : List ℕ). recordAt ws 0) (part-words recordLength (placeAt p) (omega arith))
         ∙ sym (recordAt-words m (a + placeAt p))
 
     -- and what changes it in the part changes it in the whole
@@ -143,7 +143,7 @@ module _ (m : List ℕ) (a n : ℕ) where
     unfolding recordWords
     part-changed x l e =
         ap (λ (ys : List ℕ). take a m ++ (ys ++ drop n (drop a m))) (e ∙ ap (λ (r : LaneRecord). recordStored part (placeAt p) (changedRecord x r)) part-record)
-        ∙ part-sets (recordWords (changedRecord x (recordAt m (a + placeAt p)))) m a n (placeAt p) h
+        ∙ part-sets (recordWords (changedRecord x (recordAt m (a + placeAt p)))) m a n (placeAt p) (omega arith)
 
   -- the lanes of the part that are on
   pub part-online : (k : ℕ) → laneLength * k ≤ n → mask (map (onlineAt part 0) (from 0 k)) ≡ mask (map (onlineAt m a) (from 0 k))

@@ -9,14 +9,14 @@ use lib.Seq.{sets, drop-cons}
 use Rattle.model.specs.Word.{upTo}
 use Rattle.model.specs.Lists.{from, update}
 use Rattle.model.specs.State.{Lane, unheld, held, isHeld, isRunning}
-use Rattle.model.specs.Layout.{kinds, countLimit, laneLength, quiescentAt, snapshotAt, generationAt, queuesAt, currentOffset, doneOffset, lookupAt, snapshotBit}
+use Rattle.model.specs.Layout.{kinds, countLimit, quiescentAt, snapshotAt, generationAt, queuesAt, currentOffset, doneOffset, lookupAt, snapshotBit}
 use Rattle.model.specs.Engine.{counted, setPending}
 use Rattle.model.specs.Memory.{at, flags, readCounts, laneWords, snapshotCount}
 use Rattle.laws.specs.ListLaws.{length-update}
 use Rattle.laws.specs.Stores.{getD-sets-below, map-sets, sets-same}
 use Rattle.masks.proofs.BitLaws.{withBit-mask, withoutBit-mask}
 use Rattle.lanes.proofs.Offsets.{plus-1, plus-2, plus-3, plus-4, plus-5, plus-9, plus-10, plus-16}
-use Rattle.lanes.specs.Record.{endsAt, endsWords, lookupWordsAt, lookupWords, recordAt, recordWith, recordWords}
+use Rattle.lanes.specs.Record.{endsAt, endsWords, lookupWordsAt, lookupWords, recordAt, recordWith, recordWords, recordLength}
 use Rattle.lanes.specs.Record.{recordStored, recordOf, withQuiescent, withSnapshot, countedRecord, sampledRecord, droppedRecord}
 use Rattle.lanes.specs.declared.Ends.{Ends}
 use Rattle.lanes.specs.declared.Lookup.{Lookup}
@@ -29,12 +29,12 @@ abbrev pub wordsAt : List ℕ → ℕ → ℕ → List ℕ
 wordsAt m a n = map (at m) (from a n)
 
 -- a record that was read has the words that stand there
-pub recordWords-recordAt : (m : List ℕ) (a : ℕ) → recordWords (recordAt m a) ≡ wordsAt m a laneLength
+pub recordWords-recordAt : (m : List ℕ) (a : ℕ) → recordWords (recordAt m a) ≡ wordsAt m a recordLength
 unfolding recordWords recordAt from
 recordWords-recordAt m a = simp (plus-1, plus-2, plus-3, plus-5, plus-9, plus-10, plus-4, plus-16)
 
 -- a record is read from its words alone
-pub recordAt-words : (m : List ℕ) (a : ℕ) → recordAt m a ≡ recordAt (wordsAt m a laneLength) 0
+pub recordAt-words : (m : List ℕ) (a : ℕ) → recordAt m a ≡ recordAt (wordsAt m a recordLength) 0
 unfolding recordAt from
 recordAt-words m a = simp (plus-1, plus-2, plus-3, plus-5, plus-9, plus-10, plus-4, plus-16)
 
@@ -55,7 +55,7 @@ recordAt-recordWords r hq hs =
     (counts-back (r .snapshot) hs)
 
 -- a record that was written reads back
-pub recordAt-recordStored : (m : List ℕ) (a : ℕ) (r : LaneRecord) → a + laneLength ≤ length m → length (r .quiescent) ≡ kinds → length (r .snapshot) ≡ kinds
+pub recordAt-recordStored : (m : List ℕ) (a : ℕ) (r : LaneRecord) → a + recordLength ≤ length m → length (r .quiescent) ≡ kinds → length (r .snapshot) ≡ kinds
     → recordAt (recordStored m a r) a ≡ r
 unfolding recordWords
 recordAt-recordStored m a r fits hq hs =
@@ -84,13 +84,13 @@ recordStored-parts m a r x y n c d l hx hy hn hc hd hl = rw (hl, hd, hc, hn, hy,
 
 -- to write what was read changes nothing
 pub recordStored-recordAt : (m : List ℕ) (a : ℕ) → recordStored m a (recordAt m a) ≡ m
-recordStored-recordAt m a = ap (sets m a) (recordWords-recordAt m a) ∙ sets-same m 0 a laneLength
+recordStored-recordAt m a = ap (sets m a) (recordWords-recordAt m a) ∙ sets-same m 0 a recordLength
 
 -- ---- the record of a lane
 
 -- where the words of a lane stand, its record is read
-pub recordAt-lane : (m : List ℕ) (a : ℕ) (l : Lane) → wordsAt m a laneLength ≡ laneWords l → recordAt m a ≡ recordOf l
-recordAt-lane m a l e = recordAt-words m a ∙ ap (λ (ws : List ℕ). recordAt ws 0) e
+pub recordAt-lane : (m : List ℕ) (a : ℕ) (l : Lane) → wordsAt m a recordLength ≡ wordsAt (laneWords l) 0 recordLength → recordAt m a ≡ recordOf l
+recordAt-lane m a l e = recordAt-words m a ∙ ap (λ (ws : List ℕ). recordAt ws 0) e ∙ sym (recordAt-words (laneWords l) 0)
 
 -- the flags of a lane, bit 0 first
 abbrev laneFlags : Lane → List Bool

@@ -1,4 +1,4 @@
--- A lane's record as the code holds it, and its nineteen words (document 01, "The memory", Lanes, and "Generations and passes").
+-- A lane's record as the code holds it, and its words, after which a lane may have others (document 01, "The memory", Lanes, and "Generations and passes").
 use Prim.Native.Nat.{ℕ, _+_}
 use mathlib.Core.Bool.{Bool, true, not, _&&_}
 use mathlib.Core.List.{List, [], _∷_}
@@ -29,6 +29,10 @@ endsWords e = e .first ∷ e .last ∷ []
 abbrev pub lookupWidth : ℕ
 lookupWidth = 3
 
+-- the words of a record: those of a lane up to its lookup's
+abbrev pub recordLength : ℕ
+recordLength = lookupAt + lookupWidth
+
 abbrev pub lookupWordsAt : List ℕ → ℕ → Lookup
 lookupWordsAt m a = record { low = at m a; high = at m (a + 1); position = at m (a + 2) }
 
@@ -56,7 +60,7 @@ recordAt m a =
     (endsAt m (a + queuesAt + doneOffset))
     (lookupWordsAt m (a + lookupAt))
 
--- its nineteen words
+-- its words
 unfoldable pub recordWords : LaneRecord → List ℕ
 recordWords r =
     r .flags

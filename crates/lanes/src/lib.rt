@@ -28,7 +28,7 @@ pub struct Lookup {
     pub position: u32,
 }
 
-// The nineteen words: flags, counts and snapshot counts by kind, the current queue's generation, the lane's
+// Flags, counts and snapshot counts by kind, the current queue's generation, the lane's
 // three queues, and its lookup.
 pub struct LaneRecord {
     pub flags: u32,
