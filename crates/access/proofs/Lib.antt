@@ -3,4 +3,4 @@ pub mod Ways
 pub mod LaneLaws
 pub mod FlagLaws
 pub mod Refusals
-pub mod TableLaws
+pub mod TableReads

@@ -2,4 +2,4 @@
 pub mod Contract
 pub mod Flags
 pub mod Lanes
-pub mod Tables
+pub mod TableSizes

@@ -21,7 +21,7 @@ use Rattle.changes.proofs.Shape.{wellFormed-shape}
 use Rattle.changes.specs.Queues.{Part, next, current, done, Queue, free, global, lane, queueOf, partAt}
 use Rattle.changes.proofs.OfQueues.QueueStates.{queue-le}
 use Rattle.changes.proofs.OfQueues.QueueChanges.{queue-below, queues-once}
-use Rattle.access.specs.Tables.{TableIn}
+use Rattle.access.specs.TableSizes.{TableIn}
 use Rattle.access.proofs.Ways.{wellFormed}
 use Rattle.awaited.specs.Lengths.{ownerLength, retiredLength, OwnerAt}
 

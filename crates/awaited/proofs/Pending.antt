@@ -28,7 +28,7 @@ use Rattle.representation.proofs.FromState.Periods.{cabinetMask-runs}
 use Rattle.representation.proofs.FromState.Awaited.{awaited-count, awaited-none, awaited-lowest}
 use Rattle.representation.specs.Sound.{Sound}
 use Rattle.words.specs.declared.Sizes.{Sizes}
-use Rattle.access.specs.Tables.{TableIn}
+use Rattle.access.specs.TableSizes.{TableIn}
 use Rattle.access.proofs.Ways.{shown, inRange}
 
 -- ---- bits

@@ -11,7 +11,7 @@ use Rattle.laws.specs.Walks.{walk-stop, walk-on}
 use Rattle.representation.proofs.FromMemory.Reading.{length-slotField, getD-slotField}
 use Rattle.words.specs.declared.Sizes.{Sizes}
 use Rattle.words.specs.Lent.{sizesOf}
-use Rattle.access.specs.Tables.{TableIn}
+use Rattle.access.specs.TableSizes.{TableIn}
 use Rattle.awaited.specs.Lengths.{queueFrom}
 
 -- how many follow from slot i on, n of the queue being counted

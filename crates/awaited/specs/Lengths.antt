@@ -8,7 +8,7 @@ use Rattle.model.specs.Rules.{queued, queuedIn}
 use Rattle.model.specs.Memory.{walk, slotField, readQueue, sizes}
 use Rattle.words.specs.declared.Sizes.{Sizes}
 use Rattle.changes.specs.Queues.{Part, partAt}
-use Rattle.access.specs.Tables.{TableIn}
+use Rattle.access.specs.TableSizes.{TableIn}
 
 module _ (m : List ℕ) where
   -- the slots from i on by the queue links

@@ -10,7 +10,7 @@ ghost use Rattle.model.specs.Memory.{state};
 ghost use Rattle.model.specs.Calls.{on-state};
 ghost use Rattle.representation.specs.Sound.{Sound};
 ghost use Rattle.access.specs.Contract.{Does};
-ghost use Rattle.access.specs.Tables.{TableIn};
+ghost use Rattle.access.specs.TableSizes.{TableIn};
 ghost use Rattle.awaited.specs.Lengths.{queueFrom, ownerLength, retiredLength, OwnerAt};
 
 // ---- lanes

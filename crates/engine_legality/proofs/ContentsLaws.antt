@@ -19,7 +19,7 @@ use Rattle.laws.specs.Loops.{all-fails, all-on}
 use Rattle.words.specs.declared.Sizes.{Sizes}
 use Rattle.words.specs.Lent.{sizesOf, sizesIn, Lent}
 use Rattle.words.proofs.LentLaws.{few-fits}
-use Rattle.engine_legality.specs.Contents.{sameWord, sameContents}
+use Rattle.engine_legality.specs.SameContents.{sameWord, sameContents}
 
 -- ---- word by word: of the words from a on n are left
 

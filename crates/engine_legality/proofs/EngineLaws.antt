@@ -20,7 +20,7 @@ use Rattle.words.specs.Lent.{sizesOf, sizesIn}
 use Rattle.engine_legality.specs.LaneSentences.{laneRests, emptyFirst, laneFits, cabinetLanes, allLanes, cabinetFits, allCabinets, globalFits}
 use Rattle.engine_legality.specs.LaneSentences.{globalWordsFit}
 use Rattle.engine_legality.specs.WordSentences.{engineLegal}
-use Rattle.engine_legality.proofs.LaneLaws.{laneSentences, empty-queue, laneTest, lane-said, said-lane}
+use Rattle.engine_legality.proofs.LaneTests.{laneSentences, empty-queue, laneTest, lane-said, said-lane}
 
 -- ---- the lanes, cabinet by cabinet
 

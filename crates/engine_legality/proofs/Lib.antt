@@ -2,5 +2,5 @@
 -- the engine.
 mod LaneLoops
 pub mod ContentsLaws
-mod LaneLaws
+mod LaneTests
 pub mod EngineLaws

@@ -4,7 +4,7 @@ ghost use Prim.Native.Nat.{_≤_};
 ghost use lib.ListN.{length};
 ghost use Rattle.model.specs.Layout.{contentsLength};
 ghost use Rattle.model.specs.Legal.{contentsAgree};
-ghost use Rattle.engine_legality.specs.Contents.{sameContents};
+ghost use Rattle.engine_legality.specs.SameContents.{sameContents};
 
 // The first words of m are these contents.
 fn begins_with(m: &[u32], contents: &[u32]) -> bool

@@ -24,7 +24,7 @@ use Rattle.laws.specs.Counts.{count-append}
 use Rattle.words.specs.Links.{slotOrNone}
 use Rattle.slot_places.specs.Slots.{queuedFits}
 use Rattle.slot_places.specs.WalkSteps.{Step, check, slotsOf, several, queueCount, walks, chainSteps, linkSteps, queueSteps, laneSteps}
-use Rattle.slot_places.proofs.StepLaws.{slotsOf-append}
+use Rattle.slot_places.proofs.WalkStepLaws.{slotsOf-append}
 use Rattle.slot_places.proofs.Marked.{checks, Right, look, stop as ended}
 use Rattle.slot_places.proofs.Places.{slots-append, checks-both, both-check, right-walks, right-append, right-several, several-check, check-several, told-walks}
 use Rattle.legality.specs.Parts.{queuedSteps}

@@ -25,7 +25,7 @@ use Rattle.words.specs.Links.{slotOrNone}
 use Rattle.slot_places.specs.Slots.{productInRange, chainedFits, queuedFits}
 use Rattle.slot_places.specs.WalkSteps.{Step, Outcome, spoilt, painted, run, slotsOf, several, queueCount, chainSteps, linkSteps, queueSteps}
 use Rattle.slot_places.specs.WalkSteps.{laneSteps, unmarked, Counted, Ready, entersAll, Enters, Runs}
-use Rattle.slot_places.proofs.StepLaws.{going, run-append, unmarked-all, unmarked-none, unmarked-some}
+use Rattle.slot_places.proofs.WalkStepLaws.{going, run-append, unmarked-all, unmarked-none, unmarked-some}
 use Rattle.slot_places.proofs.Marked.{checks, marks-are, marks-most, marks-checked, Spoilt, failed, doubled, spoilt-why}
 use Rattle.slot_places.proofs.Places.{Told, checks-both, both-check, told-append, told-several, several-check, check-several, walks-begin, walks-told}
 use Rattle.slot_places.proofs.Places.{told-walks}

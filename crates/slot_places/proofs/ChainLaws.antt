@@ -13,8 +13,8 @@ use Rattle.distinct_codes.specs.Cells.{cellsOf, spread, codeAt, Held, held, mee
 use Rattle.distinct_codes.proofs.CellLaws.{meets-clash, meets-append}
 use Rattle.slot_places.specs.Slots.{chainedFits}
 use Rattle.slot_places.specs.WalkSteps.{Step, Outcome, met, run, slotsOf, several, chainSteps, Counted, Ready, entersAll, Enters, spoils, repeats, passes}
-use Rattle.slot_places.proofs.StepLaws.{going, run-append, slotsOf-append, several-on, several-done, Going, going-start, going-ends}
-use Rattle.slot_places.proofs.StepLaws.{going-astray, going-twice, going-next, going-unfit, going-left, going-on}
+use Rattle.slot_places.proofs.WalkStepLaws.{going, run-append, slotsOf-append, several-on, several-done, Going, going-start, going-ends}
+use Rattle.slot_places.proofs.WalkStepLaws.{going-astray, going-twice, going-next, going-unfit, going-left, going-on}
 
 module _ (m : List ℕ) (base slots : ℕ) (few : Bool) where
   abbrev enters : List ℕ → Held → Held

@@ -1,6 +1,6 @@
--- `StepLaws` for the marks and a walk on its way, `ChainLaws` and `QueueLaws` for the functions that walk and those that call several; `Marked` for
+-- `WalkStepLaws` for the marks and a walk on its way, `ChainLaws` and `QueueLaws` for the functions that walk and those that call several; `Marked` for
 -- what the marks say, `Places` for steps joined from parts.
-pub mod StepLaws
+pub mod WalkStepLaws
 pub mod ChainLaws
 pub mod QueueLaws
 pub mod Marked

@@ -17,7 +17,7 @@ use Rattle.laws.specs.Tests.{same, other, decide, and-true, and-intro, or-cases
 use Rattle.laws.specs.Counts.{count-append}
 use Rattle.words.specs.Links.{slotOrNone}
 use Rattle.slot_places.specs.WalkSteps.{Step, put, check, slotsOf, several, walks}
-use Rattle.slot_places.proofs.StepLaws.{slotsOf-append}
+use Rattle.slot_places.proofs.WalkStepLaws.{slotsOf-append}
 use Rattle.slot_places.proofs.Marked.{checks, Right, stop, mark, look}
 
 -- ---- two lists of steps, one after the other

@@ -14,8 +14,8 @@ use Rattle.model.specs.Memory.{at}
 use Rattle.laws.specs.Tests.{unlike}
 use Rattle.slot_places.specs.Slots.{queuedFits}
 use Rattle.slot_places.specs.WalkSteps.{Step, check, Outcome, met, run, slotsOf, several, linkSteps, queueSteps, Counted, Runs, Walks, spoils, passes}
-use Rattle.slot_places.proofs.StepLaws.{going, run-append, several-on, several-done, Going, going-start, going-ends, going-astray, going-twice}
-use Rattle.slot_places.proofs.StepLaws.{going-unfit, going-left, going-on}
+use Rattle.slot_places.proofs.WalkStepLaws.{going, run-append, several-on, several-done, Going, going-start, going-ends, going-astray, going-twice}
+use Rattle.slot_places.proofs.WalkStepLaws.{going-unfit, going-left, going-on}
 
 -- the last of a list, d where it has none
 unfoldable pub lastFrom : ℕ → List ℕ → ℕ

@@ -23,10 +23,10 @@ use Rattle.access.specs.declared.Answer.{Answer}
 use Rattle.access.specs.declared.Lane.{Lane}
 use Rattle.access.specs.Contract.{five, Does}
 use Rattle.access.specs.Lanes.{Named, LaneIn}
-use Rattle.access.specs.Tables.{TableIn}
+use Rattle.access.specs.TableSizes.{TableIn}
 use Rattle.access.proofs.Ways.{performs, passed, shown, wellFormed}
 use Rattle.access.proofs.LaneLaws.{lane-known}
-use Rattle.access.proofs.TableLaws.{table-of-lane}
+use Rattle.access.proofs.TableReads.{table-of-lane}
 use Rattle.updates.specs.UpdateStores.{FirstIn, handedFrom, Reclaimed}
 use Rattle.updates.proofs.Deletes.{appended-to}
 use Rattle.updates.proofs.Shown.{queue-shown, queue-first, queue-inside, first-in}

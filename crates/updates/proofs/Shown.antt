@@ -24,7 +24,7 @@ use Rattle.changes.proofs.OfQueues.QueueChanges.{empty-shown}
 use Rattle.changes.proofs.OfChains.ChainLinks.{old-inside}
 use Rattle.changes.proofs.OfChains.Find.{find-slot, slot-in-chain}
 use Rattle.changes.specs.Search.{searchWords}
-use Rattle.access.specs.Tables.{TableIn}
+use Rattle.access.specs.TableSizes.{TableIn}
 use Rattle.access.proofs.Ways.{shown, wellFormed, long}
 use Rattle.updates.specs.UpdateStores.{FirstIn}
 

@@ -15,7 +15,7 @@ ghost use Rattle.changes.specs.Queues.{endsAt};
 ghost use Rattle.changes.specs.Search.{searchWords};
 ghost use Rattle.access.specs.Contract.{Does};
 ghost use Rattle.access.specs.Lanes.{Named, LaneIn};
-ghost use Rattle.access.specs.Tables.{TableIn};
+ghost use Rattle.access.specs.TableSizes.{TableIn};
 ghost use Rattle.updates.specs.UpdateStores.{FirstIn, Leaves, Filled, handedFrom, Reclaimed};
 use access::causes;
 

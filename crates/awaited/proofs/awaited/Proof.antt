@@ -1,7 +1,7 @@
 -- Each of the four words is counted by one function, and no word of the memory is written.
 use native.Mathlib.Omega.{arith}
 use Rattle.access.proofs.Ways.{long}
-use Rattle.access.proofs.TableLaws.{table-read}
+use Rattle.access.proofs.TableReads.{table-read}
 use Rattle.awaited.proofs.OwnerLengths.{free-short}
 use Rattle.awaited.proofs.AwaitedAnswer.{answered}
 use borrow.Author.Needs.{needs}

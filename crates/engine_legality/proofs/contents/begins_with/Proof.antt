@@ -6,7 +6,7 @@ use borrow.Author.Needs.{needs}
 use Rattle.model.specs.Lists.{all, from}
 use Rattle.model.specs.Layout.{contentsLength}
 use Rattle.laws.specs.Loops.{all-end}
-use Rattle.engine_legality.specs.Contents.{sameWord, sameContents}
+use Rattle.engine_legality.specs.SameContents.{sameWord, sameContents}
 use Rattle.engine_legality.proofs.ContentsLaws.{same-fails, same-on}
 use Rattle.engine_legality.proofs.contents.begins_with.Statement.{statement}
 use Rattle.engine_legality.proofs.contents.begins_with.Tie as tie

@@ -7,7 +7,7 @@ use Rattle.words.specs.declared.Sizes.{Sizes}
 use Rattle.words.specs.Lent.{sizesOf, sizesIn, Lent}
 use Rattle.access.specs.declared.Lane.{Lane}
 use Rattle.access.specs.Lanes.{Named}
-use Rattle.access.specs.Tables.{TableIn}
+use Rattle.access.specs.TableSizes.{TableIn}
 use Rattle.access.proofs.LaneLaws.{lent}
 
 pub table-read : (m : List ℕ) → Sound m → (z : Sizes) → z ≡ sizesIn m → TableIn m z
