@@ -1,13 +1,14 @@
 -- Causes tested one after another: the number that the code answers is the first that applies. `refusals` is the set of laws by which `search` reads a
--- function's tests off a call's list of causes, whatever that list is: each step passes by the list's first cause, or stops there.
+-- function's tests off a call's list of causes, whatever that list is: each step passes by the list's first cause, or stops there. `entry-refusals` is the same for
+-- a call that tests the causes of an entry together.
 use Prim.Native.Nat.{ℕ, _≤_, _<_}
 use mathlib.Core.Path.{_≡_, refl, ap, sym, _∙_}
 use mathlib.Core.Bool.{Bool, true, false, not, cond}
 use mathlib.Core.List.{List, [], _∷_, _++_}
 use native.Mathlib.Omega.{arith}
 use Rattle.model.specs.State.{State}
-use Rattle.model.specs.Rules.{Cause, cause, firstOf, ofLane}
-use Rattle.representation.proofs.Causes.Passed.{Clear, clear}
+use Rattle.model.specs.Rules.{Cause, cause, firstOf, ofLane, ofEntry}
+use Rattle.representation.proofs.Causes.Passed.{Numbered, Clear, clear}
 
 -- ---- the first cause of a list, by the code's test b of it
 
@@ -33,7 +34,7 @@ pub none-left : 0 ≡ firstOf []
 unfolding firstOf
 none-left = refl
 
--- ---- the causes of a lane, tested together
+-- ---- some causes tested together, before the call's other ones
 
 -- the first of some refuses
 first-of-some : (cs ds : List Cause) (x : ℕ) → x ≡ firstOf cs → 0 < x → x ≡ firstOf (cs ++ ds)
@@ -51,13 +52,26 @@ unfolding firstOf
 skipped [] ds h = refl
 skipped (c ∷ cs) ds h = rw (h .0) (skipped cs ds (h .1))
 
+-- none does, and the others decide
+first-of-others : (cs ds : List Cause) (x : ℕ) → Numbered cs → x ≡ firstOf cs → (n : ℕ) → x ≤ 0 → n ≡ firstOf ds → n ≡ firstOf (cs ++ ds)
+first-of-others cs ds x k e n h q = let z : x ≡ 0 = omega arith in q ∙ sym (skipped cs ds (clear cs k (sym e ∙ z)))
+
+-- those of a lane
 module _ (s : State) (i : ℕ) (cs : List Cause) (x : ℕ) (e : x ≡ firstOf (ofLane s i [])) where
-  -- one of them refuses every call of the lane
   pub lane-stops : 0 < x → x ≡ firstOf (ofLane s i cs)
   lane-stops h = first-of-some (ofLane s i []) cs x e h
 
-  -- none does, and the call's other causes decide
   pub lane-goes-by : (n : ℕ) → x ≤ 0 → n ≡ firstOf cs → n ≡ firstOf (ofLane s i cs)
-  lane-goes-by n h q = let z : x ≡ 0 = omega arith in q ∙ sym (skipped (ofLane s i []) cs (clear (ofLane s i []) (omega arith) (sym e ∙ z)))
+  lane-goes-by = first-of-others (ofLane s i []) cs x (omega arith) e
+
+-- those of an entry of the office
+module _ (s : State) (i c d m : ℕ) (cs : List Cause) (x : ℕ) (e : x ≡ firstOf (ofEntry s i c d m [])) where
+  pub entry-stops : 0 < x → x ≡ firstOf (ofEntry s i c d m cs)
+  entry-stops h = first-of-some (ofEntry s i c d m []) cs x e h
+
+  pub entry-goes-by : (n : ℕ) → x ≤ 0 → n ≡ firstOf cs → n ≡ firstOf (ofEntry s i c d m cs)
+  entry-goes-by = first-of-others (ofEntry s i c d m []) cs x (omega arith) e
 
 pub ruleset refusals = (stops, goes-by, stops-not, goes-by-not, none-left, lane-stops, lane-goes-by)
+
+pub ruleset entry-refusals = (stops, goes-by, stops-not, goes-by-not, none-left, entry-stops, entry-goes-by)

@@ -113,10 +113,14 @@ module _ (s : State) where
   abbrev pub nothingDone : ℕ → Cause
   nothingDone i = cause 16 (isEmpty (laneOf i .queues .done) && isEmpty (s .engine .global .done))
 
+  -- the causes of every entry of the office: its lane's and 11, then the call's own
+  abbrev pub ofEntry : (lane code deposit material : ℕ) → List Cause → List Cause
+  ofEntry i c d m cs = ofLane i (outOfRange (wrongProduct c d m) ∷ cs)
+
   -- the causes that refuse a call, in the order of their tests
   unfoldable pub causes : Op → List Cause
-  causes (add i c d m) = ofLane i (outOfRange (wrongProduct c d m) ∷ codePresent c ∷ noFreeSlot ∷ [])
-  causes (replace i c d m) = ofLane i (outOfRange (wrongProduct c d m) ∷ codeMissing c ∷ noFreeSlot ∷ [])
+  causes (add i c d m) = ofEntry i c d m (codePresent c ∷ noFreeSlot ∷ [])
+  causes (replace i c d m) = ofEntry i c d m (codeMissing c ∷ noFreeSlot ∷ [])
   causes (delete i c) = ofLane i (outOfRange (wrongCode c) ∷ codeMissing c ∷ [])
   causes (start i c) = ofLane i (noSection i ∷ lookupRunning i ∷ outOfRange (wrongCode c) ∷ [])
   causes (pass i k) = ofLane i (sectionOpen i ∷ outOfRange (wrongKind k) ∷ [])

@@ -1,11 +1,12 @@
 // The calls of an updater on a legal memory: add, replace, delete and hand-back. Each answers five words and leaves the memory as the
 // model's rules say, a refused one every word of it. Every address is read before the first store.
 ghost use mathlib.Core.Path.{_≡_};
+ghost use mathlib.Core.List.{[]};
 ghost use Prim.Native.Nat.{_<_};
 ghost use Rattle.model.specs.Lists.{isEmpty};
 ghost use Rattle.model.specs.Layout.{freeAt};
 ghost use Rattle.model.specs.Table.{present};
-ghost use Rattle.model.specs.Rules.{wrongProduct, nothingDone, refusal, add as adding, replace as replacing, delete as deleting, hand-back};
+ghost use Rattle.model.specs.Rules.{wrongProduct, firstOf, ofEntry, nothingDone, refusal, add as adding, replace as replacing, delete as deleting, hand-back};
 ghost use Rattle.model.specs.Memory.{sizes, state};
 ghost use Rattle.model.specs.Calls.{on-state};
 ghost use Rattle.words.specs.Lent.{sizesOf, Lent};
@@ -42,13 +43,6 @@ fn is_present(m: &[u32], z: words::Sizes, code: u64) -> bool
 {
     let found = search(m, z, code);
     found.slot != words::NONE
-}
-
-// Whether a product is out of range.
-fn wrong_product(code: u64, deposit: u32, material: u32) -> bool
-    ensures { λ r. ⌜ r ≡ wrongProduct code deposit material ⌝ }
-{
-    ((code > words::MAX_CODE) | (deposit > words::MAX_DEPOSIT)) | (material > words::MAX_MATERIAL)
 }
 
 // Whether no slot is free.
@@ -106,6 +100,30 @@ pub fn delete(m: &mut [u32], lane: access::Lane, code: u64) -> access::Answer
     access::accepted(old.slot, 0, 0, 0)
 }
 
+// ---- entries of the office
+
+// Whether a product is out of range.
+fn wrong_product(code: u64, deposit: u32, material: u32) -> bool
+    ensures { λ r. ⌜ r ≡ wrongProduct code deposit material ⌝ }
+{
+    ((code > words::MAX_CODE) | (deposit > words::MAX_DEPOSIT)) | (material > words::MAX_MATERIAL)
+}
+
+// The causes of every entry of the office: the number of the first that applies, 0 where none does.
+fn entry_refusal(m: &[u32], lane: access::Lane, code: u64, deposit: u32, material: u32) -> u32
+    requires { ⌜ Named (now m) lane ⌝ }
+    ensures { λ r. ⌜ r ≡ firstOf (ofEntry (state (now (m .entry))) (lane .number) code deposit material []) ⌝ }
+{
+    let n = access::lane_refusal(m, lane);
+    if n > 0 {
+        return n;
+    }
+    if wrong_product(code, deposit, material) {
+        return causes::OUT_OF_RANGE;
+    }
+    0
+}
+
 // ---- add
 
 // The number of the cause that refuses it, 0 where none does.
@@ -113,14 +131,11 @@ fn add_refusal(m: &[u32], lane: access::Lane, code: u64, deposit: u32, material:
     requires { ⌜ Named (now m) lane ⌝ }
     ensures { λ r. ⌜ r ≡ refusal (state (now (m .entry))) (adding (lane .number) code deposit material) ⌝ }
 {
-    let n = access::lane_refusal(m, lane);
+    let n = entry_refusal(m, lane, code, deposit, material);
     if n > 0 {
         return n;
     }
     let z = lane.sizes;
-    if wrong_product(code, deposit, material) {
-        return causes::OUT_OF_RANGE;
-    }
     if is_present(m, z, code) {
         return causes::CODE_PRESENT;
     }
@@ -169,14 +184,11 @@ fn replace_refusal(m: &[u32], lane: access::Lane, code: u64, deposit: u32, mater
     requires { ⌜ Named (now m) lane ⌝ }
     ensures { λ r. ⌜ r ≡ refusal (state (now (m .entry))) (replacing (lane .number) code deposit material) ⌝ }
 {
-    let n = access::lane_refusal(m, lane);
+    let n = entry_refusal(m, lane, code, deposit, material);
     if n > 0 {
         return n;
     }
     let z = lane.sizes;
-    if wrong_product(code, deposit, material) {
-        return causes::OUT_OF_RANGE;
-    }
     if !is_present(m, z, code) {
         return causes::CODE_MISSING;
     }
