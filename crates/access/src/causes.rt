@@ -32,3 +32,5 @@ pub const NO_FREE_SLOT: u32 = 14;
 pub const LAST_LANE: u32 = 15;
 
 pub const NOTHING_DONE: u32 = 16;
+
+pub const WRONG_DIGIT: u32 = 17;

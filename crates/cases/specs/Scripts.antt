@@ -1,12 +1,13 @@
 -- Tables of scripts, and how they are run: by the definitions of `model`, through legality, reading and writing at every call.
 use Prim.Native.Nat.{ℕ}
 use mathlib.Core.Bool.{Bool}
-use mathlib.Core.List.{List, [], _∷_, map}
-use lib.ListN.{replicate}
+use mathlib.Core.List.{List, [], _∷_, _++_, map}
+use lib.ListN.{replicate, set}
 use Rattle.model.specs.Word.{later}
 use Rattle.model.specs.Lists.{update, isEmpty, any, all, tail, concat, every, concatMap, from, first, last, count}
 use Rattle.model.specs.Lists.{member, same, distinct, successor, successorIn, without, swapped, bit, mask}
 use Rattle.model.specs.State.{isRunning, isHeld}
+use Rattle.model.specs.CheckDigit.{digits, weighed, rightDigits, rightCheckDigit}
 use Rattle.model.specs.Engine.{started, ended, released, counted, settled, ready, target, requested}
 use Rattle.model.specs.Engine.{advancedLane, advancedGlobal, differs, sampled, clocked, wentOff}
 use Rattle.model.specs.Table.{slotIn, added, replaced, deleted, reclaimed}
@@ -16,7 +17,7 @@ use Rattle.model.specs.Memory.{globalWords, words, walk, readChains, readLane, 
 use Rattle.model.specs.Legal.{sizesFit, contentsAgree, flagsInRange, masksInRange, linksInRange, fieldsInRange, standsOnce, lastsAgree, onTheirChains}
 use Rattle.model.specs.Legal.{noCodeTwice, snapshotsAtRest, lookupsAtRest, generationsAtRest, queueLinksAtRest, offLanes, lookupsInSections}
 use Rattle.model.specs.Legal.{snapshotsPending, cabinetBits, freeBlank, largestAgrees, laneGenerations, globalGeneration, legal}
-use Rattle.model.specs.Calls.{Call, set-up, on-state, refusalOf, replyOf, leftOf, reply, left, replies}
+use Rattle.model.specs.Calls.{Call, set-up, on-state, refusalOf, replyOf, leftOf, reply, left, replies, leftAll}
 
 -- the five words of an answer
 abbrev pub fiveWords : Answer → List ℕ
@@ -27,6 +28,7 @@ unfoldable pub answered : List ℕ → List Call → List (List ℕ)
 unfolding later
     update isEmpty any all tail concat every concatMap from first last count member same distinct successor successorIn without swapped bit mask
     isRunning isHeld
+    digits weighed rightDigits rightCheckDigit
     started ended released counted settled ready target requested advancedLane advancedGlobal differs sampled clocked wentOff
     slotIn added replaced deleted reclaimed
     firstOf causes outcomeAnswer outcome continued performed pendingFrom queuedIn result fresh
@@ -75,9 +77,11 @@ callOf (line k s a b c d) = k
 abbrev pub outputOf : Line → List ℕ
 outputOf (line k s a b c d) = s ∷ a ∷ b ∷ c ∷ d ∷ []
 
--- a row of a table. `script`: the number of words lent, and the lines. `order`: whether generation a is later than b
+-- a row of a table. `script`: the number of words lent, and the lines. `poked`: the same, with a word put at an address between the first lines and the
+-- others. `order`: whether generation a is later than b
 pub data Row : Type 0 where
   script : (lent : ℕ) (lines : List Line) → Row
+  poked : (lent : ℕ) (lines : List Line) (address word : ℕ) (others : List Line) → Row
   order : (a b : ℕ) (isLater : Bool) → Row
 
 -- a truth as a line of output
@@ -87,10 +91,14 @@ verdict b = (bit b ∷ []) ∷ []
 -- what a row must give
 unfoldable pub expected : Row → List (List ℕ)
 expected (script n ls) = map outputOf ls
+expected (poked n ls a w ks) = map outputOf (ls ++ ks)
 expected (order a b t) = verdict t
 
 -- what it gives
 unfoldable pub run : Row → List (List ℕ)
-unfolding answered
+unfolding answered leftAll
 run (script n ls) = answered (lentWords n) (map callOf ls)
+run (poked n ls a w ks) =
+    let cs = map callOf ls in
+    answered (lentWords n) cs ++ answered (set (leftAll (lentWords n) cs) a w) (map callOf ks)
 run (order a b t) = verdict (later a b)

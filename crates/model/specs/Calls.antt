@@ -23,7 +23,7 @@ abbrev pub stored : State → List ℕ → List ℕ
 stored s m = words s ++ drop (total (s .sizes)) m
 
 module _ (m : List ℕ) where
-  -- the number of the cause that refuses a call on m, the lowest where several apply; 0 where none does
+  -- the number of the cause that refuses a call on m, the first of its list where several apply; 0 where none does
   unfoldable pub refusalOf : Call → ℕ
   refusalOf (set-up c p n) = firstOf (cause 1 (not (sizesFit (sized c p n))) ∷ cause 2 (ltb (length m) (total (sized c p n))) ∷ [])
   refusalOf (on-state k) = firstOf (cause 3 (not (legal m)) ∷ causes (state m) k)

@@ -1,5 +1,5 @@
 -- The thirteen calls on a state: the causes that refuse one, in the order of their tests, its answer, and the state after it (document 01, "The
--- table" and "Causes").
+-- table" and "Causes"; document 02, request 1).
 use Prim.Native.Nat.{ℕ, zero, suc, _+_}
 use mathlib.Core.Bool.{Bool, true, false, not, cond, _&&_, _||_}
 use mathlib.Core.List.{List, [], _∷_, _++_}
@@ -9,6 +9,7 @@ use Rattle.model.specs.Word.{none}
 use Rattle.model.specs.Lists.{isEmpty, any, first, tail, from}
 use Rattle.model.specs.State.{Sizes, laneCount, Lookup, idle, running, isRunning, Queues, Lane, Engine, Product, Table, State}
 use Rattle.model.specs.Layout.{maxCode, maxDeposit, maxMaterial, kinds, chainCount}
+use Rattle.model.specs.CheckDigit.{rightCheckDigit}
 use Rattle.model.specs.Engine.{noQueues, freshLane, laneAt, setQueues, setNext, setDone, setOnline, setReading}
 use Rattle.model.specs.Engine.{setLookup, atLane, withGlobal, runs, counted, clocked, wentOff}
 use Rattle.model.specs.Table.{blank, product, productAt, chainOf, slotOf, present, linkOf, added, replaced, deleted, reclaimed}
@@ -97,6 +98,10 @@ module _ (s : State) where
   abbrev pub outOfRange : Bool → Cause
   outOfRange b = cause 11 b
 
+  -- the check digit is wrong
+  abbrev pub wrongDigit : ℕ → Cause
+  wrongDigit c = cause 17 (not (rightCheckDigit c))
+
   abbrev pub codePresent : ℕ → Cause
   codePresent c = cause 12 (present (s .table) c)
 
@@ -113,9 +118,9 @@ module _ (s : State) where
   abbrev pub nothingDone : ℕ → Cause
   nothingDone i = cause 16 (isEmpty (laneOf i .queues .done) && isEmpty (s .engine .global .done))
 
-  -- the causes of every entry of the office: its lane's and 11, then the call's own
+  -- the causes of every entry of the office: its lane's, 11 and directly after it 17, then the call's own
   abbrev pub ofEntry : (lane code deposit material : ℕ) → List Cause → List Cause
-  ofEntry i c d m cs = ofLane i (outOfRange (wrongProduct c d m) ∷ cs)
+  ofEntry i c d m cs = ofLane i (outOfRange (wrongProduct c d m) ∷ wrongDigit c ∷ cs)
 
   -- the causes that refuse a call, in the order of their tests
   unfoldable pub causes : Op → List Cause

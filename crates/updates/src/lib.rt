@@ -121,6 +121,9 @@ fn entry_refusal(m: &[u32], lane: access::Lane, code: u64, deposit: u32, materia
     if wrong_product(code, deposit, material) {
         return causes::OUT_OF_RANGE;
     }
+    if !check_digits::is_right(code) {
+        return causes::WRONG_DIGIT;
+    }
     0
 }
 

@@ -9,6 +9,7 @@ use lib.Dec.{leb}
 use borrow.Author.Tests.{leb-false, not-false}
 use Rattle.model.specs.Lists.{isEmpty, any}
 use Rattle.model.specs.State.{State, laneCount, isRunning}
+use Rattle.model.specs.CheckDigit.{rightCheckDigit}
 use Rattle.model.specs.Engine.{setOnline, atLane}
 use Rattle.model.specs.Table.{present}
 use Rattle.model.specs.Rules.{Op, add, replace, delete, begin, end, start, step, pass, clock, on, off, hand-back, awaited}
@@ -23,12 +24,14 @@ pub record OnLane (s : State) (i : ℕ) : Type 0 where
 pub record AddAccepted (s : State) (i c d m : ℕ) : Type 0 where
   pub lane : OnLane s i
   pub inRange : wrongProduct c d m ≡ false
+  pub digit : rightCheckDigit c ≡ true
   pub missing : present (s .table) c ≡ false
   pub free : isEmpty (s .table .free) ≡ false
 
 pub record ReplaceAccepted (s : State) (i c d m : ℕ) : Type 0 where
   pub lane : OnLane s i
   pub inRange : wrongProduct c d m ≡ false
+  pub digit : rightCheckDigit c ≡ true
   pub present : present (s .table) c ≡ true
   pub free : isEmpty (s .table .free) ≡ false
 
@@ -100,11 +103,11 @@ module _ (s : State) where
   pub accepts : (k : Op) → refusal s k ≡ 0 → Accepted k
   unfolding causes
   accepts (add i c d m) h =
-      let (k, (o, (r, (p, (f, _))))) = clear (causes s (add i c d m)) (omega arith) h in
-      record { lane = on-lane i k o; inRange = r; missing = p; free = f }
+      let (k, (o, (r, (g, (p, (f, _)))))) = clear (causes s (add i c d m)) (omega arith) h in
+      record { lane = on-lane i k o; inRange = r; digit = not-false (rightCheckDigit c) g; missing = p; free = f }
   accepts (replace i c d m) h =
-      let (k, (o, (r, (p, (f, _))))) = clear (causes s (replace i c d m)) (omega arith) h in
-      record { lane = on-lane i k o; inRange = r; present = not-false (present (s .table) c) p; free = f }
+      let (k, (o, (r, (g, (p, (f, _)))))) = clear (causes s (replace i c d m)) (omega arith) h in
+      record { lane = on-lane i k o; inRange = r; digit = not-false (rightCheckDigit c) g; present = not-false (present (s .table) c) p; free = f }
   accepts (delete i c) h =
       let (k, (o, (r, (p, _)))) = clear (causes s (delete i c)) (omega arith) h in
       record { lane = on-lane i k o; inRange = r; present = not-false (present (s .table) c) p }

@@ -1,0 +1,209 @@
+-- What a right check digit is worth to an office that types codes. `mistyped-wrong`: one wrong digit is always caught. `exchanged-caught`: two neighbouring
+-- digits exchanged are caught unless they differ by 5. Both over every code and place; shown for digits of any number, and then of codes.
+use Prim.Native.Nat.{ℕ, suc, _+_, _*_, _/_, _%_, _≤_, _<_}
+use mathlib.Core.Path.{_≡_, refl, ap, sym, _∙_}
+use mathlib.Core.Logic.{_⊎_, inl, inr, _≢_}
+use mathlib.Core.Bool.{Bool, true, false, _||_}
+use mathlib.Core.List.{List}
+use native.Mathlib.Omega.{arith}
+use native.Mathlib.Nat.{add-mul-mod-self-left}
+use lib.ListN.{length, getD, set, length-set}
+use lib.Seq.{getD-set-other}
+use lib.Dec.{eqb}
+use borrow.Author.Tests.{eq-eqb, ne-eqb, eqb-true, eqb-false}
+use Rattle.model.specs.Layout.{maxCode}
+use Rattle.model.specs.CheckDigit.{ten, codeDigits, digits, firstWeight, secondWeight, weighed, rightDigits, rightCheckDigit}
+use Rattle.laws.specs.Tests.{iff-eq, or-cases, or-else-intro}
+use Rattle.check_digits.proofs.Digits.{Decimal, decimal-set, digits-length, digits-decimal, number, number-digits, digits-number, number-range}
+use Rattle.check_digits.proofs.Weights.{weightAt, weighed-set, Weights, weights-at, codeSum, right-weighed}
+
+-- ---- digits of any number, and weights 1, 3 or 3, 1
+
+-- two numbers that differ by a multiple of m leave the same rest
+same-rest : (m x q y r : ℕ) → x + m * q ≡ y + m * r → x % m ≡ y % m
+same-rest m x q y r e = sym (add-mul-mod-self-left x m q) ∙ ap (λ (n : ℕ). n % m) e ∙ add-mul-mod-self-left y m r
+
+-- digits whose sum is a multiple of ten
+abbrev pub Tens : ℕ → ℕ → List ℕ → Type 0
+Tens w v ds = weighed w v ds % ten ≡ 0
+
+module _ (w v : ℕ) (weights : Weights w v) (ds : List ℕ) (h : Decimal ds) (right : Tens w v ds) where
+  -- one digit is another
+  pub other-digit : (p d : ℕ) → p < length ds → d < ten → d ≢ getD ds p 0 → Tens w v (set ds p d) → ⊥
+  other-digit p d k small other again = go (weights-at w v weights p)
+    where
+      change : weighed w v (set ds p d) + weightAt w v p * getD ds p 0 ≡ weighed w v ds + weightAt w v p * d
+      change = weighed-set w v ds p d k
+
+      x : ℕ
+      x = getD ds p 0
+
+      was : x < ten
+      was = h p
+
+      -- the tens of both sums
+      s : ℕ
+      s = weighed w v ds / ten
+
+      t : ℕ
+      t = weighed w v (set ds p d) / ten
+
+      go : Weights (weightAt w v p) (weightAt w v (suc p)) → ⊥
+      go (inl (e, _)) =
+          let sums = rw e at change in
+          other (omega (arith, was, same-rest ten d s x t (omega arith)))
+      -- seven times: 3 × 7 is 1 where tens do not count
+      go (inr (e, _)) =
+          let sums = rw e at change in
+          other (omega (arith, was, same-rest ten d (7 * s + 2 * d) x (7 * t + 2 * x) (omega arith)))
+
+-- two neighbours, at places p and p + 1, exchanged
+abbrev pub exchange : List ℕ → ℕ → List ℕ
+exchange ds p = set (set ds p (getD ds (suc p) 0)) (suc p) (getD ds p 0)
+
+-- two digits differ by 5
+abbrev pub fiveApart : ℕ → ℕ → Bool
+fiveApart a b = eqb (a + 5) b || eqb (b + 5) a
+
+-- two digits are equal, or they differ by 5
+abbrev pub equalOrFiveApart : ℕ → ℕ → Bool
+equalOrFiveApart a b = eqb a b || fiveApart a b
+
+-- two digits that leave the same rest by 5
+five-more : (a b : ℕ) → a < ten → b < ten → a % 5 ≡ b % 5 → (a ≡ b → ⊥) → (a + 5 ≡ b → ⊥) → b + 5 ≡ a
+five-more a b ka kb e f g =
+    let p : a / 5 ≤ 1 = omega arith in
+    let q : b / 5 ≤ 1 = omega arith in
+    omega arith
+
+five-apart : (s t a b : ℕ) → s % ten ≡ 0 → a < ten → b < ten → (t + 2 * b ≡ s + 2 * a) ⊎ (t + 2 * a ≡ s + 2 * b)
+    → eqb (t % ten) 0 ≡ equalOrFiveApart a b
+five-apart s t a b h ka kb e = iff-eq (eqb (t % ten) 0) (equalOrFiveApart a b) to from
+  where
+    apart : (t + 2 * b ≡ s + 2 * a) ⊎ (t + 2 * a ≡ s + 2 * b) → t % ten ≡ 0 → (a ≡ b → ⊥) → (a + 5 ≡ b → ⊥) → b + 5 ≡ a
+    apart (inl e) z f g = five-more a b ka kb (sym (same-rest 5 b (t / ten) a (s / ten) (omega arith))) f g
+    apart (inr e) z f g = five-more a b ka kb (same-rest 5 a (t / ten) b (s / ten) (omega arith)) f g
+
+    to : eqb (t % ten) 0 ≡ true → equalOrFiveApart a b ≡ true
+    to q =
+        or-else-intro (eqb a b) (fiveApart a b) (λ f. or-else-intro (eqb (a + 5) b) (eqb (b + 5) a) (λ g. eq-eqb (b + 5) a
+        (apart e (eqb-true (t % ten) 0 q) (eqb-false a b f) (eqb-false (a + 5) b g))))
+
+    again : (t + 2 * b ≡ s + 2 * a) ⊎ (t + 2 * a ≡ s + 2 * b) → (2 * a) % ten ≡ (2 * b) % ten → t % ten ≡ 0
+    again (inl e) z = same-rest ten t (2 * b / ten) 0 (s / ten + 2 * a / ten) (omega arith)
+    again (inr e) z = same-rest ten t (2 * a / ten) 0 (s / ten + 2 * b / ten) (omega arith)
+
+    twice : equalOrFiveApart a b ≡ true → (2 * a) % ten ≡ (2 * b) % ten
+    twice q =
+        or-cases (eqb a b) (fiveApart a b) q (λ f. ap (λ (x : ℕ). (2 * x) % ten) (eqb-true a b f))
+        (λ g. or-cases (eqb (a + 5) b) (eqb (b + 5) a) g (λ f. let f = eqb-true (a + 5) b f in omega arith) (λ f. let f = eqb-true (b + 5) a f in omega arith))
+
+    from : equalOrFiveApart a b ≡ true → eqb (t % ten) 0 ≡ true
+    from q = eq-eqb (t % ten) 0 (again e (twice q))
+
+module _ (w v : ℕ) (weights : Weights w v) (ds : List ℕ) (h : Decimal ds) (right : Tens w v ds) (p : ℕ) (k : suc p < length ds) where
+  -- two neighbours are exchanged
+  pub exchange-right : eqb (weighed w v (exchange ds p) % ten) 0 ≡ equalOrFiveApart (getD ds p 0) (getD ds (suc p) 0)
+  exchange-right = five-apart (weighed w v ds) (weighed w v (exchange ds p)) a b right (h p) (h (suc p)) (go (weights-at w v weights p))
+    where
+      a : ℕ
+      a = getD ds p 0
+
+      b : ℕ
+      b = getD ds (suc p) 0
+
+      first : weighed w v (set ds p b) + weightAt w v p * a ≡ weighed w v ds + weightAt w v p * b
+      first = weighed-set w v ds p b (omega arith)
+
+      second : weighed w v (exchange ds p) + weightAt w v (suc p) * b ≡ weighed w v (set ds p b) + weightAt w v (suc p) * a
+      second =
+          let inside : suc p < length (set ds p b) = omega (arith, length-set ds p b) in
+          rw (getD-set-other ds p (suc p) b 0 (λ e. absurd (omega arith))) at (weighed-set w v (set ds p b) (suc p) a inside)
+
+      go : Weights (weightAt w v p) (weightAt w v (suc p))
+          → (weighed w v (exchange ds p) + 2 * b ≡ weighed w v ds + 2 * a) ⊎ (weighed w v (exchange ds p) + 2 * a ≡ weighed w v ds + 2 * b)
+      go (inl (e, f)) = inl (omega (arith, rw e at first, rw f at second))
+      go (inr (e, f)) = inr (omega (arith, rw e at first, rw f at second))
+
+-- ---- codes
+
+-- codes in range are those of thirteen digits
+pub code-digits : (c : ℕ) → c ≤ maxCode → number (digits codeDigits c) ≡ c
+code-digits c h = number-digits codeDigits c (omega arith)
+
+-- the digit of a code at place p, counted from the left
+abbrev pub digitAt : ℕ → ℕ → ℕ
+digitAt c p = getD (digits codeDigits c) p 0
+
+-- a code with the digit d at place p
+abbrev pub mistyped : ℕ → ℕ → ℕ → ℕ
+mistyped c p d = number (set (digits codeDigits c) p d)
+
+-- a code with the digits at places p and p + 1 exchanged
+abbrev pub exchanged : ℕ → ℕ → ℕ
+exchanged c p = number (exchange (digits codeDigits c) p)
+
+module _ (ds : List ℕ) (e : length ds ≡ codeDigits) (h : Decimal ds) where
+  -- the sum decides
+  right-number : rightCheckDigit (number ds) ≡ eqb (codeSum ds % ten) 0
+  unfolding rightCheckDigit
+  right-number = ap rightDigits (digits-number codeDigits ds e h) ∙ right-weighed ds e
+
+  in-range : number ds ≤ maxCode
+  in-range = omega (arith, rw e at (number-range ds h))
+
+-- the weights of a code
+weights : Weights firstWeight secondWeight
+weights = inl (refl, refl)
+
+module _ (c : ℕ) where
+  abbrev ds : List ℕ
+  ds = digits codeDigits c
+
+  length-ds : length ds ≡ codeDigits
+  length-ds = digits-length codeDigits c
+
+  decimal : Decimal ds
+  decimal = digits-decimal codeDigits c
+
+  tens : rightCheckDigit c ≡ true → Tens firstWeight secondWeight ds
+  unfolding rightCheckDigit
+  tens right = eqb-true (codeSum ds % ten) 0 (sym (right-weighed ds length-ds) ∙ right)
+
+  module _ (p d : ℕ) (place : p < codeDigits) (digit : d < ten) where
+    pub mistyped-range : mistyped c p d ≤ maxCode
+    mistyped-range = in-range (set ds p d) (length-set ds p d ∙ length-ds) (decimal-set ds p d decimal digit)
+
+    -- one wrong digit is always caught
+    pub mistyped-wrong : rightCheckDigit c ≡ true → d ≢ digitAt c p → rightCheckDigit (mistyped c p d) ≡ false
+    mistyped-wrong right other =
+        right-number (set ds p d) (length-set ds p d ∙ length-ds) (decimal-set ds p d decimal digit)
+        ∙ ne-eqb (codeSum (set ds p d) % ten) 0
+        (other-digit firstWeight secondWeight weights ds decimal (tens right) p d (omega (arith, length-ds)) digit other)
+
+  module _ (p : ℕ) (place : suc p < codeDigits) where
+    abbrev a : ℕ
+    a = digitAt c p
+
+    abbrev b : ℕ
+    b = digitAt c (suc p)
+
+    exchange-length : length (exchange ds p) ≡ codeDigits
+    exchange-length = length-set (set ds p b) (suc p) a ∙ length-set ds p b ∙ length-ds
+
+    exchange-decimal : Decimal (exchange ds p)
+    exchange-decimal = decimal-set (set ds p b) (suc p) a (decimal-set ds p b decimal (decimal (suc p))) (decimal p)
+
+    pub exchanged-range : exchanged c p ≤ maxCode
+    exchanged-range = in-range (exchange ds p) exchange-length exchange-decimal
+
+    -- two neighbours exchanged pass exactly where they are equal or differ by 5
+    pub exchanged-right : rightCheckDigit c ≡ true → rightCheckDigit (exchanged c p) ≡ equalOrFiveApart (digitAt c p) (digitAt c (suc p))
+    exchanged-right right =
+        right-number (exchange ds p) exchange-length exchange-decimal
+        ∙ exchange-right firstWeight secondWeight weights ds decimal (tens right) p (omega (arith, length-ds))
+
+    -- two that are not equal are caught unless they differ by 5
+    pub exchanged-caught : rightCheckDigit c ≡ true → digitAt c p ≢ digitAt c (suc p)
+        → rightCheckDigit (exchanged c p) ≡ fiveApart (digitAt c p) (digitAt c (suc p))
+    exchanged-caught right other = exchanged-right right ∙ ap (λ (x : Bool). x || fiveApart a b) (ne-eqb a b other)
