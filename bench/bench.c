@@ -22,16 +22,22 @@
 
 enum { WORDS = 7456, ANSWER = 5, ROUNDS = 200, ROUND_NANOSECONDS = 200000, CHANGES = 64, CODES = 1025 };
 
-/* How the slots of a table are used; the last ones have codes that the check's spreading function puts into one cell. */
-enum use { EVEN, ONE_CHAIN, HALF_RETIRED, COLLIDING, ONE_CELL_64, ONE_CELL_20, ONE_CELL_16, ONE_CELL_1, USES };
+/*
+ * How the slots of a table are used; the last ones have codes that the check's spreading function puts into one cell,
+ * and older records with wrong check digits, the worst codes found.
+ */
+enum use { EVEN, ONE_CHAIN, HALF_RETIRED, COLLIDING, ONE_CELL_64, ONE_CELL_20, ONE_CELL_16, ONE_CELL_1, OLDER, USES };
 
 static const char *const use_names[USES] = {
 	"chains even", "one chain", "half retired", "codes collide",
-	"one cell, 64 chains", "one cell, 20 chains", "one cell, 16 chains", "one cell, one chain"
+	"one cell, 64 chains", "one cell, 20 chains", "one cell, 16 chains", "one cell, one chain",
+	"older records, 16 cells"
 };
 
-/* On how many chains the codes of one cell stand. */
-static const uint32_t use_chains[USES] = { [ONE_CELL_64] = 64, [ONE_CELL_20] = 20, [ONE_CELL_16] = 16, [ONE_CELL_1] = 1 };
+/* On how many chains the codes of few cells stand. */
+static const uint32_t use_chains[USES] = {
+	[ONE_CELL_64] = 64, [ONE_CELL_20] = 20, [ONE_CELL_16] = 16, [ONE_CELL_1] = 1, [OLDER] = 1
+};
 
 static uint32_t memory[WORDS];
 static uint32_t answer[ANSWER];
@@ -91,7 +97,21 @@ static uint64_t code_of_cell(const uint64_t *codes, uint32_t n, uint32_t chain)
 	}
 }
 
-/* Code @n of the table, with a right check digit: of all in their order, all of one chain, or all of one cell. */
+/* The next code of an older record: its low 25 bits are 0, and it is in one of sixteen cells. The check digits are as they come. */
+static uint64_t code_of_older(void)
+{
+	enum { LOW_BITS = 25, CELL = 5, CELLS_APART = 256 };
+	static uint64_t code;
+	uint32_t cell;
+
+	do {
+		code += UINT64_C(1) << LOW_BITS;
+		cell = ((uint32_t)code * LOW_FACTOR + (uint32_t)(code >> 32) * HIGH_FACTOR) >> 20;
+	} while (cell % CELLS_APART != CELL);
+	return code;
+}
+
+/* Code @n of the table: of all in their order, all of one chain, or all of few cells; with a right check digit, but for older records. */
 static uint64_t code_of(enum use use, uint32_t n)
 {
 	static uint64_t codes[USES][CODES]; /* each is found once; 0 is not yet found, or itself */
@@ -112,13 +132,30 @@ static uint64_t code_of(enum use use, uint32_t n)
 	case ONE_CELL_1:
 		*code = code_of_cell(codes[use], n, n % use_chains[use]);
 		break;
+	case OLDER:
+		*code = code_of_older();
+		break;
 	default:
 		*code = CODE_OF_CHAIN(n % CHAINS, n / CHAINS);
 	}
 	return *code;
 }
 
-/* A table of these sizes, with records in its first @used slots. */
+/* The records become older ones: with wrong check digits they are not entered, so their codes are written over others of the chain. */
+static void age(uint32_t used)
+{
+	uint32_t n;
+
+	for (n = 0; n < used; n++) {
+		uint64_t code = code_of(OLDER, n);
+		uint32_t *slot = memory + total - SLOT_WORDS * (used - n);
+
+		slot[SLOT_CODE + CODE_LOW] = (uint32_t)code;
+		slot[SLOT_CODE + CODE_HIGH] = (uint32_t)(code >> 32);
+	}
+}
+
+/* A table of these sizes, with records in its first @used slots; of older records in all. */
 static void fill(uint32_t cabinets, uint32_t lanes, uint32_t slots, uint32_t used, enum use use)
 {
 	uint32_t n;
@@ -127,7 +164,9 @@ static void fill(uint32_t cabinets, uint32_t lanes, uint32_t slots, uint32_t use
 	must(ref_setup(LENT, cabinets, lanes, slots));
 	total = answer[1];
 	for (n = 0; n < used; n++)
-		must(ref_add(LENT, n % (cabinets * lanes), code_of(use, n), n, n % 8));
+		must(ref_add(LENT, n % (cabinets * lanes), code_of(use == OLDER ? ONE_CHAIN : use, n), n, n % 8));
+	if (use == OLDER)
+		age(used);
 }
 
 /* All slots used, and lane 0's lookup running. */

@@ -138,6 +138,7 @@ def main(path):
         table("add", OFFICE, *product)
     print_try(table, "add", OFFICE, 17, 8, GLASS)
     print_try(table, "replace", OFFICE, 55, 25, PET)
+    print_try(table, "add", OFFICE, 5901234123475, 25, PET)  # 5901234123457, two digits exchanged
     print_products(table, OFFICE, CODES)
 
     print("A customer's lookup of 17 starts. Meanwhile the office raises its deposit and deletes 31.")

@@ -1,6 +1,6 @@
 /*
  * header_c.c - product_table.h as C: every function with its type, every number of
- * document 01. Compiled and not run.
+ * documents 01 and 02. Compiled and not run.
  */
 #include "product_table.h"
 
@@ -32,7 +32,7 @@ _Static_assert(PT_OK == 0 && PT_BAD_SIZE == 1 && PT_SHORT_MEMORY == 2 && PT_NOT_
 	PT_NO_LANE == 4 && PT_OFFLINE == 5 && PT_ONLINE == 6 && PT_IN_SECTION == 7 &&
 	PT_NO_SECTION == 8 && PT_IN_LOOKUP == 9 && PT_NO_LOOKUP == 10 && PT_OUT_OF_RANGE == 11 &&
 	PT_CODE_PRESENT == 12 && PT_CODE_MISSING == 13 && PT_NO_FREE_SLOT == 14 &&
-	PT_LAST_LANE == 15 && PT_NOTHING_DONE == 16, "refusals");
+	PT_LAST_LANE == 15 && PT_NOTHING_DONE == 16 && PT_WRONG_DIGIT == 17, "refusals");
 _Static_assert(PT_SHORT_ANSWER == UINT32_MAX && PT_NONE == UINT32_MAX, "none");
 _Static_assert(PT_GOING == 0 && PT_FOUND == 1 && PT_ABSENT == 2, "outcomes");
 _Static_assert(PT_IDLE == 0 && PT_BOTTLE_DROPPED == 1 && PT_DOOR_OPEN == 2 &&

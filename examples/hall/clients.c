@@ -124,11 +124,20 @@ void lane_serve(struct client *lane)
 
 /* ---- the office */
 
-/* Its changes are made by a lane that is online; another one where this one is not. */
-static uint32_t change(struct client *office, uint64_t code)
+/* The code with one digit mistyped. */
+static uint64_t mistyped(struct client *office, uint64_t code)
 {
-	static const enum call_name names[] = { CALL_ADD, CALL_ADD, CALL_REPLACE, CALL_DELETE };
-	enum call_name name = names[draw(office, 4)];
+	uint64_t place = 1, digit;
+
+	for (uint32_t n = draw(office, 13); n > 0; n--)
+		place *= 10;
+	digit = code / place % 10;
+	return code - digit * place + (digit + 1 + draw(office, 9)) % 10 * place;
+}
+
+/* Its changes are made by a lane that is online; another one where this one is not. */
+static uint32_t change(struct client *office, enum call_name name, uint64_t code)
+{
 	uint32_t deposit = name == CALL_DELETE ? 0 : draw(office, 100);
 	uint32_t material = name == CALL_DELETE ? 0 : draw(office, PT_MAX_MATERIAL + 1);
 	uint32_t status;
@@ -139,10 +148,26 @@ static uint32_t change(struct client *office, uint64_t code)
 	return status;
 }
 
+/* An entry with one wrong digit is refused, whatever the code and the digit. */
+static void mistype(struct client *office, enum call_name name, uint64_t code)
+{
+	if (change(office, name, mistyped(office, code)) == PT_WRONG_DIGIT)
+		return;
+	fprintf(stderr, "hall: a wrong digit is answered with %" PRIu32 "\n", office->answer[0]);
+	exit(1);
+}
+
 void office_serve(struct client *office)
 {
-	while (!office->closing)
-		switch (change(office, product_code(draw(office, PRODUCTS)))) {
+	static const enum call_name names[] = { CALL_ADD, CALL_ADD, CALL_REPLACE, CALL_DELETE };
+
+	while (!office->closing) {
+		enum call_name name = names[draw(office, 4)];
+		uint64_t code = product_code(draw(office, PRODUCTS));
+
+		if (name != CALL_DELETE && draw(office, 10) == 0)
+			mistype(office, name, code);
+		switch (change(office, name, code)) {
 		case PT_OK:
 		case PT_CODE_PRESENT:
 		case PT_CODE_MISSING:
@@ -155,4 +180,5 @@ void office_serve(struct client *office)
 				office->answer[0]);
 			exit(1);
 		}
+	}
 }

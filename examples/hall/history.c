@@ -43,13 +43,14 @@ void history_note(const struct call *call, const uint32_t *answer)
 
 /* What the history holds. */
 struct tally {
-	uint64_t accepted[CALLS], refused, lookups[3], periods;
+	uint64_t accepted[CALLS], refused, mistyped, lookups[3], periods;
 };
 
 static void tally_event(struct tally *tally, const struct event *event, uint32_t *generation)
 {
 	if (event->answer[0] != PT_OK) {
 		tally->refused++;
+		tally->mistyped += event->answer[0] == PT_WRONG_DIGIT ? 1 : 0;
 		return;
 	}
 	tally->accepted[event->call.name]++;
@@ -83,7 +84,7 @@ static void print_tally(const struct tally *tally)
 		tally->periods);
 	for (int name = 0; name < CALLS; name++)
 		printf(" %s %" PRIu64, call_forms[name].command, tally->accepted[name]);
-	printf(", refused %" PRIu64 "\n", tally->refused);
+	printf(", refused %" PRIu64 ", %" PRIu64 " of them mistyped codes\n", tally->refused, tally->mistyped);
 }
 
 bool history_judge(void)

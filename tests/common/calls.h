@@ -35,7 +35,7 @@ typedef uint32_t argument_CABINETS, argument_LANES, argument_SLOTS, argument_LAN
 	argument_DEPOSIT, argument_MATERIAL, argument_KIND;
 typedef uint64_t argument_CODE;
 
-enum { CALL_ARGUMENTS = 4, CALL_CAUSES = 8, LAST_CAUSE = PT_NOTHING_DONE };
+enum { CALL_ARGUMENTS = 4, CALL_CAUSES = 8, LAST_CAUSE = PT_WRONG_DIGIT };
 
 /* A call; arguments that it does not take are 0. */
 struct call {

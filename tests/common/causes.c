@@ -1,10 +1,11 @@
 /*
- * causes.c - document 01's table of causes, a function a row.
+ * causes.c - the table of causes of documents 01 and 02, a function a row.
  */
 #include "causes.h"
 
 #include <stdbool.h>
 
+#include "codes.h"
 #include "reference.h"
 #include "table.h"
 
@@ -80,6 +81,7 @@ static bool applies(const struct asked *asked, uint32_t cause)
 	case PT_NO_FREE_SLOT: return asked->table->free.first == PT_NONE;
 	case PT_LAST_LANE: return only_lane(asked);
 	case PT_NOTHING_DONE: return nothing_done(asked);
+	case PT_WRONG_DIGIT: return !code_is_right(asked->code);
 	default: return false;
 	}
 }

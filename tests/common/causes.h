@@ -1,6 +1,7 @@
 /*
- * causes.h - which causes of document 01's table apply to a call, each by itself: the
- * lowest of them is the one that is answered. Written from the table, row by row.
+ * causes.h - which causes of documents 01 and 02 apply to a call, each by itself: of those
+ * the first in the call's order (calls.def) is the one that is answered. Written from the
+ * tables, row by row.
  */
 #ifndef COMMON_CAUSES_H
 #define COMMON_CAUSES_H

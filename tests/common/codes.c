@@ -1,9 +1,9 @@
 /*
- * codes.c - the right codes: twelve digits are any number, the thirteenth follows.
+ * codes.c - the right codes: twelve digits are any number, the thirteenth follows. All others are wrong.
  */
 #include "codes.h"
 
-enum { TEN = 10 };
+enum { TEN = 10, CHAINS_OF_CODES = 64 };
 
 /* The right code whose first twelve digits are those of @number. */
 static uint64_t completed(uint64_t number)
@@ -20,6 +20,14 @@ static uint64_t completed(uint64_t number)
 bool code_is_right(uint64_t code)
 {
 	return completed(code / TEN) == code;
+}
+
+uint64_t wrong_code(uint64_t code)
+{
+	do
+		code += CHAINS_OF_CODES;
+	while (code_is_right(code));
+	return code;
 }
 
 uint64_t right_code(uint64_t modulus, uint64_t rest, uint64_t k)

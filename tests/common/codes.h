@@ -1,13 +1,10 @@
 /*
- * codes.h - codes whose check digit is right, for every test, example and measurement: so
- * none of them changes where a wrong digit is refused. Counted from the left of thirteen
- * digits, zeros included, the first twelve weigh 1, 3, 1, 3 and so on, and the thirteenth
- * brings the sum to a multiple of ten (GS1). One code of each ten is right: 0, 17, 24, 31,
- * 48, 55, 62, 79, ..; of chain 0: 0, 192, 512, 1472, 1984, ..
- *
- * The largest code in range, 9,999,999,999,999, is not right: 9,999,999,999,994 is. What
- * tries the range itself stands in programs/selftest.c, test_code_limit(), and in the
- * trial's cases of document 01.
+ * codes.h - codes whose check digit is right, for every test, example and measurement that
+ * enters records, and codes whose check digit is wrong, for what the office mistypes and for
+ * older records. Counted from the left of thirteen digits, zeros included, the first twelve
+ * weigh 1, 3, 1, 3 and so on, and the thirteenth brings the sum to a multiple of ten (GS1).
+ * One code of each ten is right: 0, 17, 24, 31, 48, 55, 62, 79, ..; of chain 0: 0, 192, 512,
+ * 1472, 1984, ..
  */
 #ifndef COMMON_CODES_H
 #define COMMON_CODES_H
@@ -25,5 +22,8 @@ uint64_t right_code(uint64_t modulus, uint64_t rest, uint64_t k);
 
 /* Whether the check digit is right. */
 bool code_is_right(uint64_t code);
+
+/* The next code of the same chain whose check digit is wrong. */
+uint64_t wrong_code(uint64_t code);
 
 #endif /* COMMON_CODES_H */

@@ -6,6 +6,7 @@
 #include "causes.h"
 #include "codes.h"
 #include "layout.h"
+#include "table.h"
 
 const struct list draw_lists[] = {
 	{ 1, 1, 1, 2, 30000, 1 },
@@ -40,20 +41,25 @@ static uint32_t in_range(uint64_t *seed, uint32_t count, uint32_t often, uint32_
 	return draw_below(seed, often) == 0 ? count + draw_below(seed, beyond) : draw_below(seed, count);
 }
 
-/*
- * The codes of lists: half of them share chain 0, the others a low word, so that they
- * differ in the high one alone. One of sixty is past the range.
- */
-static uint64_t draw_code(uint64_t *seed, const struct list *list)
+/* Right codes of lists: half of them share chain 0, the others a low word, so that they differ in the high one alone. */
+static uint64_t draw_right_code(uint64_t *seed, const struct list *list)
 {
 	static uint64_t codes[DRAW_CODES]; /* each is found once; 0 is not yet found, or itself */
 	uint32_t n = draw_below(seed, list->codes);
 
-	if (draw_below(seed, 60) == 0)
-		return PT_MAX_CODE + 1 + draw_below(seed, 2);
 	if (codes[n] == 0)
 		codes[n] = n % 2 == 0 ? CODE_OF_CHAIN(0, n / 2) : CODE_OF_LOW_WORD(5, n / 2);
 	return codes[n];
+}
+
+/* The codes of lists: one of sixty is past the range, one of ten has a wrong check digit. */
+static uint64_t draw_code(uint64_t *seed, const struct list *list)
+{
+	uint64_t code = draw_right_code(seed, list);
+
+	if (draw_below(seed, 60) == 0)
+		return PT_MAX_CODE + 1 + draw_below(seed, 2);
+	return draw_below(seed, 10) == 0 ? wrong_code(code) : code;
 }
 
 static uint64_t draw_argument(uint64_t *seed, const struct list *list, enum kind kind)
@@ -195,6 +201,42 @@ static void ahead_damage(struct drawer *drawer, const uint32_t *memory, uint32_t
 	ahead(drawer, STEP_MEND, 0, 0);
 }
 
+/* Where the code leads in its chain: its slot, or none. */
+static uint32_t slot_of(const struct table *table, uint64_t code)
+{
+	uint32_t slot = table->heads[code % CHAINS];
+
+	while (slot != PT_NONE && table->slot[slot].code != code)
+		slot = table->slot[slot].chain_link;
+	return slot;
+}
+
+/*
+ * A record becomes an older one: its slot holds a wrong code of the same chain, as one that
+ * was entered before check digits were asked for. The memory stays legal. Then come calls
+ * with that code.
+ */
+static void ahead_older(struct drawer *drawer, const uint32_t *memory, size_t words)
+{
+	static struct table table;
+	const struct list *list = drawer->list;
+	uint64_t right = draw_right_code(&drawer->seed, list), wrong = wrong_code(right);
+	uint32_t lane = draw_below(&drawer->seed, list->cabinets * list->lanes), slot, at;
+
+	if (!table_read_legal(&table, memory, words) || slot_of(&table, wrong) != PT_NONE)
+		return;
+	slot = slot_of(&table, right);
+	if (slot == PT_NONE)
+		return;
+	at = layout_of(table.cabinets, table.lanes, table.slots).first[BODY_SLOTS] + SLOT_WORDS * slot + SLOT_CODE;
+	ahead(drawer, STEP_POKE, at + CODE_LOW, (uint32_t)wrong);
+	ahead(drawer, STEP_POKE, at + CODE_HIGH, (uint32_t)(wrong >> 32));
+	ahead_call(drawer, &(struct call){ CALL_ADD, { lane, wrong, 1, 1 } });
+	ahead_call(drawer, &(struct call){ CALL_REPLACE, { lane, wrong, 2, 2 } });
+	if (draw_below(&drawer->seed, 4) == 0)
+		ahead_call(drawer, &(struct call){ CALL_DELETE, { lane, wrong } });
+}
+
 /* A call, or the table's set-up, with fewer words lent than belong to it. */
 static void ahead_short(struct drawer *drawer, enum step_kind kind, uint32_t below, size_t whole)
 {
@@ -229,6 +271,8 @@ struct step drawer_next(struct drawer *drawer, const uint32_t *memory, size_t wo
 
 	if (drawer->taken == drawer->ahead) {
 		drawer->taken = drawer->ahead = 0;
+		if (!drawer->calls_only && draw_below(&drawer->seed, 40) == 0)
+			ahead_older(drawer, memory, words); /* first: it goes by the memory as it is */
 		if (draw_below(&drawer->seed, 20 + 10 * lanes) == 0)
 			ahead_lanes(drawer);
 		if (!drawer->calls_only && draw_below(&drawer->seed, 12) == 0)

@@ -8,7 +8,6 @@
 #include <stdlib.h>
 #include <string.h>
 
-#include "codes.h"
 #include "compare.h"
 #include "line.h"
 #include "reference.h"
@@ -28,16 +27,6 @@ void lent_start(struct lent *lent)
 	for (size_t n = 0; n < LENT_WORDS; n++)
 		lent->memory[n] = FILL;
 	lent->words = LENT_WORDS;
-	lent->any_code = false;
-}
-
-/* A code that enters the table has a right check digit, or is past the range. */
-static bool code_fits(const struct call *call)
-{
-	uint64_t code = call_argument(call, KIND_CODE, 0);
-
-	return (call->name != CALL_ADD && call->name != CALL_REPLACE) || code > PT_MAX_CODE ||
-		code_is_right(code);
 }
 
 struct call lent_call(const char *text)
@@ -83,7 +72,6 @@ uint32_t lent_make(struct lent *lent, const struct call *call)
 	struct left expected = { before, lent->words, answer, LENT_ANSWER, 0 };
 	enum difference difference;
 
-	CHECK(lent->any_code || code_fits(call));
 	memcpy(before, lent->memory, sizeof before);
 	fill_answer(lent->answer);
 	left.status = call_make(&tested, lent->memory, lent->words, lent->answer, LENT_ANSWER, call);

@@ -23,7 +23,6 @@ struct lent {
 	uint32_t memory[LENT_WORDS];
 	size_t words; /* how many are lent */
 	uint32_t answer[LENT_ANSWER];
-	bool any_code; /* codes that enter the table need no right check digit here */
 };
 
 /* A call as a line, and its answer as a line. */

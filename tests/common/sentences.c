@@ -8,6 +8,7 @@
 #include <string.h>
 
 #include "causes.h"
+#include "codes.h"
 #include "reference.h"
 #include "table.h"
 #include "words.h"
@@ -59,6 +60,8 @@ static enum sentence cause_sentence(uint32_t cause)
 {
 	if (cause == PT_BAD_SIZE || cause == PT_SHORT_MEMORY)
 		return SENTENCE_CAUSE_SET_UP;
+	if (cause == PT_WRONG_DIGIT)
+		return SENTENCE_DIGIT_REFUSED;
 	return cause == PT_NOT_LEGAL ? SENTENCE_CAUSE_NOT_LEGAL : SENTENCE_CAUSE_OTHERS;
 }
 
@@ -69,6 +72,7 @@ static void refused_tries(struct tally *tally, struct tries *tries, const struct
 
 	tries->of[SENTENCE_CAUSE_RETURNED] = true;
 	tries->of[cause_sentence(cause)] = true;
+	tries->of[SENTENCE_DIGIT_WEIGHTS] = cause == PT_WRONG_DIGIT;
 	if (cause == PT_NOT_LEGAL) {
 		enum legal_sentence broken = ref_broken(beside->before, beside->words);
 
@@ -77,7 +81,7 @@ static void refused_tries(struct tally *tally, struct tries *tries, const struct
 	tally->refused[beside->call.name][cause]++;
 	for (uint32_t other = 1; other <= LAST_CAUSE; other++)
 		if (other != cause && causes >> other & 1u) {
-			tries->of[SENTENCE_CAUSE_LOWEST] = true;
+			tries->of[SENTENCE_CAUSE_FIRST] = true;
 			tally->before[beside->call.name][cause][other]++;
 		}
 }
@@ -197,6 +201,16 @@ static void lane_tries(struct tries *tries, const struct table *then, const stru
 	}
 }
 
+/* What an accepted call that names a code tries of check digits. */
+static void digit_tries(struct tries *tries, const struct call *call)
+{
+	bool enters = call->name == CALL_ADD || call->name == CALL_REPLACE;
+
+	tries->of[SENTENCE_DIGIT_RIGHT] = enters;
+	tries->of[SENTENCE_DIGIT_WEIGHTS] = enters;
+	tries->of[SENTENCE_DIGIT_OLDER] = !enters && !code_is_right(call_argument(call, KIND_CODE, 0));
+}
+
 static void accepted_tries(struct tries *tries, const struct beside *beside)
 {
 	static struct table then, now;
@@ -212,6 +226,7 @@ static void accepted_tries(struct tries *tries, const struct beside *beside)
 		return;
 	}
 	tries->of[SENTENCE_LEGAL] = true;
+	digit_tries(tries, &beside->call);
 	table_read(&then, beside->before);
 	table_read(&now, beside->memory);
 	table_tries(tries, &then, &beside->call, beside->expected_answer, lane);
@@ -273,11 +288,18 @@ static void blame_rules(struct tries *broken, const struct tries *tries, const s
 	uint32_t generation = beside->before[CONTENTS_WORDS + GLOBAL_CURRENT_GENERATION];
 
 	for (int n = 0; n < SENTENCES; n++)
-		if (n == SENTENCE_STEP_2 || n == SENTENCE_CURRENT_TO_NEXT || n >= SENTENCE_TRAP_CHAINED ||
+		if (n == SENTENCE_STEP_2 || n == SENTENCE_CURRENT_TO_NEXT || (n >= SENTENCE_TRAP_CHAINED && n <= SENTENCE_TRAP_SNAPSHOT) ||
 				(n >= SENTENCE_CABINET_BIT_GOES && n <= SENTENCE_STEP_ENDS))
 			broken->of[n] |= tries->of[n];
 	/* The order of generations, where the plain order is another. */
 	broken->of[SENTENCE_LATER] |= tries->of[SENTENCE_LATER] && generation + 2 < 4;
+}
+
+/* Where one of the two says that a check digit is wrong. */
+static void blame_digits(struct tries *broken, const struct tries *tries, uint32_t status)
+{
+	for (int n = SENTENCE_DIGIT_RIGHT; n <= SENTENCE_DIGIT_OLDER; n++)
+		broken->of[n] |= status == PT_WRONG_DIGIT && tries->of[n];
 }
 
 static void blame_status(struct tries *broken, const struct tries *tries, const struct beside *beside)
@@ -288,13 +310,15 @@ static void blame_status(struct tries *broken, const struct tries *tries, const 
 		broken->of[SENTENCE_SHORT_ANSWER] = true;
 	} else if (expected == PT_OK) {
 		broken->of[status == PT_NOT_LEGAL ? SENTENCE_LEGAL : SENTENCE_ANSWER] = true;
+		blame_digits(broken, tries, status);
 		blame_rules(broken, tries, beside);
 	} else {
 		broken->of[cause_sentence(expected)] = true;
+		blame_digits(broken, tries, expected);
 		for (int n = SENTENCE_LEGAL_CONTENTS; n <= SENTENCE_LEGAL_GLOBAL_GENERATION; n++)
 			broken->of[n] |= tries->of[n];
-		broken->of[SENTENCE_CAUSE_LOWEST] |= status != PT_OK && status <= LAST_CAUSE &&
-			tries->of[SENTENCE_CAUSE_LOWEST];
+		broken->of[SENTENCE_CAUSE_FIRST] |= status != PT_OK && status <= LAST_CAUSE &&
+			tries->of[SENTENCE_CAUSE_FIRST];
 	}
 }
 

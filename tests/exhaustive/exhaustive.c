@@ -104,7 +104,7 @@ static bool compared = true;
 static double begun; /* the run */
 
 /* Over all tables. */
-static uint64_t all_states, calls, accepted[CALLS], refused[PT_NOTHING_DONE + 1], outcomes[3];
+static uint64_t all_states, calls, accepted[CALLS], refused[LAST_CAUSE + 1], outcomes[3];
 
 /* ---- the alphabet */
 
@@ -160,6 +160,11 @@ static void refused_letters(void)
 	letter(CALL_SETUP, 0, form->lanes, form->slots, 0);
 	letter(CALL_SETUP, form->cabinets, form->lanes, form->slots + 1, 0); /* no words for it */
 	letter(CALL_ADD, 0, PT_MAX_CODE + 1, 1, 1);
+	for (uint32_t n = 0; n < form->codes; n++) { /* wrong check digits; delete takes them, and finds no record */
+		letter(CALL_ADD, 0, wrong_code(codes[n]), 1, 1);
+		letter(CALL_REPLACE, 0, wrong_code(codes[n]), 2, 2);
+		letter(CALL_DELETE, 0, wrong_code(codes[n]), 0, 0);
+	}
 	letter(CALL_PASS, 0, KINDS, 0, 0);
 	for (int name = CALL_ADD; name < CALL_AWAITED; name++)
 		letter((enum call_name)name, lanes, 0, 0, 0);
@@ -454,7 +459,7 @@ static void print_counts(void)
 	for (int name = 0; name < CALLS; name++)
 		printf(" %s %" PRIu64, call_forms[name].command, accepted[name]);
 	printf("\nrefused, by cause:");
-	for (uint32_t cause = PT_BAD_SIZE; cause <= PT_NOTHING_DONE; cause++)
+	for (uint32_t cause = PT_BAD_SIZE; cause <= LAST_CAUSE; cause++)
 		printf(" %" PRIu32 ": %" PRIu64, cause, refused[cause]);
 	printf("\nsteps: %" PRIu64 " going, %" PRIu64 " found, %" PRIu64 " absent\n",
 		outcomes[PT_GOING], outcomes[PT_FOUND], outcomes[PT_ABSENT]);

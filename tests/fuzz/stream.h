@@ -12,7 +12,7 @@
  *   ROUND: each lane makes the calls clock, pass 0 and clock.
  * A number is a byte below EDGES for itself, one of the edges, or RAW and four bytes,
  * low byte first. A lane is a number too, but bytes from LANES to EDGES are taken modulo
- * the table's lanes and one. A code is a byte below EDGES for one of sixteen codes, a code
+ * the table's lanes and one. A code is a byte below EDGES for one of 32 codes, a code
  * about the limit, or RAW and eight bytes. An address is two bytes, modulo the words lent.
  */
 #ifndef FUZZ_STREAM_H
@@ -44,18 +44,20 @@ static const uint32_t edges[RAW - EDGES] = {
 };
 
 /*
- * The code that a byte below EDGES is: four right codes of each of two chains, and of each
- * another with the same low word.
+ * The code that a byte below EDGES is: four right codes of each of two chains, of each
+ * another with the same low word, and of each of these sixteen a wrong one of its chain.
  */
 static inline uint64_t spread(uint32_t byte)
 {
-	static uint64_t codes[16]; /* each is found once; 0 is not yet found, or itself */
-	uint32_t n = byte & 15u;
+	static uint64_t codes[32]; /* each is found once; 0 is not yet found, or itself */
+	uint32_t n = byte & 31u;
 
 	if (codes[n] == 0) {
 		codes[n] = CODE_OF_CHAIN(n & 4u ? 17 : 0, n & 3u);
 		if (n & 8u)
 			codes[n] = CODE_OF_LOW_WORD((uint32_t)codes[n], 1);
+		if (n & 16u)
+			codes[n] = wrong_code(codes[n]);
 	}
 	return codes[n];
 }

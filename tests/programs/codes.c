@@ -1,5 +1,5 @@
 /*
- * codes.c - the right codes are those of the rule, read from the digits as text.
+ * codes.c - the right codes are those of the rule, read from the digits as text, and wrong ones are not.
  */
 #include <inttypes.h>
 #include <stdio.h>
@@ -46,6 +46,8 @@ int main(void)
 	for (uint64_t code = 0; code < 5000; code++)
 		CHECK(code_is_right(code) == right_by_text(code));
 	CHECK(code_is_right(PT_MAX_CODE - 5) && !code_is_right(PT_MAX_CODE));
-	puts("codes: those with right check digits, and no others");
+	for (uint64_t code = 0; code < 5000; code++)
+		CHECK(!right_by_text(wrong_code(code)) && wrong_code(code) % CHAINS == code % CHAINS);
+	puts("codes: those with right check digits, and no others; wrong ones of the same chain");
 	return 0;
 }

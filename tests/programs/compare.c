@@ -56,6 +56,28 @@ static void check_cause(void)
 	CHECK(beside.expected.status == *cause);
 }
 
+/* How often a wrong check digit was met beside each cause that is tested after it: an older record, a missing code, a full table. */
+static void print_wrong_digits(bool often)
+{
+	static const struct {
+		enum call_name call;
+		uint32_t cause;
+	} beside_17[] = {
+		{ CALL_ADD, PT_CODE_PRESENT }, { CALL_ADD, PT_NO_FREE_SLOT },
+		{ CALL_REPLACE, PT_CODE_MISSING }, { CALL_REPLACE, PT_NO_FREE_SLOT },
+	};
+	enum { OFTEN = 100 };
+
+	printf("compare: wrong check digits beside another cause:");
+	for (size_t n = 0; n < sizeof beside_17 / sizeof beside_17[0]; n++) {
+		uint64_t met = tally.before[beside_17[n].call][PT_WRONG_DIGIT][beside_17[n].cause];
+
+		printf(" %s %" PRIu32 ": %" PRIu64, call_forms[beside_17[n].call].command, beside_17[n].cause, met);
+		CHECK(!often || met >= OFTEN);
+	}
+	printf("\n");
+}
+
 /* One list; returns the calls that were made. */
 static uint32_t play(const struct list *list, uint64_t seed, uint32_t calls)
 {
@@ -102,6 +124,7 @@ int main(int argc, char **argv)
 			met += tally.refused[name][cause];
 		CHECK(met > 0);
 	}
+	print_wrong_digits(argc == 1);
 	printf("compare: seed %" PRIu64 ", %" PRIu64 " calls, %" PRIu64 " slots handed back\n", first,
 		tally.calls, tally.accepted[CALL_HAND_BACK]);
 	return 0;

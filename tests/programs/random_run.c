@@ -32,7 +32,7 @@ static uint64_t seed;
 static uint32_t *exact; /* the second memory */
 
 /* What all lists reached. */
-static uint32_t accepted[CALLS], refused[PT_NOTHING_DONE + 1];
+static uint32_t accepted[CALLS], refused[LAST_CAUSE + 1];
 static uint32_t found, absent, periods;
 
 static uint32_t draw(uint32_t below)
@@ -51,7 +51,7 @@ static void complain(const struct call *call, const char *fault)
 static void count_answer(const struct call *call, uint32_t generation)
 {
 	if (lent.answer[0] != PT_OK) {
-		CHECK(lent.answer[0] <= PT_NOTHING_DONE);
+		CHECK(lent.answer[0] <= LAST_CAUSE);
 		refused[lent.answer[0]]++;
 		return;
 	}
@@ -170,7 +170,7 @@ int main(void)
 		CHECK(accepted[name] > 0);
 		calls += accepted[name];
 	}
-	for (uint32_t cause = PT_BAD_SIZE; cause <= PT_NOTHING_DONE; cause++) {
+	for (uint32_t cause = PT_BAD_SIZE; cause <= LAST_CAUSE; cause++) {
 		CHECK(refused[cause] > 0);
 		calls += refused[cause];
 	}

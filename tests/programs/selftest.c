@@ -251,24 +251,74 @@ static void test_records(void)
 	LENT_PLAY(&lent, steps);
 }
 
-/* The largest code, and one more; its check digit is not right. */
+/* The largest code, whose check digit is wrong, one more, and the largest that is right. */
 static void test_code_limit(void)
 {
 	static const struct lent_step steps[] = {
 		{ "setup 1 1 2", "0 120 0 0 0" },
 		{ "add 0 10000000000000 1 1", "11 0 0 0 0" },
-		{ "add 0 9999999999999 1 1", "0 0 0 0 0" },
+		{ "add 0 9999999999999 1 1", "17 0 0 0 0" },
+		{ "add 0 9999999999994 1 1", "0 0 0 0 0" },
 		{ "rep 0 10000000000000 1 1", "11 0 0 0 0" },
-		{ "rep 0 9999999999999 2 2", "0 1 0 0 0" },
+		{ "rep 0 9999999999999 2 2", "17 0 0 0 0" },
+		{ "rep 0 9999999999994 2 2", "0 1 0 0 0" },
 		{ "begin 0", "0 0 0 0 0" },
 		{ "start 0 10000000000000", "11 0 0 0 0" },
-		{ "start 0 9999999999999", "0 0 0 0 0" }, { "step 0", "0 1 1 2 2" },
+		{ "start 0 9999999999999", "0 0 0 0 0" }, { "step 0", "0 2 0 0 0" },
+		{ "start 0 9999999999994", "0 0 0 0 0" }, { "step 0", "0 1 1 2 2" },
 		{ "del 0 10000000000000", "11 0 0 0 0" },
-		{ "del 0 9999999999999", "0 1 0 0 0" },
+		{ "del 0 9999999999999", "13 0 0 0 0" },
+		{ "del 0 9999999999994", "0 1 0 0 0" },
 	};
 
 	lent_start(&lent);
-	lent.any_code = true;
+	LENT_PLAY(&lent, steps);
+}
+
+/* Check digits of labels, and where their test stands among the others. */
+static void test_check_digits(void)
+{
+	static const struct lent_step steps[] = {
+		{ "setup 1 2 2", "0 139 0 0 0" },
+		{ "add 0 5901234123457 1 1", "0 0 0 0 0" }, { "add 0 4006381333931 1 1", "0 1 0 0 0" },
+		/* One digit mistyped; neighbours exchanged, which differ by 5 in the last one. */
+		{ "rep 0 5901234123458 1 1", "17 0 0 0 0" }, { "rep 0 5907234123457 1 1", "17 0 0 0 0" },
+		{ "rep 0 9501234123457 1 1", "17 0 0 0 0" }, { "rep 0 4006831333931 1 1", "13 0 0 0 0" },
+		/* After the lane and the range, before what the table holds. */
+		{ "add 2 18 1 1", "4 0 0 0 0" }, { "add 0 18 1 8", "11 0 0 0 0" },
+		{ "add 0 18 100001 1", "11 0 0 0 0" }, { "rep 0 18 1 8", "11 0 0 0 0" },
+		{ "add 0 18 1 1", "17 0 0 0 0" }, { "rep 0 18 1 1", "17 0 0 0 0" },
+		{ "add 0 17 1 1", "14 0 0 0 0" }, { "rep 0 17 1 1", "13 0 0 0 0" },
+		{ "del 0 18", "13 0 0 0 0" },
+		{ "off 1", "0 0 0 0 0" }, { "add 1 18 1 1", "5 0 0 0 0" },
+	};
+
+	lent_start(&lent);
+	LENT_PLAY(&lent, steps);
+}
+
+/* An older record of code 18: it is legal, found and deleted; the office does not enter it again. */
+static void test_older_record(void)
+{
+	static const struct lent_step records[] = {
+		{ "setup 1 1 2", "0 120 0 0 0" }, { "add 0 338 1 1", "0 0 0 0 0" },
+		{ "add 0 17 2 2", "0 1 0 0 0" },
+	};
+	static const struct lent_step steps[] = {
+		{ "begin 0", "0 0 0 0 0" }, { "start 0 18", "0 0 0 0 0" }, { "step 0", "0 1 0 1 1" },
+		/* The table is full, the code is present, and its check digit is wrong. */
+		{ "add 0 18 1 1", "17 0 0 0 0" }, { "rep 0 18 2 2", "17 0 0 0 0" },
+		{ "del 0 18", "0 0 0 0 0" }, { "del 0 18", "13 0 0 0 0" },
+		{ "start 0 18", "0 0 0 0 0" }, { "step 0", "0 2 0 0 0" },
+		{ "end 0", "0 0 0 0 0" }, { "clock 0", "0 1 1 1 0" }, { "pass 0 0", "0 0 0 0 0" },
+		{ "clock 0", "0 2 1 0 0" }, { "back 0", "0 0 0 0 0" },
+		{ "add 0 18 1 1", "17 0 0 0 0" }, { "add 0 31 1 1", "0 0 0 0 0" },
+	};
+
+	lent_start(&lent);
+	LENT_PLAY(&lent, records);
+	lent_slot(lent.memory, 0)[SLOT_CODE + CODE_LOW] = 18;
+	CHECK(ref_legal(lent.memory, lent.words));
 	LENT_PLAY(&lent, steps);
 }
 
@@ -734,6 +784,8 @@ int main(void)
 	test_sections();
 	test_records();
 	test_code_limit();
+	test_check_digits();
+	test_older_record();
 	test_chains();
 	test_high_words();
 	test_free_queue();

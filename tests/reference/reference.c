@@ -251,6 +251,25 @@ static bool record_in_range(uint64_t code, uint32_t deposit, uint32_t material)
 	return code <= PT_MAX_CODE && deposit <= PT_MAX_DEPOSIT && material <= PT_MAX_MATERIAL;
 }
 
+enum { CODE_DIGITS = 13, FIRST_WEIGHT = 1, SECOND_WEIGHT = 3, TEN = 10 };
+
+/*
+ * Counted from the left, the first twelve digits weigh 1, 3, 1, 3 and so on; the thirteenth
+ * brings the sum to a multiple of ten. The code is in range.
+ */
+static bool check_digit_right(uint64_t code)
+{
+	uint32_t digit[CODE_DIGITS], sum = 0;
+
+	for (int n = CODE_DIGITS - 1; n >= 0; n--) {
+		digit[n] = (uint32_t)(code % TEN);
+		code /= TEN;
+	}
+	for (int n = 0; n < CODE_DIGITS - 1; n++)
+		sum += digit[n] * (n % 2 == 0 ? FIRST_WEIGHT : SECOND_WEIGHT);
+	return (sum + digit[CODE_DIGITS - 1]) % TEN == 0;
+}
+
 /* Takes the first free slot for a record. */
 static uint32_t take_free(struct table *t, uint64_t code, uint32_t deposit, uint32_t material)
 {
@@ -275,6 +294,8 @@ uint32_t ref_add(uint32_t *memory, size_t words, uint32_t *answer, size_t answer
 		return refuse(answer, cause);
 	if (!record_in_range(code, deposit, material))
 		return refuse(answer, PT_OUT_OF_RANGE);
+	if (!check_digit_right(code))
+		return refuse(answer, PT_WRONG_DIGIT);
 	if (*chain_place(&t, code) != PT_NONE)
 		return refuse(answer, PT_CODE_PRESENT);
 	if (queue_empty(t.free))
@@ -299,6 +320,8 @@ uint32_t ref_replace(uint32_t *memory, size_t words, uint32_t *answer, size_t an
 		return refuse(answer, cause);
 	if (!record_in_range(code, deposit, material))
 		return refuse(answer, PT_OUT_OF_RANGE);
+	if (!check_digit_right(code))
+		return refuse(answer, PT_WRONG_DIGIT);
 	place = chain_place(&t, code);
 	if (*place == PT_NONE)
 		return refuse(answer, PT_CODE_MISSING);

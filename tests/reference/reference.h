@@ -1,6 +1,6 @@
 /*
  * reference.h - the calls of product_table.h once more, in C, as something to
- * compare with: written from document 01 alone, with structs and loops. What each
+ * compare with: written from documents 01 and 02 alone, with structs and loops. What each
  * call does, answers and refuses stands in product_table.h under the prefix pt_.
  */
 #ifndef REFERENCE_H

@@ -21,17 +21,22 @@
 
 enum { CASE_STEPS = 20 };
 
-/* Cases of document 01, "A listing, and edges"; the answers are the judge's. */
+/* Cases of document 01, "A listing, and edges", as document 02 changes them, and its own; the answers are the judge's. */
 static const char *const stars[][CASE_STEPS] = {
 	{ "lend 7455", "setup 8 8 1024", "lend 7456", "setup 8 8 1024", "awaited" },
 	{ "setup 1 1 0", "setup 1 1 1025", "setup 8 8 1024" },
-	{ "setup 1 1 2", "add 0 9999999999999 1 1", "add 0 10000000000000 1 1", "del 0 9999999999999" },
+	{ "setup 1 1 2", "add 0 9999999999999 1 1", "add 0 9999999999994 1 1", "add 0 10000000000000 1 1",
+		"rep 0 9999999999999 1 1", "rep 0 9999999999994 2 2", "del 0 9999999999999", "del 0 9999999999994" },
 	{ "setup 1 2 2", "clock 2", "clock 1" },
 	{ "setup 1 1 2", "poke 12 4294967295", "poke 13 4294967294", "add 0 17 1 1", "del 0 17",
 		"clock 0", "pass 0 0", "clock 0", "back 0", "add 0 17 1 1", "del 0 17", "clock 0" },
 	{ "setup 1 1 1", "add 0 17 1 1", "rep 0 24 1 1" },
 	{ "setup 1 1 4", "add 0 192 10 1", "add 0 0 20 2", "begin 0", "start 0 192", "del 0 0",
 		"step 0", "step 0" },
+	{ "setup 1 1 4", "add 0 5901234123457 1 1", "add 0 4006381333931 1 1", "add 0 5901234123458 1 1",
+		"add 0 9501234123457 1 1", "add 0 4006831333931 1 1" },
+	{ "setup 1 1 2", "add 0 338 1 1", "poke 108 18", "begin 0", "start 0 18", "step 0", "rep 0 18 1 1",
+		"add 0 18 1 1", "del 0 18", "awaited" }, /* an older record in slot 0 */
 };
 
 /* The files of tests/listing that are lists of calls. */
@@ -98,6 +103,10 @@ static void play_case(uint32_t n)
 /* ---- every cause with each of its neighbours */
 
 /* States of a table of two lanes and three slots, one of each group; lane 0 is asked. */
+static const char *const older_states[][CASE_STEPS] = {
+	{ NULL },
+	{ "add 1 338 1 1", "poke 127 18" }, /* slot 0 has an older record: code 18 */
+};
 static const char *const done_states[][CASE_STEPS] = {
 	{ NULL },
 	{ "add 0 31 1 1", "del 0 31", "clock 0", "pass 0 0", "clock 0", "clock 1", "pass 1 0",
@@ -121,7 +130,7 @@ static const char *const lane_states[][CASE_STEPS] = {
 
 static uint32_t cause_lists(void)
 {
-	return COUNT(done_states) * COUNT(record_states) * COUNT(lane_states);
+	return COUNT(older_states) * COUNT(done_states) * COUNT(record_states) * COUNT(lane_states);
 }
 
 /* Values for an argument: in range, at its end, and past it. */
@@ -135,7 +144,7 @@ static uint32_t choices(enum kind kind, uint64_t choice[6])
 		[KIND_LANES] = { 3, { 0, 2, PT_MAX_LANES + 1 } },
 		[KIND_SLOTS] = { 4, { 0, 3, PT_MAX_SLOTS, PT_MAX_SLOTS + 1 } },
 		[KIND_LANE] = { 4, { 0, 1, 2, PT_NONE } },
-		[KIND_CODE] = { 4, { 17, 79, PT_MAX_CODE + 1, UINT64_MAX } },
+		[KIND_CODE] = { 5, { 17, 79, 18, PT_MAX_CODE + 1, UINT64_MAX } }, /* 18: a wrong check digit */
 		[KIND_DEPOSIT] = { 3, { 0, PT_MAX_DEPOSIT + 1, PT_NONE } },
 		[KIND_MATERIAL] = { 3, { 0, PT_MAX_MATERIAL + 1, PT_NONE } },
 		[KIND_KIND] = { 3, { 0, PT_MAX_KIND + 1, PT_NONE } },
@@ -179,12 +188,14 @@ static void play_lend(uint32_t words)
 
 static void play_causes(uint32_t n)
 {
-	uint32_t done = n % COUNT(done_states), rest = n / COUNT(done_states);
+	uint32_t older = n % COUNT(older_states), lists = n / COUNT(older_states);
+	uint32_t done = lists % COUNT(done_states), rest = lists / COUNT(done_states);
 
 	player_start(false);
 	if (n == 0)
 		play_all_refused(); /* a memory that is not set up */
 	player_line("setup 1 2 3");
+	play_star(older_states[older]);
 	play_star(done_states[done]);
 	play_star(record_states[rest % COUNT(record_states)]);
 	play_star(lane_states[rest / COUNT(record_states)]);

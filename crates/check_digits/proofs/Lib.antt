@@ -2,4 +2,5 @@
 pub mod Digits
 pub mod Weights
 pub mod Caught
+pub mod EntryRefused
 mod AddingLaws

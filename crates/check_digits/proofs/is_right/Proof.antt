@@ -12,7 +12,7 @@ abbrev μ-loop : tie.MeasureT-loop
 μ-loop code rest₀ weight₀ sum₀ left₀ rest weight sum left = left
 
 loop-holds : tie.Need-loop-holds Inv-loop μ-loop
-loop-holds c = search (needs, adding-start)
+loop-holds c = adding-start _
 
 mul-sum : tie.Need-mul-sum Inv-loop μ-loop
 mul-sum c =
@@ -39,7 +39,9 @@ loop-again : tie.Need-loop-again Inv-loop μ-loop
 loop-again c = search (needs, adding-on)
 
 returns : tie.Need-returns Inv-loop μ-loop
-returns c = search (needs, adding-done)
+returns c =
+    let at-loop : tie.At-loop Inv-loop μ-loop = search in
+    adding-done _ _ _ _ _ (at-loop .loop .inv) (omega arith)
 
 pub is-right-spec : {M : Type 1} → statement M
 is-right-spec =
