@@ -87,7 +87,7 @@
 extern "C" {
 #endif
 
-/* Status words: 0, and the refusals in the order of their numbers, which is not that of the tests. */
+/* Status words: 0, and the refusals by their numbers, which are not the order of the tests. */
 #define PT_OK             0u  /* done */
 #define PT_BAD_SIZE       1u  /* setup: a size is out of range */
 #define PT_SHORT_MEMORY   2u  /* setup: the memory is below the total */

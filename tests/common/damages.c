@@ -205,6 +205,8 @@ const struct damage damages[] = {
 		{ SLOT(8, SLOT_CHAIN_LINK), 8 } } },
 	{ BASE_RICH, LEGAL_SENTENCES, "retired slots with any code, also a chained one", {
 		{ SLOT(2, SLOT_CODE + CODE_LOW), 0 }, { SLOT(3, SLOT_CODE + CODE_LOW), 0 } } },
+	{ BASE_RICH, LEGAL_SENTENCES, "older records, with wrong check digits", {
+		{ SLOT(0, SLOT_CODE + CODE_LOW), 64 }, { SLOT(4, SLOT_CODE + CODE_LOW), 81 } } },
 	{ BASE_RICH, LEGAL_SENTENCES, "retired slot linked to a free one", { { SLOT(2, SLOT_CHAIN_LINK), 15 } } },
 	{ BASE_RICH, LEGAL_SENTENCES, "lookup on a slot of another chain", { { LANE(0, LANE_POSITION), 4 } } },
 	{ BASE_RICH, LEGAL_SENTENCES, "lookup on a free slot", { { LANE(0, LANE_POSITION), 11 } } },
