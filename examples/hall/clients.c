@@ -124,15 +124,17 @@ void lane_serve(struct client *lane)
 
 /* ---- the office */
 
+enum { CODE_DIGITS = 13, TEN = 10 };
+
 /* The code with one digit mistyped. */
 static uint64_t mistyped(struct client *office, uint64_t code)
 {
 	uint64_t place = 1, digit;
 
-	for (uint32_t n = draw(office, 13); n > 0; n--)
-		place *= 10;
-	digit = code / place % 10;
-	return code - digit * place + (digit + 1 + draw(office, 9)) % 10 * place;
+	for (uint32_t n = draw(office, CODE_DIGITS); n > 0; n--)
+		place *= TEN;
+	digit = code / place % TEN;
+	return code - digit * place + (digit + 1 + draw(office, TEN - 1)) % TEN * place;
 }
 
 /* Its changes are made by a lane that is online; another one where this one is not. */

@@ -3,7 +3,9 @@
  */
 #include "codes.h"
 
-enum { TEN = 10, CHAINS_OF_CODES = 64 };
+#include "layout.h"
+
+enum { TEN = 10 };
 
 /* The right code whose first twelve digits are those of @number. */
 static uint64_t completed(uint64_t number)
@@ -25,7 +27,7 @@ bool code_is_right(uint64_t code)
 uint64_t wrong_code(uint64_t code)
 {
 	do
-		code += CHAINS_OF_CODES;
+		code += CHAINS;
 	while (code_is_right(code));
 	return code;
 }

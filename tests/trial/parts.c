@@ -1,5 +1,5 @@
 /*
- * parts.c - the lists of a trial: document 01's cases, every cause with its neighbours,
+ * parts.c - the lists of a trial: the cases of documents 01 and 02, every cause with its neighbours,
  * damaged memories, lengths at the edge of a page, and lists that are drawn.
  */
 #include "trial.h"
@@ -373,7 +373,7 @@ static void play_judged(uint32_t n)
 }
 
 const struct part parts[] = {
-	{ "the listings and the cases of document 01", true, false, case_lists, play_case, 0 },
+	{ "the listings and the cases of documents 01 and 02", true, false, case_lists, play_case, 0 },
 	{ "every cause with each of its neighbours", true, false, cause_lists, play_causes, 0 },
 	{ "damaged memories, a sentence of legality at a time", false, false, damage_lists, play_damages, 0 },
 	{ "every length at the edge of a page", false, false, edge_lists, play_edges, 0 },

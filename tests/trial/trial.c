@@ -1,5 +1,5 @@
 /*
- * trial.c - says whether an engine conforms to document 01, and where it first differs:
+ * trial.c - says whether an engine conforms to documents 01 and 02, and where it first differs:
  * parts of lists, each list in a process of its own; a report by sentences; the first
  * difference, crash and hang, each shrunk to a short list. docs/TRIAL.md says how to read it.
  * Usage: trial [--seconds N] [--seed N] [--calls N] [--program COMMAND] [--replay FILE]
@@ -290,7 +290,7 @@ static bool report(void)
 		}
 	print_calls();
 	printf("  %" PRIu32 " pairs of a call and two of its causes that applied at once\n", pairs_met());
-	printf("\nSentences of document 01, as docs/TRACE.md has them\n");
+	printf("\nSentences of documents 01 and 02, as docs/TRACE.md has them\n");
 	conforms = tally_print(&shared->tally) && conforms;
 	printf("\n%s, beside %s, seed %" PRIu64 ": %" PRIu64 " calls in %.1f s\n%s\n", trial.name, judge_name,
 		trial.seed, shared->tally.calls, seconds_now() - begun, conforms ? "conforms" : "differs");

@@ -1,1 +1,1 @@
-// Definitions only: specs/ computes cases of document 01 by the definitions of the crate `model`.
+// Definitions only: specs/ computes cases of documents 01 and 02 by the definitions of the crate `model`.
