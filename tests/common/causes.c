@@ -7,7 +7,6 @@
 
 #include "codes.h"
 #include "reference.h"
-#include "table.h"
 
 /* A call on a table, for causes 4 and above. */
 struct asked {
@@ -33,13 +32,18 @@ static bool online(const struct asked *asked)
 	return flag(asked, FLAG_ONLINE);
 }
 
+uint32_t slot_of(const struct table *table, uint64_t code)
+{
+	uint32_t s = table->heads[code % CHAINS];
+
+	while (s != PT_NONE && table->slot[s].code != code)
+		s = table->slot[s].chain_link;
+	return s;
+}
+
 static bool code_present(const struct asked *asked)
 {
-	uint32_t s = asked->table->heads[asked->code % CHAINS];
-
-	while (s != PT_NONE && asked->table->slot[s].code != asked->code)
-		s = asked->table->slot[s].chain_link;
-	return s != PT_NONE;
+	return slot_of(asked->table, asked->code) != PT_NONE;
 }
 
 static bool out_of_range(const struct call *call)

@@ -10,6 +10,10 @@
 #include <stdint.h>
 
 #include "calls.h"
+#include "table.h"
+
+/* The slot of the code's record in its chain, or none. */
+uint32_t slot_of(const struct table *table, uint64_t code);
 
 /* The causes that apply, bit n for cause n. What cannot be told of a memory that is not legal does not. */
 uint32_t causes_of(const uint32_t *memory, size_t words, const struct call *call);

@@ -6,7 +6,6 @@
 #include "causes.h"
 #include "codes.h"
 #include "layout.h"
-#include "table.h"
 
 const struct list draw_lists[] = {
 	{ 1, 1, 1, 2, 30000, 1 },
@@ -199,16 +198,6 @@ static void ahead_damage(struct drawer *drawer, const uint32_t *memory, uint32_t
 	}
 	ahead_drawn(drawer, 1 + draw_below(&drawer->seed, 3));
 	ahead(drawer, STEP_MEND, 0, 0);
-}
-
-/* Where the code leads in its chain: its slot, or none. */
-static uint32_t slot_of(const struct table *table, uint64_t code)
-{
-	uint32_t slot = table->heads[code % CHAINS];
-
-	while (slot != PT_NONE && table->slot[slot].code != code)
-		slot = table->slot[slot].chain_link;
-	return slot;
 }
 
 /*

@@ -5,7 +5,7 @@ use mathlib.Core.Logic.{inl, inr}
 use native.Mathlib.Omega.{arith}
 use lib.Dec.{eqb}
 use Rattle.model.specs.CheckDigit.{ten, codeDigits, firstWeight, secondWeight, rightCheckDigit}
-use Rattle.check_digits.proofs.Weights.{Weights, weighedBack, sumBack, right-back}
+use Rattle.check_digits.proofs.Weights.{Weights, turned, weighedBack, sumBack, right-back}
 
 -- the weight of a digit and that of the one before it add up to this
 abbrev bothWeights : ℕ
@@ -42,15 +42,11 @@ module _ (code rest weight sum left : ℕ) (k : Adding code rest weight sum left
 
   pub adding-on : 0 < left → Adding code (rest / ten) (bothWeights - weight) (sum + weight * (rest % ten)) (left - 1)
   unfolding weighedBack
-  adding-on h = record { weights = turned (k .weights); few = omega (arith, k .few, adding-few); whole = go left h (k .whole) }
+  adding-on h = record { weights = rw (back (k .weights)) (turned (k .weights)); few = omega (arith, k .few, adding-few); whole = go left h (k .whole) }
     where
       back : Weights weight (bothWeights - weight) → bothWeights - (bothWeights - weight) ≡ weight
       back (inl (e, _)) = omega arith
       back (inr (e, _)) = omega arith
-
-      turned : Weights weight (bothWeights - weight) → Weights (bothWeights - weight) (bothWeights - (bothWeights - weight))
-      turned (inl (e, f)) = inr (f, back (inl (e, f)) ∙ e)
-      turned (inr (e, f)) = inl (f, back (inr (e, f)) ∙ e)
 
       go : (n : ℕ) → 0 < n → sum + weighedBack weight (bothWeights - weight) n rest ≡ sumBack code
           → sum + weight * (rest % ten) + weighedBack (bothWeights - weight) (bothWeights - (bothWeights - weight)) (n - 1) (rest / ten) ≡ sumBack code

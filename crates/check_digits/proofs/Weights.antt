@@ -35,7 +35,7 @@ weighed-set w v (x ∷ ds) (suc p) d h = omega (arith, weighed-set v w ds p d (o
 abbrev pub Weights : ℕ → ℕ → Type 0
 Weights w v = ((w ≡ firstWeight) × (v ≡ secondWeight)) ⊎ ((w ≡ secondWeight) × (v ≡ firstWeight))
 
-turned : {w v : ℕ} → Weights w v → Weights v w
+pub turned : {w v : ℕ} → Weights w v → Weights v w
 turned (inl (a, b)) = inr (b, a)
 turned (inr (a, b)) = inl (b, a)
 
