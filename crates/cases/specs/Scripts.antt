@@ -7,7 +7,8 @@ use Rattle.model.specs.Word.{later}
 use Rattle.model.specs.Lists.{update, isEmpty, any, all, tail, concat, every, concatMap, from, first, last, count}
 use Rattle.model.specs.Lists.{member, same, distinct, successor, successorIn, without, swapped, bit, mask}
 use Rattle.model.specs.State.{isRunning, isHeld}
-use Rattle.model.specs.CheckDigit.{digits, weighed, rightDigits, rightCheckDigit}
+use Rattle.model.specs.Digits.{digits}
+use Rattle.model.specs.CheckDigit.{weighed, rightDigits, rightCheckDigit}
 use Rattle.model.specs.Engine.{started, ended, released, counted, settled, ready, target, requested}
 use Rattle.model.specs.Engine.{advancedLane, advancedGlobal, differs, sampled, clocked, wentOff}
 use Rattle.model.specs.Table.{slotIn, added, replaced, deleted, reclaimed}

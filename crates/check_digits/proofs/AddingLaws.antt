@@ -4,7 +4,8 @@ use mathlib.Core.Path.{_≡_, refl, ap, sym, _∙_}
 use mathlib.Core.Logic.{inl, inr}
 use native.Mathlib.Omega.{arith}
 use lib.Dec.{eqb}
-use Rattle.model.specs.CheckDigit.{ten, codeDigits, firstWeight, secondWeight, rightCheckDigit}
+use Rattle.model.specs.Digits.{ten}
+use Rattle.model.specs.CheckDigit.{codeDigits, firstWeight, secondWeight, rightCheckDigit}
 use Rattle.check_digits.proofs.Weights.{Weights, turned, weighedBack, sumBack, right-back}
 
 -- the weight of a digit and that of the one before it add up to this

@@ -12,9 +12,10 @@ use lib.Seq.{getD-set-other}
 use lib.Dec.{eqb}
 use borrow.Author.Tests.{eq-eqb, ne-eqb, eqb-true, eqb-false}
 use Rattle.model.specs.Layout.{maxCode}
-use Rattle.model.specs.CheckDigit.{ten, codeDigits, digits, firstWeight, secondWeight, weighed, rightDigits, rightCheckDigit}
+use Rattle.model.specs.Digits.{ten, digits, number}
+use Rattle.model.specs.CheckDigit.{codeDigits, firstWeight, secondWeight, weighed, rightDigits, rightCheckDigit}
 use Rattle.laws.specs.Tests.{iff-eq, or-cases, or-else-intro}
-use Rattle.check_digits.proofs.Digits.{Decimal, decimal-set, digits-length, digits-decimal, number, number-digits, digits-number, number-range}
+use Rattle.check_digits.proofs.Digits.{Decimal, decimal-set, digits-length, digits-decimal, number-digits, digits-number, number-range}
 use Rattle.check_digits.proofs.Weights.{weightAt, weighed-set, Weights, weights-at, codeSum, right-weighed}
 
 -- ---- digits of any number, and weights 1, 3 or 3, 1

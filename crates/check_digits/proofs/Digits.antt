@@ -6,7 +6,7 @@ use native.Mathlib.Omega.{arith}
 use native.Mathlib.Nat.{mul-le-mul-right, mul-assoc, pow-suc, pow-succ'}
 use lib.ListN.{length, getD, take, set, length-append}
 use lib.Seq.{take-suc, take-all, length-take-le}
-use Rattle.model.specs.CheckDigit.{ten, digits}
+use Rattle.model.specs.Digits.{ten, digits, numberFrom, number}
 
 -- each is below ten
 abbrev pub Decimal : List ℕ → Type 0
@@ -42,14 +42,6 @@ digits-decimal zero c p = omega arith
 digits-decimal (suc n) c p = decimal-snoc (digits n (c / ten)) (c % ten) (digits-decimal n (c / ten)) (omega arith) p
 
 -- ---- the number that digits say
-
--- after a number v
-unfoldable pub numberFrom : ℕ → List ℕ → ℕ
-numberFrom v [] = v
-numberFrom v (d ∷ ds) = numberFrom (v * ten + d) ds
-
-abbrev pub number : List ℕ → ℕ
-number ds = numberFrom 0 ds
 
 number-snoc : (v : ℕ) (ds : List ℕ) (d : ℕ) → numberFrom v (ds ++ d ∷ []) ≡ numberFrom v ds * ten + d
 unfolding numberFrom

@@ -10,7 +10,8 @@ use lib.Dec.{leb, ltb}
 use borrow.Author.Tests.{le-ltb}
 use Rattle.model.specs.State.{State, laneCount}
 use Rattle.model.specs.Layout.{maxCode, maxDeposit, maxMaterial}
-use Rattle.model.specs.CheckDigit.{ten, codeDigits, rightCheckDigit}
+use Rattle.model.specs.Digits.{ten}
+use Rattle.model.specs.CheckDigit.{codeDigits, rightCheckDigit}
 use Rattle.model.specs.Rules.{Op, add, replace, refused, Cause, firstOf, wrongProduct, laneOf, ofLane, ofEntry, causes, answerOf, answer}
 use Rattle.check_digits.proofs.Caught.{digitAt, fiveApart, mistyped, exchanged}
 use Rattle.check_digits.proofs.Caught.{mistyped-range, mistyped-wrong, exchanged-range, exchanged-caught}

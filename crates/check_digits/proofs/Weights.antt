@@ -7,7 +7,8 @@ use native.Mathlib.Omega.{arith}
 use lib.ListN.{length, getD, take, set}
 use lib.Seq.{length-take-le}
 use lib.Dec.{eqb}
-use Rattle.model.specs.CheckDigit.{ten, codeDigits, digits, firstWeight, secondWeight, weighed, rightDigits, rightCheckDigit}
+use Rattle.model.specs.Digits.{ten, digits}
+use Rattle.model.specs.CheckDigit.{codeDigits, firstWeight, secondWeight, weighed, rightDigits, rightCheckDigit}
 use Rattle.check_digits.proofs.Digits.{snoc-of, digits-length}
 
 -- ---- weights

@@ -4,13 +4,14 @@ use mathlib.Core.Path.{_≡_, refl}
 use Prim.Native.Nat.{ℕ}
 use Prim.Native.String.{String}
 use Rattle.model.specs.Lists.{isEmpty, all, same}
-use Rattle.listing_text.specs.Number.{bytes, isNumber, value, valueFrom, decimal, decimalIn}
+use Rattle.model.specs.Digits.{numberFrom, bytes, value, valueFrom}
+use Rattle.listing_text.specs.Number.{isNumber, decimal, decimalIn}
 use Rattle.listing_text.specs.Call.{longer, wordsOf, commands, lookup, taken, asked, ofWords, parsed}
 use Rattle.listing_text.specs.Answer.{lineText, badText}
 use Rattle.listing.specs.Output.{answered, after, answeredAll, afterAll, ended, unended, lastLine, linesOf, output}
 
 prints : String → List ℕ
-unfolding bytes isEmpty all same isNumber value valueFrom decimal decimalIn longer wordsOf commands lookup taken asked ofWords parsed
+unfolding bytes isEmpty all same isNumber value valueFrom numberFrom decimal decimalIn longer wordsOf commands lookup taken asked ofWords parsed
     lineText badText answered after answeredAll afterAll ended unended lastLine linesOf output
 prints s = output [] (bytes s)
 

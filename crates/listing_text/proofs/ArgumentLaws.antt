@@ -10,7 +10,8 @@ use native.Mathlib.Omega.{arith}
 use lib.ListN.{length, take, set, length-set, length-append, length-take}
 use lib.Seq.{take-suc-set}
 use Rattle.model.specs.Lists.{isEmpty, all}
-use Rattle.listing_text.specs.Number.{isDigit, isNumber, value, valueFrom}
+use Rattle.model.specs.Digits.{numberFrom, isDigit, value, valueFrom}
+use Rattle.listing_text.specs.Number.{isNumber}
 use Rattle.listing_text.specs.Call.{Parsed, bad, Command, asked}
 use Rattle.listing_text.specs.Machine.{arguing, refused, argued, ended, commandOf, fit, requested}
 use Rattle.listing_text.specs.declared.line.Line.{Line}
@@ -49,7 +50,7 @@ is-number b x = refl
 -- a number that fits 64 bits
 number-read : (w n : ℕ) (vs : List ℕ) (b : ℕ) (x : List ℕ) → all isDigit (b ∷ x) ≡ true → value (b ∷ x) < 2 ^ 64
     → ended (grownAll (arguing w n vs 0 false) (b ∷ x)) ≡ argued (arguing w n vs (value (b ∷ x)) true)
-unfolding value valueFrom grownAll all
+unfolding value valueFrom numberFrom grownAll all
 number-read w n vs b x e k =
     let g : 0 * 10 + (b - 48) ≤ valueFrom (0 * 10 + (b - 48)) x = valueFrom-grows (0 * 10 + (b - 48)) x in
     let j : 0 * 10 + (b - 48) < 2 ^ 64 = omega arith in

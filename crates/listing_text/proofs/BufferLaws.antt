@@ -6,7 +6,8 @@ use native.Mathlib.Numerals.{add-one, towards-suc}
 use native.Mathlib.Omega.{arith}
 use lib.ListN.{length, take, drop, set, getD, length-append, length-take, length-drop}
 use lib.Seq.{sets, sets-eq, set-split, take-at, drop-append-add, drop-drop, append-snoc}
-use Rattle.listing_text.specs.Number.{bytes, space, newline, decimal}
+use Rattle.model.specs.Digits.{bytes}
+use Rattle.listing_text.specs.Number.{space, newline, decimal}
 use Rattle.listing_text.specs.Answer.{wordLength, lineLength, badLength, wordText, lineText, answerOf, badText, placed, Puts, PutsWithin}
 use Rattle.listing_text.proofs.NumberLaws.{decimal-length}
 

@@ -11,7 +11,7 @@ use lib.ListN.{length}
 use lib.Dec.{ltb, eqb}
 use borrow.Author.Tests.{lt-ltb, ltb-true, eq-eqb, eqb-true, ne-eqb}
 use Rattle.model.specs.Lists.{all, same}
-use Rattle.listing_text.specs.Number.{bytes}
+use Rattle.model.specs.Digits.{bytes}
 use Rattle.listing_text.specs.Call.{Command, commands, unknown, lookup}
 use Rattle.listing_text.specs.Machine.{naming, refused, lettered, grown, packedFrom, lookupPacked, commandOf}
 use Rattle.listing_text.proofs.Bools.{either, true-false, and-left, and-right, and-true}

@@ -9,7 +9,7 @@ use native.Mathlib.Omega.{arith}
 use lib.Dec.{leb}
 use borrow.Author.Tests.{le-leb, leb-true}
 use Rattle.model.specs.Lists.{all}
-use Rattle.listing_text.specs.Number.{isDigit, valueFrom}
+use Rattle.model.specs.Digits.{numberFrom, isDigit, valueFrom}
 use Rattle.listing_text.specs.Call.{bad}
 use Rattle.listing_text.specs.Machine.{arguing, refused, counted, grown}
 use Rattle.listing_text.specs.declared.line.Line.{Line}
@@ -29,7 +29,7 @@ digit-read w n v vs d b h k =
 
 pub digits-read : (w n v : ℕ) (vs : List ℕ) (x : List ℕ) → all isDigit x ≡ true → valueFrom v x < 2 ^ 64
     → grownAll (arguing w n vs v true) x ≡ arguing w n vs (valueFrom v x) true
-unfolding grownAll all valueFrom
+unfolding grownAll all valueFrom numberFrom
 digits-read w n v vs [] h k = refl
 digits-read w n v vs (b ∷ x) h k =
     let g : v * 10 + (b - 48) ≤ valueFrom (v * 10 + (b - 48)) x = valueFrom-grows (v * 10 + (b - 48)) x in
@@ -62,7 +62,7 @@ abbrev BadAfter : ℕ → ℕ → ℕ → List ℕ → Bool → List ℕ → Typ
 BadAfter w n v vs d x = v < 2 ^ 64 → (all isDigit x ≡ true → 2 ^ 64 ≤ valueFrom v x) → grownAll (arguing w n vs v d) x .bad ≡ true
 
 pub digits-bad : (w n v : ℕ) (vs : List ℕ) (d : Bool) (x : List ℕ) → BadAfter w n v vs d x
-unfolding grownAll all valueFrom
+unfolding grownAll all valueFrom numberFrom
 digits-bad w n v vs d [] h k = absurd (let z : 2 ^ 64 ≤ v = k refl in omega arith)
 digits-bad w n v vs d (b ∷ x) h k = go (either (isDigit b)) (decLt (v * 10 + (b - 48)) (2 ^ 64)) (digits-bad w n (v * 10 + (b - 48)) vs true x)
   where

@@ -4,12 +4,13 @@ use Prim.Native.String.{String}
 use Rattle.model.specs.Lists.{isEmpty, all, same}
 use Rattle.model.specs.Rules.{add, delete, start, pass, step, begin, awaited, accepted}
 use Rattle.model.specs.Calls.{set-up, on-state}
-use Rattle.listing_text.specs.Number.{bytes, isNumber, value, valueFrom, decimal, decimalIn}
+use Rattle.model.specs.Digits.{numberFrom, bytes, value, valueFrom}
+use Rattle.listing_text.specs.Number.{isNumber, decimal, decimalIn}
 use Rattle.listing_text.specs.Call.{Parsed, bad, call, longer, wordsOf, commands, lookup, taken, asked, ofWords, parsed}
 use Rattle.listing_text.specs.Answer.{lineText, badText}
 
 reads : String → Parsed
-unfolding bytes isEmpty all same isNumber value valueFrom longer wordsOf commands lookup taken asked ofWords parsed
+unfolding bytes isEmpty all same isNumber value valueFrom numberFrom longer wordsOf commands lookup taken asked ofWords parsed
 reads s = parsed (bytes s)
 
 setup : reads "setup 1 2 3" ≡ call (set-up 1 2 3)

@@ -7,7 +7,8 @@ use mathlib.Core.Path.{_≡_, refl, sym, ap, _∙_}
 use native.Mathlib.Omega.{arith}
 use lib.Dec.{eqb}
 use Rattle.model.specs.Lists.{all}
-use Rattle.listing_text.specs.Number.{space, isNumber, value}
+use Rattle.model.specs.Digits.{value}
+use Rattle.listing_text.specs.Number.{space, isNumber}
 use Rattle.listing_text.specs.Call.{Parsed, bad, Command, longer, wordsOf, asked, ofWords, parsed}
 use Rattle.listing_text.specs.Machine.{naming, started, grown, ended, fed, fedAll, packedFrom, commandOf, within, askedOf, requested, finished, limitsOf}
 use Rattle.listing_text.specs.LineReading.{parsedOf, Requests, Reads, Finishes}

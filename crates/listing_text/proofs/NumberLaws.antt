@@ -9,14 +9,15 @@ use native.Mathlib.Omega.{arith}
 use lib.ListN.{length, getD, length-append}
 use borrow.Author.Tests.{lt-ltb, le-ltb, le-leb}
 use Rattle.model.specs.Lists.{all}
-use Rattle.listing_text.specs.Number.{isDigit, value, valueFrom, decimal, decimalIn}
+use Rattle.model.specs.Digits.{numberFrom, isDigit, value, valueFrom}
+use Rattle.listing_text.specs.Number.{decimal, decimalIn}
 use Rattle.listing_text.proofs.Bools.{and-left, and-right, and-true}
 
 -- ---- values
 
 -- digits that follow make a number no smaller
 pub valueFrom-grows : (v : ℕ) (w : List ℕ) → v ≤ valueFrom v w
-unfolding valueFrom
+unfolding valueFrom numberFrom
 valueFrom-grows v [] = le-refl v
 valueFrom-grows v (b ∷ w) =
     let h : v ≤ v * 10 + (b - 48) = omega arith in

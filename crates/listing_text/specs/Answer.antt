@@ -4,7 +4,8 @@ use mathlib.Core.List.{List, [], _∷_, _++_}
 use mathlib.Core.Path.{_≡_}
 use lib.ListN.{length, take, drop, getD}
 use Rattle.model.specs.Rules.{Answer}
-use Rattle.listing_text.specs.Number.{bytes, space, newline, decimal}
+use Rattle.model.specs.Digits.{bytes}
+use Rattle.listing_text.specs.Number.{space, newline, decimal}
 
 -- the most bytes that a number of 32 bits takes with the byte after it, ten digits and one; that five of them take; and that bad takes with its newline
 abbrev pub wordLength : ℕ

@@ -7,7 +7,8 @@ use lib.Dec.{ltb, eqb}
 use Rattle.model.specs.Lists.{all, same}
 use Rattle.model.specs.Rules.{add, replace, delete, start, pass, begin, end, step, clock, on, off, hand-back, awaited}
 use Rattle.model.specs.Calls.{Call, set-up, on-state}
-use Rattle.listing_text.specs.Number.{bytes, space, isNumber, value}
+use Rattle.model.specs.Digits.{bytes, value}
+use Rattle.listing_text.specs.Number.{space, isNumber}
 
 pub data Parsed : Type 0 where
   bad : Parsed

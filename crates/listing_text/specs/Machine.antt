@@ -5,7 +5,8 @@ use mathlib.Core.Bool.{Bool, true, false, cond, _&&_}
 use mathlib.Core.List.{List, [], _∷_}
 use lib.ListN.{take, set, getD}
 use lib.Dec.{leb, ltb, eqb}
-use Rattle.listing_text.specs.Number.{space, digitZero, digitNine, base}
+use Rattle.model.specs.Digits.{ten, digitZero, digitNine, digitOf}
+use Rattle.listing_text.specs.Number.{space}
 use Rattle.listing_text.specs.Call.{Parsed, bad, word, code, Takes, Command, commands, unknown, asked}
 use Rattle.listing_text.specs.declared.line.Line.{Line}
 
@@ -69,7 +70,7 @@ unfoldable pub counted : Line → ℕ → Line
 counted l b =
     cond (ltb b digitZero) (refused l)
     (cond (ltb digitNine b) (refused l)
-    (cond (leb (l .value) ((code - 1 - (b - digitZero)) / base)) (withValue l (l .value * base + (b - digitZero))) (refused l)))
+    (cond (leb (l .value) ((code - 1 - digitOf b) / ten)) (withValue l (l .value * ten + digitOf b)) (refused l)))
 
 -- a byte that is no space
 unfoldable pub grown : Line → ℕ → Line

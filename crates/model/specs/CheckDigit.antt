@@ -1,21 +1,14 @@
 -- The check digit of a code, GS1's (document 02, request 1). Clients cite `rightCheckDigit`.
-use Prim.Native.Nat.{ℕ, zero, suc, _+_, _-_, _*_, _/_, _%_}
+use Prim.Native.Nat.{ℕ, _+_, _-_, _*_, _%_}
 use mathlib.Core.Bool.{Bool}
-use mathlib.Core.List.{List, [], _∷_, _++_}
+use mathlib.Core.List.{List, [], _∷_}
 use lib.ListN.{getD, take}
 use lib.Dec.{eqb}
-
-abbrev pub ten : ℕ
-ten = 10
+use Rattle.model.specs.Digits.{ten, digits}
 
 -- how many digits a code has, zeros included
 abbrev pub codeDigits : ℕ
 codeDigits = 13
-
--- the last n digits of a number, zeros included, counted from the left
-unfoldable pub digits : ℕ → ℕ → List ℕ
-digits zero c = []
-digits (suc n) c = digits n (c / ten) ++ (c % ten ∷ [])
 
 -- the weights of the first digit from the left and of the second
 abbrev pub firstWeight : ℕ

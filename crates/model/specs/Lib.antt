@@ -3,6 +3,7 @@ pub mod Word
 pub mod Lists
 pub mod State
 pub mod Layout
+pub mod Digits
 pub mod CheckDigit
 pub mod Engine
 pub mod Table

@@ -3,7 +3,7 @@
 use borrow.Author.Needs.{needs}
 use mathlib.Core.Path.{refl}
 use lib.Dec.{lit≤}
-use Rattle.listing_text.specs.Number.{bytes}
+use Rattle.model.specs.Digits.{bytes}
 use Rattle.listing_text.specs.Call.{commands}
 use Rattle.listing_text.specs.Machine.{packedFrom, lookupPacked, commandOf, handed}
 use Rattle.listing_text.specs.LineReading.{parsedOf}
