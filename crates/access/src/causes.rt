@@ -34,3 +34,5 @@ pub const LAST_LANE: u32 = 15;
 pub const NOTHING_DONE: u32 = 16;
 
 pub const WRONG_DIGIT: u32 = 17;
+
+pub const WRONG_LABEL: u32 = 18;

@@ -1,5 +1,6 @@
--- Tables of scripts, and how they are run: by the definitions of `model`, through legality, reading and writing at every call.
+-- Tables of scripts, and how they are run: by the definitions of `model`, through legality, reading and writing at every call; and of labels.
 use Prim.Native.Nat.{ℕ}
+use Prim.Native.String.{String}
 use mathlib.Core.Bool.{Bool}
 use mathlib.Core.List.{List, [], _∷_, _++_, map}
 use lib.ListN.{replicate, set}
@@ -7,8 +8,8 @@ use Rattle.model.specs.Word.{later}
 use Rattle.model.specs.Lists.{update, isEmpty, any, all, tail, concat, every, concatMap, from, first, last, count}
 use Rattle.model.specs.Lists.{member, same, distinct, successor, successorIn, without, swapped, bit, mask}
 use Rattle.model.specs.State.{isRunning, isHeld}
-use Rattle.model.specs.Digits.{digits}
-use Rattle.model.specs.CheckDigit.{weighed, rightDigits, rightCheckDigit}
+use Rattle.model.specs.Digits.{digits, numberFrom, bytes, digitOf}
+use Rattle.model.specs.CheckDigit.{weighed, rightFromRight, rightDigits, rightCheckDigit}
 use Rattle.model.specs.Engine.{started, ended, released, counted, settled, ready, target, requested}
 use Rattle.model.specs.Engine.{advancedLane, advancedGlobal, differs, sampled, clocked, wentOff}
 use Rattle.model.specs.Table.{slotIn, added, replaced, deleted, reclaimed}
@@ -18,6 +19,8 @@ use Rattle.model.specs.Memory.{globalWords, words, walk, readChains, readLane, 
 use Rattle.model.specs.Legal.{sizesFit, contentsAgree, flagsInRange, masksInRange, linksInRange, fieldsInRange, standsOnce, lastsAgree, onTheirChains}
 use Rattle.model.specs.Legal.{noCodeTwice, snapshotsAtRest, lookupsAtRest, generationsAtRest, queueLinksAtRest, offLanes, lookupsInSections}
 use Rattle.model.specs.Legal.{snapshotsPending, cabinetBits, freeBlank, largestAgrees, laneGenerations, globalGeneration, legal}
+use Rattle.model.specs.Labels.{noLabel, labelCode, readRefusal, readReplyOf, readReply}
+use Rattle.model.specs.Labels.{labelLength, labelText, writeRefusal, writeReplyOf, writtenOf, writeReply, written}
 use Rattle.model.specs.Calls.{Call, set-up, on-state, refusalOf, replyOf, leftOf, reply, left, replies, leftAll}
 
 -- the five words of an answer
@@ -29,7 +32,7 @@ unfoldable pub answered : List ℕ → List Call → List (List ℕ)
 unfolding later
     update isEmpty any all tail concat every concatMap from first last count member same distinct successor successorIn without swapped bit mask
     isRunning isHeld
-    digits weighed rightDigits rightCheckDigit
+    digits weighed rightFromRight rightDigits rightCheckDigit
     started ended released counted settled ready target requested advancedLane advancedGlobal differs sampled clocked wentOff
     slotIn added replaced deleted reclaimed
     firstOf causes outcomeAnswer outcome continued performed pendingFrom queuedIn result fresh
@@ -79,11 +82,15 @@ abbrev pub outputOf : Line → List ℕ
 outputOf (line k s a b c d) = s ∷ a ∷ b ∷ c ∷ d ∷ []
 
 -- a row of a table. `script`: the number of words lent, and the lines. `poked`: the same, with a word put at an address between the first lines and the
--- others. `order`: whether generation a is later than b
+-- others. `order`: whether generation a is later than b. `digit`: whether a text of digits ends with a right check digit. `reads`: a text, and the status and
+-- two words of the reader's answer. `writes`: a text and a code, the status and a word of the writer's answer, and the text after it
 pub data Row : Type 0 where
   script : (lent : ℕ) (lines : List Line) → Row
   poked : (lent : ℕ) (lines : List Line) (address word : ℕ) (others : List Line) → Row
   order : (a b : ℕ) (isLater : Bool) → Row
+  digit : (text : String) (isRight : Bool) → Row
+  reads : (text : String) (status a b : ℕ) → Row
+  writes : (text : String) (code status a : ℕ) (after : String) → Row
 
 -- a truth as a line of output
 abbrev pub verdict : Bool → List (List ℕ)
@@ -91,15 +98,23 @@ verdict b = (bit b ∷ []) ∷ []
 
 -- what a row must give
 unfoldable pub expected : Row → List (List ℕ)
+unfolding bytes
 expected (script n ls) = map outputOf ls
 expected (poked n ls a w ks) = map outputOf (ls ++ ks)
 expected (order a b t) = verdict t
+expected (digit x t) = verdict t
+expected (reads x s a b) = (s ∷ a ∷ b ∷ 0 ∷ 0 ∷ []) ∷ []
+expected (writes x c s a y) = (s ∷ a ∷ 0 ∷ 0 ∷ 0 ∷ []) ∷ bytes y ∷ []
 
 -- what it gives
 unfoldable pub run : Row → List (List ℕ)
-unfolding answered leftAll
+unfolding answered leftAll bytes numberFrom noLabel labelCode readRefusal readReplyOf readReply
+    labelLength labelText writeRefusal writeReplyOf writtenOf writeReply written
 run (script n ls) = answered (lentWords n) (map callOf ls)
 run (poked n ls a w ks) =
     let cs = map callOf ls in
     answered (lentWords n) cs ++ answered (set (leftAll (lentWords n) cs) a w) (map callOf ks)
 run (order a b t) = verdict (later a b)
+run (digit x t) = verdict (rightDigits (map digitOf (bytes x)))
+run (reads x s a b) = fiveWords (readReply (bytes x)) ∷ []
+run (writes x c s a y) = fiveWords (writeReply (bytes x) c) ∷ written (bytes x) c ∷ []

@@ -1,15 +1,14 @@
 -- The cases that document 01 marks with a star ("A listing, and edges", last paragraph), in its order and as document 02 changes them, and then
 -- those of document 02's requests.
-use Prim.Native.Nat.{ℕ, _+_, _-_, _<_}
+use Prim.Native.Nat.{ℕ, _+_, _-_}
 use mathlib.Core.Path.{_≡_, refl}
 use mathlib.Core.Bool.{true, false}
-use mathlib.Core.List.{List, [], _∷_, map}
-use Rattle.model.specs.Word.{wordLimit, later}
+use mathlib.Core.List.{List, [], _∷_, _++_, map}
 use Rattle.model.specs.Rules.{add, replace, delete, begin, end, start, step, pass, clock, hand-back, awaited}
-use Rattle.model.specs.Layout.{codeAt, slotAddress}
+use Rattle.model.specs.Layout.{codeAt, slotAddress, lookupAt, laneAddress}
 use Rattle.model.specs.Calls.{set-up, sized}
-use Rattle.laws.specs.Generations.{later-self}
-use Rattle.cases.specs.Scripts.{Line, line, op, setUp111, setUp112, setUp123, largestTotal, Row, script, poked, order, expected, run}
+use Rattle.cases.specs.Scripts.{Line, line, op, setUp111, setUp112, setUp123, largestTotal}
+use Rattle.cases.specs.Scripts.{Row, script, poked, order, digit, reads, writes, expected, run}
 
 -- the listing
 abbrev pub listing : List Line
@@ -55,13 +54,18 @@ deletedUnderway =
     ∷ op (step 0) 0 1 0 25 1
     ∷ []
 
--- the largest code, the largest with a right check digit, and one past the range
+-- the largest codes of thirteen and of fourteen digits, the largest of each with a right check digit, the smallest of fourteen, and one past the range
 abbrev pub codeLimit : List Line
 codeLimit =
     setUp123
     ∷ op (add 0 9999999999999 25 1) 17 0 0 0 0
     ∷ op (add 0 9999999999994 25 1) 0 0 0 0 0
-    ∷ op (add 0 10000000000000 25 1) 11 0 0 0 0
+    ∷ op (add 0 10000000000000 25 1) 17 0 0 0 0
+    ∷ op (add 0 99999999999999 25 1) 17 0 0 0 0
+    ∷ op (add 0 99999999999997 25 1) 0 1 0 0 0
+    ∷ op (add 0 100000000000000 25 1) 11 0 0 0 0
+    ∷ op (delete 0 99999999999999) 13 0 0 0 0
+    ∷ op (delete 0 100000000000000) 11 0 0 0 0
     ∷ []
 
 -- ---- request 1: check digit on office entries
@@ -108,6 +112,86 @@ olderRecord =
     ∷ op awaited 0 0 4294967295 0 1
     ∷ []
 
+-- ---- request 2: labels of eight, thirteen and fourteen digits
+
+-- a record and a running lookup of code 99,999,999,999,744
+abbrev pub beforeLimit : List Line
+beforeLimit =
+    setUp111
+    ∷ op (add 0 99999999999744 25 1) 0 0 0 0 0
+    ∷ op (begin 0) 0 0 0 0 0
+    ∷ op (start 0 99999999999744) 0 0 0 0 0
+    ∷ []
+
+-- its low word as that of 99,999,999,999,936, the last of that chain in range, and as that of 100,000,000,000,000, of that chain too
+abbrev pub lastLow : ℕ
+lastLow = 276447168
+
+abbrev pub pastLow : ℕ
+pastLow = 276447232
+
+-- a legal memory: record and lookup have different codes, so nothing is found
+abbrev pub stillLegal : List Line
+stillLegal = op (step 0) 0 0 0 0 0 ∷ op (step 0) 0 2 0 0 0 ∷ []
+
+abbrev pub notLegal : List Line
+notLegal = op (step 0) 3 0 0 0 0 ∷ []
+
+-- a right label of each length; one of them filled with zeros; one digit less, and another digit
+abbrev pub labelDigits : List Row
+labelDigits =
+    digit "96385074" true
+    ∷ digit "4006381333931" true
+    ∷ digit "10012345678902" true
+    ∷ digit "0000096385074" true
+    ∷ digit "00000096385074" true
+    ∷ digit "9638507" false
+    ∷ digit "96385075" false
+    ∷ digit "10000000000000" false
+    ∷ digit "0" true
+    ∷ []
+
+-- the three lengths; the check digit is not judged; other lengths; other bytes: a blank, those next to the digits' and the last of all
+abbrev pub labelsRead : List Row
+labelsRead =
+    reads "96385074" 0 96385074 0
+    ∷ reads "4006381333931" 0 3471814059 932
+    ∷ reads "10012345678902" 0 776911926 2331
+    ∷ reads "0000096385074" 0 96385074 0
+    ∷ reads "00000001" 0 1 0
+    ∷ reads "99999999999999" 0 276447231 23283
+    ∷ reads "" 18 0 0
+    ∷ reads "6385074" 18 0 0
+    ∷ reads "096385074" 18 0 0
+    ∷ reads "400638133393" 18 0 0
+    ∷ reads "000004006381333931" 18 0 0
+    ∷ reads "010012345678902" 18 0 0
+    ∷ reads "4006381 33931" 18 0 0
+    ∷ reads " 96385074" 18 0 0
+    ∷ reads "9638507:" 18 0 0
+    ∷ reads "/6385074" 18 0 0
+    ∷ []
+
+-- each length's largest code and the next; the bytes after stay; a text as long as the label, and one byte shorter; the range is tested first
+abbrev pub labelsWritten : List Row
+labelsWritten =
+    writes "abcdefghijklmnop" 0 0 8 "00000000ijklmnop"
+    ∷ writes "abcdefghijklmnop" 96385074 0 8 "96385074ijklmnop"
+    ∷ writes "abcdefghijklmnop" 99999999 0 8 "99999999ijklmnop"
+    ∷ writes "abcdefghijklmnop" 100000000 0 13 "0000100000000nop"
+    ∷ writes "abcdefghijklmnop" 9999999999999 0 13 "9999999999999nop"
+    ∷ writes "abcdefghijklmnop" 10000000000000 0 14 "10000000000000op"
+    ∷ writes "abcdefghijklmnop" 99999999999999 0 14 "99999999999999op"
+    ∷ writes "abcdefghijklmnop" 100000000000000 11 0 "abcdefghijklmnop"
+    ∷ writes "abcdefgh" 99999999 0 8 "99999999"
+    ∷ writes "abcdefg" 99999999 18 0 "abcdefg"
+    ∷ writes "abcdefghijklm" 100000000 0 13 "0000100000000"
+    ∷ writes "abcdefghijkl" 100000000 18 0 "abcdefghijkl"
+    ∷ writes "abcdefghijklm" 10000000000000 18 0 "abcdefghijklm"
+    ∷ writes "" 0 18 0 ""
+    ∷ writes "" 100000000000000 11 0 ""
+    ∷ []
+
 -- ---- all of them
 
 abbrev pub stars : List Row
@@ -127,15 +211,13 @@ stars =
     ∷ script 200 typedCodes
     ∷ script 200 digitAfterRange
     ∷ poked 200 beforeOlder (slotAddress (sized 1 1 2) 0 + codeAt) 18 olderRecord
-    ∷ []
+    ∷ poked 200 beforeLimit (slotAddress (sized 1 1 1) 0 + codeAt) lastLow stillLegal
+    ∷ poked 200 beforeLimit (slotAddress (sized 1 1 1) 0 + codeAt) pastLow notLegal
+    ∷ poked 200 beforeLimit (laneAddress (sized 1 1 1) 0 + lookupAt) lastLow stillLegal
+    ∷ poked 200 beforeLimit (laneAddress (sized 1 1 1) 0 + lookupAt) pastLow notLegal
+    ∷ (labelDigits ++ labelsRead ++ labelsWritten)
 
--- all of them
-pub record Stars : Type 0 where
-  -- each row comes out
-  pub table : map run stars ≡ map expected stars
-  -- and no generation at all is later than itself
-  pub notLaterThanItself : (g : ℕ) → g < wordLimit → later g g ≡ false
-
-pub stars-hold : Stars
+-- each row comes out. That no generation at all is later than itself is a law (`laws` Generations `later-self`)
+pub stars-hold : map run stars ≡ map expected stars
 unfolding run expected
-stars-hold = record { table = refl; notLaterThanItself = λ g b. later-self b }
+stars-hold = refl

@@ -1,12 +1,13 @@
--- What a right check digit is worth to an office that types codes. `mistyped-wrong`: one wrong digit is always caught. `exchanged-caught`: two neighbouring
--- digits exchanged are caught unless they differ by 5. Both over every code and place; shown for digits of any number, and then of codes.
-use Prim.Native.Nat.{ℕ, suc, _+_, _*_, _/_, _%_, _≤_, _<_}
+-- What a right check digit is worth to an office that types labels. `mistyped-wrong`: one wrong digit is always caught. `exchanged-caught`: two neighbouring
+-- digits exchanged are caught unless they differ by 5. Both for any number of digits, and every place. `right-number`: the check digit of a code is right
+-- where that of the digits is which say it.
+use Prim.Native.Nat.{ℕ, suc, _+_, _-_, _*_, _/_, _%_, _^_, _≤_, _<_}
 use mathlib.Core.Path.{_≡_, refl, ap, sym, _∙_}
 use mathlib.Core.Logic.{_⊎_, inl, inr, _≢_}
 use mathlib.Core.Bool.{Bool, true, false, _||_}
 use mathlib.Core.List.{List}
 use native.Mathlib.Omega.{arith}
-use native.Mathlib.Nat.{add-mul-mod-self-left}
+use native.Mathlib.Nat.{add-mul-mod-self-left, pow-le-pow-right}
 use lib.ListN.{length, getD, set, length-set}
 use lib.Seq.{getD-set-other}
 use lib.Dec.{eqb}
@@ -15,10 +16,10 @@ use Rattle.model.specs.Layout.{maxCode}
 use Rattle.model.specs.Digits.{ten, digits, number}
 use Rattle.model.specs.CheckDigit.{codeDigits, firstWeight, secondWeight, weighed, rightDigits, rightCheckDigit}
 use Rattle.laws.specs.Tests.{iff-eq, or-cases, or-else-intro}
-use Rattle.check_digits.proofs.Digits.{Decimal, decimal-set, digits-length, digits-decimal, number-digits, digits-number, number-range}
-use Rattle.check_digits.proofs.Weights.{weightAt, weighed-set, Weights, weights-at, codeSum, right-weighed}
+use Rattle.check_digits.proofs.Digits.{Decimal, number-digits, number-range, digits-padded}
+use Rattle.check_digits.proofs.Weights.{weightAt, weighed-set, Weights, weights-at, weighed-reverse, right-sum, right-zeros}
 
--- ---- digits of any number, and weights 1, 3 or 3, 1
+-- ---- sums from the left, with weights 1, 3 or 3, 1
 
 -- two numbers that differ by a multiple of m leave the same rest
 same-rest : (m x q y r : ℕ) → x + m * q ≡ y + m * r → x % m ≡ y % m
@@ -49,7 +50,7 @@ module _ (w v : ℕ) (weights : Weights w v) (ds : List ℕ) (h : Decimal ds) (r
       t : ℕ
       t = weighed w v (set ds p d) / ten
 
-      go : Weights (weightAt w v p) (weightAt w v (suc p)) → ⊥
+      go : Weights (weightAt w v p) (weightAt v w p) → ⊥
       go (inl (e, _)) =
           let sums = rw e at change in
           other (omega (arith, was, same-rest ten d s x t (omega arith)))
@@ -105,6 +106,7 @@ five-apart s t a b h ka kb e = iff-eq (eqb (t % ten) 0) (equalOrFiveApart a b) t
 module _ (w v : ℕ) (weights : Weights w v) (ds : List ℕ) (h : Decimal ds) (right : Tens w v ds) (p : ℕ) (k : suc p < length ds) where
   -- two neighbours are exchanged
   pub exchange-right : eqb (weighed w v (exchange ds p) % ten) 0 ≡ equalOrFiveApart (getD ds p 0) (getD ds (suc p) 0)
+  unfolding weightAt
   exchange-right = five-apart (weighed w v ds) (weighed w v (exchange ds p)) a b right (h p) (h (suc p)) (go (weights-at w v weights p))
     where
       a : ℕ
@@ -116,95 +118,81 @@ module _ (w v : ℕ) (weights : Weights w v) (ds : List ℕ) (h : Decimal ds) (r
       first : weighed w v (set ds p b) + weightAt w v p * a ≡ weighed w v ds + weightAt w v p * b
       first = weighed-set w v ds p b (omega arith)
 
-      second : weighed w v (exchange ds p) + weightAt w v (suc p) * b ≡ weighed w v (set ds p b) + weightAt w v (suc p) * a
+      second : weighed w v (exchange ds p) + weightAt v w p * b ≡ weighed w v (set ds p b) + weightAt v w p * a
       second =
           let inside : suc p < length (set ds p b) = omega (arith, length-set ds p b) in
           rw (getD-set-other ds p (suc p) b 0 (λ e. absurd (omega arith))) at (weighed-set w v (set ds p b) (suc p) a inside)
 
-      go : Weights (weightAt w v p) (weightAt w v (suc p))
+      go : Weights (weightAt w v p) (weightAt v w p)
           → (weighed w v (exchange ds p) + 2 * b ≡ weighed w v ds + 2 * a) ⊎ (weighed w v (exchange ds p) + 2 * a ≡ weighed w v ds + 2 * b)
       go (inl (e, f)) = inl (omega (arith, rw e at first, rw f at second))
       go (inr (e, f)) = inr (omega (arith, rw e at first, rw f at second))
 
--- ---- codes
+-- ---- a right check digit
 
--- codes in range are those of thirteen digits
-pub code-digits : (c : ℕ) → c ≤ maxCode → number (digits codeDigits c) ≡ c
-code-digits c h = number-digits codeDigits c (omega arith)
+-- the sum from the left that decides over ds, and over any other digits of as many places
+module _ (ds : List ℕ) (n : ℕ) (e : length ds ≡ n) where
+  abbrev w : ℕ
+  w = weightAt firstWeight secondWeight n
 
--- the digit of a code at place p, counted from the left
-abbrev pub digitAt : ℕ → ℕ → ℕ
-digitAt c p = getD (digits codeDigits c) p 0
+  abbrev v : ℕ
+  v = weightAt secondWeight firstWeight n
 
--- a code with the digit d at place p
-abbrev pub mistyped : ℕ → ℕ → ℕ → ℕ
-mistyped c p d = number (set (digits codeDigits c) p d)
+  decided : rightDigits ds ≡ eqb (weighed w v ds % ten) 0
+  decided =
+      right-sum ds
+      ∙ ap (λ (x : ℕ). eqb (x % ten) 0)
+      (weighed-reverse secondWeight firstWeight ds
+      ∙ ap (λ (k : ℕ). weighed (weightAt firstWeight secondWeight k) (weightAt secondWeight firstWeight k) ds) e)
 
--- a code with the digits at places p and p + 1 exchanged
-abbrev pub exchanged : ℕ → ℕ → ℕ
-exchanged c p = number (exchange (digits codeDigits c) p)
+module _ (ds : List ℕ) (h : Decimal ds) (right : rightDigits ds ≡ true) where
+  abbrev n : ℕ
+  n = length ds
 
-module _ (ds : List ℕ) (e : length ds ≡ codeDigits) (h : Decimal ds) where
-  -- the sum decides
-  right-number : rightCheckDigit (number ds) ≡ eqb (codeSum ds % ten) 0
-  unfolding rightCheckDigit
-  right-number = ap rightDigits (digits-number codeDigits ds e h) ∙ right-weighed ds e
+  weights : Weights (w ds n refl) (v ds n refl)
+  weights = weights-at firstWeight secondWeight (inr (refl, refl)) n
 
-  in-range : number ds ≤ maxCode
-  in-range = omega (arith, rw e at (number-range ds h))
+  tens : Tens (w ds n refl) (v ds n refl) ds
+  tens = eqb-true (weighed (w ds n refl) (v ds n refl) ds % ten) 0 (sym (decided ds n refl) ∙ right)
 
--- the weights of a code
-weights : Weights firstWeight secondWeight
-weights = inl (refl, refl)
+  -- one wrong digit is always caught
+  pub mistyped-wrong : (p d : ℕ) → p < length ds → d < ten → d ≢ getD ds p 0 → rightDigits (set ds p d) ≡ false
+  mistyped-wrong p d place digit other =
+      decided (set ds p d) n (length-set ds p d)
+      ∙ ne-eqb (weighed (w ds n refl) (v ds n refl) (set ds p d) % ten) 0
+      (other-digit (w ds n refl) (v ds n refl) weights ds h tens p d place digit other)
 
-module _ (c : ℕ) where
-  abbrev ds : List ℕ
-  ds = digits codeDigits c
-
-  length-ds : length ds ≡ codeDigits
-  length-ds = digits-length codeDigits c
-
-  decimal : Decimal ds
-  decimal = digits-decimal codeDigits c
-
-  tens : rightCheckDigit c ≡ true → Tens firstWeight secondWeight ds
-  unfolding rightCheckDigit
-  tens right = eqb-true (codeSum ds % ten) 0 (sym (right-weighed ds length-ds) ∙ right)
-
-  module _ (p d : ℕ) (place : p < codeDigits) (digit : d < ten) where
-    pub mistyped-range : mistyped c p d ≤ maxCode
-    mistyped-range = in-range (set ds p d) (length-set ds p d ∙ length-ds) (decimal-set ds p d decimal digit)
-
-    -- one wrong digit is always caught
-    pub mistyped-wrong : rightCheckDigit c ≡ true → d ≢ digitAt c p → rightCheckDigit (mistyped c p d) ≡ false
-    mistyped-wrong right other =
-        right-number (set ds p d) (length-set ds p d ∙ length-ds) (decimal-set ds p d decimal digit)
-        ∙ ne-eqb (codeSum (set ds p d) % ten) 0
-        (other-digit firstWeight secondWeight weights ds decimal (tens right) p d (omega (arith, length-ds)) digit other)
-
-  module _ (p : ℕ) (place : suc p < codeDigits) where
+  module _ (p : ℕ) (place : suc p < length ds) where
     abbrev a : ℕ
-    a = digitAt c p
+    a = getD ds p 0
 
     abbrev b : ℕ
-    b = digitAt c (suc p)
-
-    exchange-length : length (exchange ds p) ≡ codeDigits
-    exchange-length = length-set (set ds p b) (suc p) a ∙ length-set ds p b ∙ length-ds
-
-    exchange-decimal : Decimal (exchange ds p)
-    exchange-decimal = decimal-set (set ds p b) (suc p) a (decimal-set ds p b decimal (decimal (suc p))) (decimal p)
-
-    pub exchanged-range : exchanged c p ≤ maxCode
-    exchanged-range = in-range (exchange ds p) exchange-length exchange-decimal
+    b = getD ds (suc p) 0
 
     -- two neighbours exchanged pass exactly where they are equal or differ by 5
-    pub exchanged-right : rightCheckDigit c ≡ true → rightCheckDigit (exchanged c p) ≡ equalOrFiveApart (digitAt c p) (digitAt c (suc p))
-    exchanged-right right =
-        right-number (exchange ds p) exchange-length exchange-decimal
-        ∙ exchange-right firstWeight secondWeight weights ds decimal (tens right) p (omega (arith, length-ds))
+    pub exchanged-right : rightDigits (exchange ds p) ≡ equalOrFiveApart (getD ds p 0) (getD ds (suc p) 0)
+    exchanged-right =
+        decided (exchange ds p) n (length-set (set ds p b) (suc p) a ∙ length-set ds p b)
+        ∙ exchange-right (w ds n refl) (v ds n refl) weights ds h tens p place
 
     -- two that are not equal are caught unless they differ by 5
-    pub exchanged-caught : rightCheckDigit c ≡ true → digitAt c p ≢ digitAt c (suc p)
-        → rightCheckDigit (exchanged c p) ≡ fiveApart (digitAt c p) (digitAt c (suc p))
-    exchanged-caught right other = exchanged-right right ∙ ap (λ (x : Bool). x || fiveApart a b) (ne-eqb a b other)
+    pub exchanged-caught : getD ds p 0 ≢ getD ds (suc p) 0 → rightDigits (exchange ds p) ≡ fiveApart (getD ds p 0) (getD ds (suc p) 0)
+    exchanged-caught other = exchanged-right ∙ ap (λ (x : Bool). x || fiveApart a b) (ne-eqb a b other)
+
+-- ---- codes
+
+module _ (ds : List ℕ) (few : length ds ≤ codeDigits) (h : Decimal ds) where
+  -- the code that at most fourteen digits say has a right check digit where they do
+  pub right-number : rightCheckDigit (number ds) ≡ rightDigits ds
+  unfolding rightCheckDigit
+  right-number = ap rightDigits (digits-padded codeDigits ds few h) ∙ right-zeros (codeDigits - length ds) ds
+
+  -- and it is in range
+  pub number-fits : number ds ≤ maxCode
+  number-fits =
+      let wider : ten ^ length ds ≤ ten ^ codeDigits = pow-le-pow-right (omega arith) few in
+      omega (arith, number-range ds h)
+
+-- codes in range are those of fourteen digits
+pub code-digits : (c : ℕ) → c ≤ maxCode → number (digits codeDigits c) ≡ c
+code-digits c h = number-digits codeDigits c (omega arith)

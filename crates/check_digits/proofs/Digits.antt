@@ -1,10 +1,11 @@
--- Decimal digits, counted from the left: the last n digits of a number (the model's `digits`), the number that digits say, and that the two are one to one.
-use Prim.Native.Nat.{ℕ, zero, suc, _+_, _*_, _/_, _%_, _^_, _≤_, _<_}
+-- Decimal digits, counted from the left: the last n digits of a number (the model's `digits`), the number that digits say, that the two are one to one,
+-- and zeros filled in on the left.
+use Prim.Native.Nat.{ℕ, zero, suc, _+_, _-_, _*_, _/_, _%_, _^_, _≤_, _<_}
 use mathlib.Core.Path.{_≡_, refl, ap, sym, _∙_}
-use mathlib.Core.List.{List, [], _∷_, _++_}
+use mathlib.Core.List.{List, [], _∷_, _++_, reverse, reverse-append}
 use native.Mathlib.Omega.{arith}
 use native.Mathlib.Nat.{mul-le-mul-right, mul-assoc, pow-suc, pow-succ'}
-use lib.ListN.{length, getD, take, set, length-append}
+use lib.ListN.{length, getD, take, set, replicate, length-append, length-replicate}
 use lib.Seq.{take-suc, take-all, length-take-le}
 use Rattle.model.specs.Digits.{ten, digits, numberFrom, number}
 
@@ -40,6 +41,11 @@ pub digits-decimal : (n c : ℕ) → Decimal (digits n c)
 unfolding digits
 digits-decimal zero c p = omega arith
 digits-decimal (suc n) c p = decimal-snoc (digits n (c / ten)) (c % ten) (digits-decimal n (c / ten)) (omega arith) p
+
+-- from the right
+pub digits-back : (n c : ℕ) → reverse (digits (suc n) c) ≡ c % ten ∷ reverse (digits n (c / ten))
+unfolding digits
+digits-back n c = reverse-append (digits n (c / ten)) (c % ten ∷ [])
 
 -- ---- the number that digits say
 
@@ -90,3 +96,26 @@ number-below v (d ∷ ds) h =
 -- a number of n digits is below the n-th power of ten
 pub number-range : (ds : List ℕ) → Decimal ds → number ds < ten ^ length ds
 number-range ds h = omega (arith, number-below 0 ds h)
+
+-- ---- zeros filled in on the left
+
+-- n digits, of which those of ds are the last
+abbrev pub padded : ℕ → List ℕ → List ℕ
+padded n ds = replicate (n - length ds) 0 ++ ds
+
+pub number-zeros : (k : ℕ) (ds : List ℕ) → number (replicate k 0 ++ ds) ≡ number ds
+unfolding numberFrom
+number-zeros zero ds = refl
+number-zeros (suc k) ds = number-zeros k ds
+
+pub decimal-zeros : (k : ℕ) (ds : List ℕ) → Decimal ds → Decimal (replicate k 0 ++ ds)
+decimal-zeros zero ds h p = h p
+decimal-zeros (suc k) ds h zero = omega arith
+decimal-zeros (suc k) ds h (suc p) = decimal-zeros k ds h p
+
+-- the last n digits of the number that at most n digits say are those, filled with zeros
+pub digits-padded : (n : ℕ) (ds : List ℕ) → length ds ≤ n → Decimal ds → digits n (number ds) ≡ padded n ds
+digits-padded n ds few h =
+    let zeros : List ℕ = replicate (n - length ds) 0 in
+    let whole : length (padded n ds) ≡ n = omega (arith, length-append zeros ds, length-replicate {A = ℕ} (n - length ds) 0) in
+    ap (digits n) (sym (number-zeros (n - length ds) ds)) ∙ digits-number n (padded n ds) whole (decimal-zeros (n - length ds) ds h)

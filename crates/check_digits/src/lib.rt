@@ -4,8 +4,8 @@ ghost use Rattle.model.specs.CheckDigit.{rightCheckDigit};
 
 const TEN: u64 = 10;
 
-// How many digits a code has, zeros included.
-const CODE_DIGITS: u32 = 13;
+// How many digits a code has, filled with zeros on the left.
+const CODE_DIGITS: u32 = 14;
 
 // The weight of the last digit, and what it and the weight of the digit before it add up to.
 const LAST_WEIGHT: u64 = 1;

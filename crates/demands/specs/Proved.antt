@@ -1,7 +1,7 @@
 -- The three demands hold of every call that met its contract, and of every list of such calls.
 use Prim.Native.Nat.{ℕ, zero, suc, _≤_}
 use mathlib.Core.Path.{_≡_, refl, sym, ap, subst, _∙_}
-use mathlib.Core.Bool.{Bool, true, false}
+use mathlib.Core.Bool.{false}
 use mathlib.Core.List.{List}
 use native.Mathlib.Omega.{arith}
 use lib.ListN.{length}
@@ -18,10 +18,10 @@ use Rattle.representation.specs.Sound.{Sound}
 use Rattle.representation.proofs.Memories.{left-sound}
 use Rattle.representation.proofs.Round.{one-to-one}
 use Rattle.history.proofs.Demand3.{demand3 as listed}
-use Rattle.product_table.specs.Called.{answerLength, shortAnswer, Called}
+use Rattle.product_table.specs.Called.{answerLength, Called}
 use Rattle.demands.specs.Demands.{Answered, workAnswer, workState, Demand1, Run, Ran, lastMemory, NoSetUps, callsOf}
 use Rattle.demands.specs.Demands.{FollowsRules, SetsUp, stateAfter, Demand2, eventsOf, Demand3}
-use Rattle.demands.specs.Runs.{short-run, long-memory, long-answer, ran-events, ran-left, ran-set-ups, leftAll-state}
+use Rattle.demands.specs.Runs.{made-long, short-run, long-memory, long-answer, ran-events, ran-left, ran-set-ups, leftAll-state}
 
 -- ---- demand 1
 
@@ -58,11 +58,7 @@ demand1 k m a n b s h = record {
 module _ (c p x : ℕ) (m a n b : List ℕ) (h : Called (set-up c p x) m a n b 0) where
   -- five words were lent: the short answer is not 0
   set-up-long : ltb (length a) answerLength ≡ false
-  set-up-long = go (ltb (length a) answerLength) refl
-    where
-      go : (q : Bool) → ltb (length a) answerLength ≡ q → ltb (length a) answerLength ≡ false
-      go true e = absurd (let w : 0 ≡ shortAnswer = short-run (set-up c p x) m a n b 0 h e .status in omega arith)
-      go false e = e
+  set-up-long = made-long (reply m (set-up c p x)) m (left m (set-up c p x)) a n b 0 h refl
 
   set-up-status : reply m (set-up c p x) .status ≡ 0
   set-up-status = sym (long-answer (set-up c p x) m a n b 0 h set-up-long .status)

@@ -2,11 +2,13 @@
 -- were not made left out.
 use Prim.Native.Nat.{ℕ}
 use mathlib.Core.Path.{_≡_, refl, ap, subst, _∙_}
+use mathlib.Core.Logic.{_⊎_, inl, inr}
 use mathlib.Core.Bool.{true, false}
 use mathlib.Core.List.{List, [], _∷_, _++_, map}
+use native.Mathlib.Omega.{arith}
 use lib.ListN.{length, drop}
 use lib.Dec.{ltb}
-use Rattle.laws.specs.Tests.{cond-cases}
+use Rattle.laws.specs.Tests.{bool-cases, cond-cases}
 use Rattle.model.specs.Lists.{drops}
 use Rattle.model.specs.State.{State}
 use Rattle.model.specs.Rules.{Answer, next}
@@ -16,29 +18,49 @@ use Rattle.model.specs.Ledger.{Event, events, RefusesSetUps}
 use Rattle.representation.proofs.MemoryCalls.{refused-keeps, left-state}
 use Rattle.representation.specs.Sound.{Sound}
 use Rattle.representation.proofs.Memories.{left-sound}
-use Rattle.product_table.specs.Called.{answerLength, shortAnswer, answerWords, Outcome, outcomeOf, Called}
+use Rattle.product_table.specs.Called.{answerLength, shortAnswer, answerWords, Outcome, outcome, answering, Called}
 use Rattle.demands.specs.Demands.{NotMade, Answered, Run, Ran, lastMemory, NoSetUp, NoSetUps, isShort, callOf, callsOf, stateAfter}
 use Rattle.demands.specs.Demands.{answerIn, eventOf, eventsOf}
 
 -- ---- one call
 
-module _ (k : Call) (m a n b : List ℕ) (s : ℕ) (h : Called k m a n b s) where
-  pub short-run : ltb (length a) answerLength ≡ true → NotMade m a n b s
-  unfolding outcomeOf
-  short-run e = record {
+-- a function for C that answers r and makes o of m
+module _ (r : Answer) (m o a n b : List ℕ) (s : ℕ) (h : outcome s n b ≡ answering r m o a) where
+  pub short-answer : ltb (length a) answerLength ≡ true → NotMade m a n b s
+  unfolding answering
+  short-answer e = record {
     status = ap (λ (o : Outcome). o .status) (rw e at h);
     memory = ap (λ (o : Outcome). o .memory) (rw e at h);
     answer = ap (λ (o : Outcome). o .answer) (rw e at h);
   }
 
   module _ (e : ltb (length a) answerLength ≡ false) where
+    pub made-memory : n ≡ o
+    unfolding answering
+    made-memory = ap (λ (o : Outcome). o .memory) (rw e at h)
+
+    pub made-answer : Answered r a b s
+    unfolding answering
+    made-answer = record { status = ap (λ (o : Outcome). o .status) (rw e at h); answer = ap (λ (o : Outcome). o .answer) (rw e at h) }
+
+  -- the short answer's status is not 0
+  pub made-long : s ≡ 0 → ltb (length a) answerLength ≡ false
+  made-long z = go (bool-cases (ltb (length a) answerLength))
+    where
+      go : (ltb (length a) answerLength ≡ true) ⊎ (ltb (length a) answerLength ≡ false) → ltb (length a) answerLength ≡ false
+      go (inl e) = absurd (omega (arith, short-answer e .status))
+      go (inr e) = e
+
+module _ (k : Call) (m a n b : List ℕ) (s : ℕ) (h : Called k m a n b s) where
+  pub short-run : ltb (length a) answerLength ≡ true → NotMade m a n b s
+  short-run e = short-answer (reply m k) m (left m k) a n b s h e
+
+  module _ (e : ltb (length a) answerLength ≡ false) where
     pub long-memory : n ≡ left m k
-    unfolding outcomeOf
-    long-memory = ap (λ (o : Outcome). o .memory) (rw e at h)
+    long-memory = made-memory (reply m k) m (left m k) a n b s h e
 
     pub long-answer : Answered (reply m k) a b s
-    unfolding outcomeOf
-    long-answer = record { status = ap (λ (o : Outcome). o .status) (rw e at h); answer = ap (λ (o : Outcome). o .answer) (rw e at h) }
+    long-answer = made-answer (reply m k) m (left m k) a n b s h e
 
 -- ---- the calls of a list
 

@@ -16,7 +16,7 @@ abbrev pub maxSlots : ℕ
 maxSlots = 1024
 
 abbrev pub maxCode : ℕ
-maxCode = 9999999999999
+maxCode = 99999999999999
 
 abbrev pub maxDeposit : ℕ
 maxDeposit = 100000

@@ -9,6 +9,7 @@ pub mod Engine
 pub mod Table
 pub mod Rules
 pub mod Memory
+pub mod Labels
 pub mod Legal
 pub mod Calls
 pub mod Ledger

@@ -7,7 +7,7 @@ ghost use Rattle.model.specs.Rules.{add, replace, delete, begin, end, start, st
 ghost use Rattle.model.specs.Calls.{set-up, on-state};
 ghost use Rattle.access.specs.Contract.{five};
 ghost use Rattle.calls.specs.CallOf.{callOf};
-ghost use Rattle.product_table.specs.Called.{answerLength, answerWords, Called};
+ghost use Rattle.product_table.specs.Called.{answerLength, answerWords, Called, LabelRead, LabelWritten};
 use calls::Call;
 use calls::Op;
 
@@ -179,4 +179,32 @@ pub extern "C" fn pt_awaited(memory: &mut [u32], answer: &mut [u32]) -> u32
     ensures { λ s. ⌜ Called (on-state awaited) (now (memory .entry)) (now (answer .entry)) (now (memory .exit)) (now (answer .exit)) s ⌝ }
 {
     answer_call(memory, answer, Call::OnState(Op::Awaited))
+}
+
+// ---- labels: no memory, and no call of a list
+
+// The code of a label.
+#[no_mangle]
+pub extern "C" fn pt_label_read(text: &[u8], answer: &mut [u32]) -> u32
+    ensures { λ s. ⌜ LabelRead (now (text .entry)) (now (answer .entry)) (now (answer .exit)) s ⌝ }
+{
+    if answer.len() < ANSWER_LENGTH {
+        return SHORT_ANSWER;
+    }
+    let r = labels::read(text);
+    write_answer(answer, r);
+    r.status
+}
+
+// The shortest label of a code.
+#[no_mangle]
+pub extern "C" fn pt_label_write(text: &mut [u8], answer: &mut [u32], code: u64) -> u32
+    ensures { λ s. ⌜ LabelWritten code (now (text .entry)) (now (answer .entry)) (now (text .exit)) (now (answer .exit)) s ⌝ }
+{
+    if answer.len() < ANSWER_LENGTH {
+        return SHORT_ANSWER;
+    }
+    let r = labels::write(text, code);
+    write_answer(answer, r);
+    r.status
 }

@@ -27,7 +27,7 @@ pub const MAX_PLACES: u32 = 8;
 
 pub const MAX_SLOTS: u32 = 1024;
 
-pub const MAX_CODE: u64 = 9999999999999;
+pub const MAX_CODE: u64 = 99999999999999;
 
 pub const MAX_DEPOSIT: u32 = 100000;
 

@@ -5,7 +5,7 @@ use Rattle.product_table.proofs.answer_call.Statement.{statement}
 use Rattle.product_table.proofs.answer_call.Tie as tie
 
 returns : tie.Need-returns
-returns c = too-short _ _ _ (c .if1 .taken)
+returns c = too-short _ (c .if1 .taken) _ _ _
 
 make-call-requires : tie.Need-make-call-requires
 make-call-requires c κs = search needs

@@ -1,0 +1,2 @@
+-- What the writer of labels promises.
+pub mod Writing
