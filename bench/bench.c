@@ -77,7 +77,7 @@ static uint32_t pick(uint32_t below)
 /* A code of @chain in cell 5, which no other of the @n codes is: the low word is what the high one leaves to be added. */
 static uint64_t code_of_cell(const uint64_t *codes, uint32_t n, uint32_t chain)
 {
-	enum { HIGH_WORDS = 2328, ROOM = 1 << 20, CELL = 5 };
+	enum { HIGH_WORDS = 23283, ROOM = 1 << 20, CELL = 5 };
 	uint32_t inverse = LOW_FACTOR;
 	uint32_t i;
 
@@ -97,10 +97,10 @@ static uint64_t code_of_cell(const uint64_t *codes, uint32_t n, uint32_t chain)
 	}
 }
 
-/* The next code of an older record: its low 25 bits are 0, and it is in one of sixteen cells. The check digits are as they come. */
+/* The next code of an older record: its low 28 bits are 0, and it is in one of sixteen cells. The check digits are as they come. */
 static uint64_t code_of_older(void)
 {
-	enum { LOW_BITS = 25, CELL = 5, CELLS_APART = 256 };
+	enum { LOW_BITS = 28, CELL = 5, CELLS_APART = 256 };
 	static uint64_t code;
 	uint32_t cell;
 
@@ -124,7 +124,7 @@ static uint64_t code_of(enum use use, uint32_t n)
 		*code = CODE_OF_CHAIN(0, n);
 		break;
 	case COLLIDING:
-		*code = right_code(UINT64_C(1) << 29, 0, n); /* equal in every digit but the last */
+		*code = right_code(UINT64_C(1) << 32, 0, n); /* equal in every digit but the last */
 		break;
 	case ONE_CELL_64:
 	case ONE_CELL_20:

@@ -1,7 +1,7 @@
 /*
  * lane.c - a lane's round, call by call: the smallest program over the library. Two lanes
- * share a table; lane 1 finds a product while lane 0 deletes it, and the slot comes back
- * only after lane 1 has moved on.
+ * share a table; lane 1 reads a label and finds its product while lane 0 deletes it, and the
+ * slot comes back only after lane 1 has moved on.
  *
  *     ./build lib
  *     cc -Iinclude examples/lane.c target/libproduct_table.a -o target/lane && target/lane
@@ -14,7 +14,8 @@
 
 enum { CABINETS = 1, LANES = 2, SLOTS = 16 };
 
-#define CODE UINT64_C(4006381333931)
+#define CODE  UINT64_C(4006381333931)
+#define LABEL "4006381333931" /* what stands on the bottle */
 
 /* The memory is yours: the library keeps nothing between calls. */
 static uint32_t memory[PT_WORDS(CABINETS, LANES, SLOTS)];
@@ -53,6 +54,20 @@ static void look_up(uint32_t lane, uint64_t code)
 		printf("  absent\n");
 }
 
+/*
+ * A bottle on the lane's belt: its label is bytes with a length, which counts no closing
+ * NUL. The code comes in two words. Without one there is nothing to look up.
+ */
+static void take_bottle(uint32_t lane, const char *label, size_t bytes, uint32_t expected)
+{
+	expect("label_read: code low, code high",
+		pt_label_read((const uint8_t *)label, bytes, answer, PT_ANSWER_WORDS), expected);
+	if (answer[0] == PT_OK)
+		look_up(lane, (uint64_t)answer[2] << 32 | answer[1]);
+	else
+		printf("  no label: the bottle goes back\n");
+}
+
 /* A lane between two customers: it reads nothing, says so, and drives grace periods on. */
 static void pass_and_clock(uint32_t lane)
 {
@@ -68,7 +83,8 @@ int main(void)
 
 	say("Lane 1 reads. What it finds stays as it is until its section ends.");
 	expect("begin", pt_begin(LENT, 1), PT_OK);
-	look_up(1, CODE);
+	take_bottle(1, "96385 74", PT_LABEL_8, PT_WRONG_LABEL);
+	take_bottle(1, LABEL, PT_LABEL_13, PT_OK);
 
 	say("Lane 0 deletes the product meanwhile. The slot is retired, not free.");
 	expect("delete: the slot", pt_delete(LENT, 0, CODE), PT_OK);

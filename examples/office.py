@@ -32,8 +32,8 @@ class Header:
 
 
 HEADER = Header()
-OK, GOING, FOUND, IDLE, NOTHING_DONE, ANSWER_WORDS = (
-    HEADER.numbers["PT_" + name] for name in "OK GOING FOUND IDLE NOTHING_DONE ANSWER_WORDS".split()
+OK, GOING, FOUND, IDLE, NOTHING_DONE, ANSWER_WORDS, LABEL_14 = (
+    HEADER.numbers["PT_" + name] for name in "OK GOING FOUND IDLE NOTHING_DONE ANSWER_WORDS LABEL_14".split()
 )
 
 
@@ -45,9 +45,41 @@ class Refused(Exception):
         self.status = status
 
 
+class Library:
+    """The shared library. `library("add", memory, lane, code, deposit, material)` makes a call on what is lent to it, a
+    memory or a text, and gives the four words after the status or raises Refused."""
+
+    def __init__(self, path):
+        self.shared = ctypes.CDLL(path)
+
+    def __call__(self, call, lent, *numbers):
+        arguments = [kind(n) for kind, n in zip(HEADER.calls[call], numbers, strict=True)]
+        if [a.value for a in arguments] != list(numbers):
+            raise ValueError(f"{call} {numbers}: a number past its width, which C would cut")
+        function = getattr(self.shared, "pt_" + call)
+        function.restype = ctypes.c_uint32
+        answer = (ctypes.c_uint32 * ANSWER_WORDS)()
+        status = function(lent, ctypes.c_size_t(len(lent)), answer, ctypes.c_size_t(ANSWER_WORDS), *arguments)
+        if status != OK:
+            raise Refused(status)
+        return list(answer)[1:]
+
+    def code(self, label):
+        """The code of a label. What is lent is its bytes with their number, and no closing NUL."""
+        text = label.encode()
+        low, high, _, _ = self("label_read", ctypes.create_string_buffer(text, len(text)))
+        return high << 32 | low
+
+    def label(self, code):
+        """The code's shortest label, as text."""
+        text = ctypes.create_string_buffer(LABEL_14)
+        length = self("label_write", text, code)[0]
+        return text[:length].decode()
+
+
 class ProductTable:
-    """A table in a memory of this script. `table("add", lane, code, deposit, material)` makes a call, and gives the four
-    words after the status or raises Refused."""
+    """A table in a memory of this script. `table("add", lane, label, deposit, material)` makes a call: where it takes a
+    code, the text of a label is read, or a number is taken."""
 
     def __init__(self, library, cabinets, lanes, slots):
         self.library = library
@@ -55,17 +87,9 @@ class ProductTable:
         total = self("setup", cabinets, lanes, slots)[0]
         self.memory = (ctypes.c_uint32 * total)(*self.memory[:total])
 
-    def __call__(self, call, *numbers):
-        arguments = [kind(n) for kind, n in zip(HEADER.calls[call], numbers, strict=True)]
-        if [a.value for a in arguments] != list(numbers):
-            raise ValueError(f"{call} {numbers}: a number past its width, which C would cut")
-        function = getattr(self.library, "pt_" + call)
-        function.restype = ctypes.c_uint32
-        answer = (ctypes.c_uint32 * ANSWER_WORDS)()
-        status = function(self.memory, ctypes.c_size_t(len(self.memory)), answer, ctypes.c_size_t(ANSWER_WORDS), *arguments)
-        if status != OK:
-            raise Refused(status)
-        return list(answer)[1:]
+    def __call__(self, call, *arguments):
+        numbers = [self.library.code(a) if isinstance(a, str) else a for a in arguments]
+        return self.library(call, self.memory, *numbers)
 
 
 def found(table, lane):
@@ -95,13 +119,13 @@ def euros(cents):
     return f"{cents // 100}.{cents % 100:02}"
 
 
-def print_products(table, lane, codes):
-    """Looks each code up, all in one section of the lane."""
+def print_products(table, lane, labels):
+    """Looks the code of each label up, all in one section of the lane."""
     table("begin", lane)
-    for code in codes:
-        table("start", lane, code)
+    for label in labels:
+        table("start", lane, label)
         record = found(table, lane)
-        print(f"  {code:013}  " + (f"{euros(record[1])}  material {record[2]}, slot {record[0]}" if record else "none"))
+        print(f"  {label:>14}  " + (f"{euros(record[1])}  material {record[2]}, slot {record[0]}" if record else "none"))
     table("end", lane)
 
 
@@ -126,26 +150,34 @@ def print_try(table, *call):
 LANES = 2
 OFFICE, CUSTOMER = 0, 1  # the office works by lane 0, a customer stands at lane 1
 GLASS, PET = 1, 2
-PRODUCTS = [(17, 8, GLASS), (24, 15, GLASS), (31, 25, PET), (48, 25, PET), (192, 8, GLASS), (512, 15, GLASS)]
-CODES = [code for code, _, _ in PRODUCTS]
+SMALL, LARGE, CRATE = "96385074", "5901234123457", "15901234123454"  # labels of 8, 13 and 14 digits
+NEW = "73513537"  # of a product that comes later
+PRODUCTS = [(SMALL, 8, GLASS), (LARGE, 25, PET), (CRATE, 150, PET), ("40170725", 8, GLASS), ("4006381333931", 15, GLASS)]
+LABELS = [label for label, _, _ in PRODUCTS]
 
 
 def main(path):
-    table = ProductTable(ctypes.CDLL(path), cabinets=1, lanes=LANES, slots=8)
+    library = Library(path)
+    table = ProductTable(library, cabinets=1, lanes=LANES, slots=8)
 
-    print("The office enters its products; a mistake is refused by name, and changes nothing.")
+    print("The office enters its products by their labels; a mistake is refused by name, and changes nothing.")
     for product in PRODUCTS:
         table("add", OFFICE, *product)
-    print_try(table, "add", OFFICE, 17, 8, GLASS)
-    print_try(table, "replace", OFFICE, 55, 25, PET)
-    print_try(table, "add", OFFICE, 5901234123475, 25, PET)  # 5901234123457, two digits exchanged
-    print_products(table, OFFICE, CODES)
+    print_try(table, "add", OFFICE, SMALL, 8, GLASS)
+    print_try(table, "replace", OFFICE, NEW, 25, PET)
+    print_try(table, "add", OFFICE, "5901234123475", 25, PET)  # two digits exchanged
+    print_try(table, "add", OFFICE, "5901234l23457", 25, PET)  # a letter
+    print_products(table, OFFICE, LABELS)
 
-    print("A customer's lookup of 17 starts. Meanwhile the office raises its deposit and deletes 31.")
+    print("It has labels printed, each as short as its code allows: zeros on the left change no code and no check digit.")
+    for label in "0000096385074", "00000096385074", "05901234123457", CRATE:
+        print(f"  {label:>14}  {library.label(library.code(label))}")
+
+    print(f"A customer's lookup of {SMALL} starts. Meanwhile the office raises its deposit and deletes {CRATE}.")
     table("begin", CUSTOMER)
-    table("start", CUSTOMER, 17)
-    table("replace", OFFICE, 17, 15, GLASS)
-    table("delete", OFFICE, 31)
+    table("start", CUSTOMER, SMALL)
+    table("replace", OFFICE, SMALL, 15, GLASS)
+    table("delete", OFFICE, CRATE)
     table("clock", OFFICE)
     print(f"  the customer gets {euros(found(table, CUSTOMER)[1])}: the lookup stood on the old record already")
     print_try(table, "hand_back", OFFICE)
@@ -164,8 +196,8 @@ def main(path):
         file.write(table.memory)
         file.seek(0)
         table.memory = type(table.memory).from_buffer_copy(file.read())
-    print_try(table, "add", OFFICE, 62, 8, GLASS)
-    print_products(table, OFFICE, CODES + [62])
+    print_try(table, "add", OFFICE, NEW, 8, GLASS)
+    print_products(table, OFFICE, LABELS + [NEW])
     print_slots(table)
 
 

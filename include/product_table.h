@@ -46,25 +46,31 @@
  *
  * Answer. Each call writes five words into the first PT_ANSWER_WORDS words of
  * @answer, the status first, and returns the status. A refusal answers its number
- * and four times 0, and changes no word of the memory. Words of the answer past the
+ * and four times 0, and changes no word of the memory and no byte of a text. Words of the answer past the
  * fifth stay. With fewer than five the call returns PT_SHORT_ANSWER, before every
  * other test, and writes nothing at all. Where several refusals apply, the one that
  * stands first in the call's list is returned; the numbers do not order them: of add
  * and replace PT_WRONG_DIGIT, 17, stands directly after PT_OUT_OF_RANGE, 11.
  *
- * Check digit. pt_add() and pt_replace() take codes whose GS1 check digit is right: of
- * the thirteen digits of a code, zeros included, counted from the left, the first
- * twelve weigh 1, 3, 1, 3 and so on, and the thirteenth brings the sum to a multiple
- * of ten. So one mistyped digit is refused, whatever the code, and so are two
- * neighbours exchanged, unless they differ by 5. All other calls, and what is legal,
- * know no check digit: a record with a wrong one, entered by an older library, is
- * found, and pt_delete() removes it.
+ * Check digit. pt_add() and pt_replace() take codes whose GS1 check digit is right:
+ * from the right, leaving out the check digit, the digits weigh 3, 1, 3 and so on, and
+ * the check digit brings the sum to a multiple of ten. Zeros filled in on the left do
+ * not change it, so a code has the check digit of its label, whatever its length. One
+ * mistyped digit is refused, whatever the code, and so are two neighbours exchanged,
+ * unless they differ by 5. All other calls, and what is legal, know no check digit: a
+ * record with a wrong one, entered by an older library, is found, and pt_delete()
+ * removes it.
  *
- * What the caller owes: @memory and @answer do not overlap; each points to as many
- * words as its length says, aligned as a uint32_t; a length of 0 is allowed, with any
- * pointer that C allows for it. Calls on one memory are made one after another: there
- * are no locks here, and no memory barriers. Nothing but a wrong pointer or length is
- * undefined.
+ * Labels. pt_label_read() turns the text of a label, 8, 13 or 14 ASCII digits (GTIN-8,
+ * GTIN-13, GTIN-14), into a code, and pt_label_write() puts the shortest label of a
+ * code into a text. A text is bytes with a length: there is no closing NUL, none is
+ * read and none is written. Both take no memory.
+ *
+ * What the caller owes: @memory, @text and @answer do not overlap; each points to as
+ * many words or bytes as its length says, words aligned as a uint32_t; a length of 0 is
+ * allowed, with any pointer that C allows for it. Calls on one memory are made one
+ * after another: there are no locks here, and no memory barriers. Nothing but a wrong
+ * pointer or length is undefined.
  *
  * The words of the hall and the words used here:
  *   house, the house's         global
@@ -106,6 +112,7 @@ extern "C" {
 #define PT_LAST_LANE      15u /* off: no other lane is online */
 #define PT_NOTHING_DONE   16u /* hand_back: both done queues are empty */
 #define PT_WRONG_DIGIT    17u /* add, replace: the code's check digit is wrong */
+#define PT_WRONG_LABEL    18u /* label_read: no label; label_write: the text is too short */
 #define PT_SHORT_ANSWER   4294967295u /* fewer than five answer words were lent */
 
 /* No slot, no lane: the rest value of links, ends of queues and positions. */
@@ -129,10 +136,15 @@ extern "C" {
 #define PT_MAX_CABINETS   8u
 #define PT_MAX_LANES      8u /* in each cabinet */
 #define PT_MAX_SLOTS      1024u
-#define PT_MAX_CODE       UINT64_C(9999999999999)
+#define PT_MAX_CODE       UINT64_C(99999999999999)
 #define PT_MAX_DEPOSIT    100000u
 #define PT_MAX_MATERIAL   7u
 #define PT_MAX_KIND       3u
+
+/* The lengths of a label, in bytes: GTIN-8, GTIN-13 and GTIN-14. */
+#define PT_LABEL_8        8u
+#define PT_LABEL_13       13u
+#define PT_LABEL_14       14u
 
 /* The total: how many words a table of these sizes takes. */
 #define PT_WORDS(cabinets, lanes, slots) \
@@ -489,6 +501,50 @@ uint32_t pt_hand_back(uint32_t *memory, size_t words,
 extern
 uint32_t pt_awaited(uint32_t *memory, size_t words,
 		uint32_t *answer, size_t answer_words);
+
+/*
+ * pt_label_read - turn the text of a label into a code.
+ * @text: the bytes of the text, with no closing NUL; they are only read.
+ * @bytes: the length of @text, in bytes.
+ * @answer: the words that take the answer.
+ * @answer_words: the length of @answer, in words.
+ *
+ * Return PT_OK, and the answer PT_OK, code low, code high, 0, 0 with the two words of
+ * the code, which is code high * 4,294,967,296 + code low, or a refusal, tested in
+ * this order:
+ *   PT_SHORT_ANSWER: @answer_words is below PT_ANSWER_WORDS;
+ *   PT_WRONG_LABEL: @bytes is none of PT_LABEL_8, PT_LABEL_13 and PT_LABEL_14, or a
+ *   byte is no ASCII digit.
+ * A shorter label is filled with zeros on the left to fourteen digits, so the code is
+ * the number that its digits say, at most PT_MAX_CODE. The check digit is not judged
+ * here: pt_add() and pt_replace() do.
+ */
+extern
+uint32_t pt_label_read(const uint8_t *text, size_t bytes,
+		uint32_t *answer, size_t answer_words);
+
+/*
+ * pt_label_write - put the shortest label of a code into a text.
+ * @text: the bytes that take the label, with no closing NUL.
+ * @bytes: the length of @text, in bytes; PT_LABEL_14 is enough for every code.
+ * @answer: the words that take the answer.
+ * @answer_words: the length of @answer, in words.
+ * @code: the code, at most PT_MAX_CODE; its check digit may be wrong.
+ *
+ * Return PT_OK, and the answer PT_OK, length, 0, 0, 0 with the shortest of PT_LABEL_8,
+ * PT_LABEL_13 and PT_LABEL_14 that holds the code, or a refusal, tested in this order:
+ *   PT_SHORT_ANSWER: @answer_words is below PT_ANSWER_WORDS;
+ *   PT_OUT_OF_RANGE: @code is above its limit;
+ *   PT_WRONG_LABEL: @bytes is below the length of the label.
+ * On success the digits, with zeros on the left, stand in the first bytes of @text, and
+ * the bytes after them stay. A refusal changes no byte. What was written is read by
+ * pt_label_read() as the same code; a label that was longer than it had to be is
+ * shorter when it is rewritten: "0000096385074" comes back as "96385074".
+ */
+extern
+uint32_t pt_label_write(uint8_t *text, size_t bytes,
+		uint32_t *answer, size_t answer_words,
+		uint64_t code);
 
 #ifdef __cplusplus
 }

@@ -1,6 +1,7 @@
 /*
  * clients.c - a lane and the office of the hall, each a process of its own. They know
- * nothing of the memory: they ask for calls and get five words back. No one holds a lock.
+ * nothing of the memory: they ask for calls and get five words back. The labels of products
+ * they write and read themselves, which takes no memory. No one holds a lock.
  * Between two steps of a lane's lookup any number of other calls may come.
  *
  * What a lane owes to the others: it reports a quiescent state (pass) outside its sections
@@ -63,6 +64,50 @@ static void must(struct client *client, enum call_name name, uint64_t a, uint64_
 	}
 }
 
+/* ---- labels */
+
+/* The bytes of a label; no closing NUL comes after them. */
+struct label {
+	uint8_t text[PT_LABEL_14];
+	uint32_t length;
+};
+
+/* The label of a code, as it is printed. */
+static struct label printed(uint64_t code)
+{
+	struct label label = { .length = 0 };
+	uint32_t answer[PT_ANSWER_WORDS];
+
+	if (pt_label_write(label.text, sizeof label.text, answer, PT_ANSWER_WORDS, code) != PT_OK) {
+		fprintf(stderr, "hall: no label of %" PRIu64 "\n", code);
+		exit(1);
+	}
+	label.length = answer[1];
+	return label;
+}
+
+/* Reads the code of a label; returns the status. */
+static uint32_t read_label(const struct label *label, uint64_t *code)
+{
+	uint32_t answer[PT_ANSWER_WORDS];
+	uint32_t status = pt_label_read(label->text, label->length, answer, PT_ANSWER_WORDS);
+
+	*code = (uint64_t)answer[2] << 32 | answer[1];
+	return status;
+}
+
+/* The code of a product, as its label is read: the same that was printed. */
+static uint64_t by_label(uint64_t printed_code)
+{
+	struct label label = printed(printed_code);
+	uint64_t code;
+
+	if (read_label(&label, &code) == PT_OK && code == printed_code)
+		return code;
+	fprintf(stderr, "hall: the label of %" PRIu64 " is not read\n", printed_code);
+	exit(1);
+}
+
 /* ---- a lane */
 
 static void look_up(struct client *lane, uint64_t code)
@@ -80,7 +125,7 @@ static void serve_customer(struct client *lane)
 
 	must(lane, CALL_BEGIN, lane->number, 0);
 	while (bottles-- > 0) {
-		look_up(lane, product_code(draw(lane, PRODUCTS + PRODUCTS / 10)));
+		look_up(lane, by_label(product_code(draw(lane, PRODUCTS + PRODUCTS / 10))));
 		if (draw(lane, 4) == 0)
 			must(lane, CALL_CLOCK, lane->number, 0); /* a clock may come at any time */
 	}
@@ -124,18 +169,7 @@ void lane_serve(struct client *lane)
 
 /* ---- the office */
 
-enum { CODE_DIGITS = 13, TEN = 10 };
-
-/* The code with one digit mistyped. */
-static uint64_t mistyped(struct client *office, uint64_t code)
-{
-	uint64_t place = 1, digit;
-
-	for (uint32_t n = draw(office, CODE_DIGITS); n > 0; n--)
-		place *= TEN;
-	digit = code / place % TEN;
-	return code - digit * place + (digit + 1 + draw(office, TEN - 1)) % TEN * place;
-}
+enum { TEN = 10 };
 
 /* Its changes are made by a lane that is online; another one where this one is not. */
 static uint32_t change(struct client *office, enum call_name name, uint64_t code)
@@ -150,12 +184,22 @@ static uint32_t change(struct client *office, enum call_name name, uint64_t code
 	return status;
 }
 
-/* An entry with one wrong digit is refused, whatever the code and the digit. */
-static void mistype(struct client *office, enum call_name name, uint64_t code)
+/* A label with one byte mistyped makes no entry, whatever the label and the byte. */
+static void mistype(struct client *office, enum call_name name, uint64_t printed_code)
 {
-	if (change(office, name, mistyped(office, code)) == PT_WRONG_DIGIT)
+	struct label label = printed(printed_code);
+	uint8_t *byte = &label.text[draw(office, label.length)];
+	bool letter = draw(office, 4) == 0; /* no digit, or a wrong one */
+	uint64_t code;
+	uint32_t status;
+
+	*byte = letter ? 'O' : (uint8_t)('0' + (*byte - '0' + 1 + draw(office, TEN - 1)) % TEN);
+	status = read_label(&label, &code);
+	if (!letter && status == PT_OK)
+		status = change(office, name, code);
+	if (status == (letter ? PT_WRONG_LABEL : PT_WRONG_DIGIT))
 		return;
-	fprintf(stderr, "hall: a wrong digit is answered with %" PRIu32 "\n", office->answer[0]);
+	fprintf(stderr, "hall: a mistyped label is answered with %" PRIu32 "\n", status);
 	exit(1);
 }
 
@@ -169,7 +213,7 @@ void office_serve(struct client *office)
 
 		if (name != CALL_DELETE && draw(office, 10) == 0)
 			mistype(office, name, code);
-		switch (change(office, name, code)) {
+		switch (change(office, name, by_label(code))) {
 		case PT_OK:
 		case PT_CODE_PRESENT:
 		case PT_CODE_MISSING:

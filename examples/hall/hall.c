@@ -6,7 +6,7 @@
  * Usage: hall [SECONDS [SEED]]
  *
  * To embed the library in the program of a lane computer, take the function serve: it is
- * the only place that makes calls, and the memory and the answer are its own.
+ * the only place that makes calls on the memory, and the memory and the answer are its own.
  */
 #define _DEFAULT_SOURCE
 #include "hall.h"

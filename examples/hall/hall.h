@@ -23,10 +23,16 @@ enum {
 	PRODUCTS = 120
 };
 
-/* Codes of eight chains, with right check digits, so that a lookup takes several steps. */
+/*
+ * Codes of eight chains, with right check digits, so that a lookup takes several steps. A
+ * third each has labels of 8, 13 and 14 digits: what is added for the longer ones weighs 10
+ * and is a multiple of 64, so that check digit and chain stay.
+ */
 static inline uint64_t product_code(uint32_t product)
 {
-	return CODE_OF_CHAIN(8 * (product % 8), product / 8);
+	static const uint64_t added[] = { 0, UINT64_C(4000006000000), UINT64_C(10000007000000) };
+
+	return added[product % 3] + CODE_OF_CHAIN(8 * (product % 8), product / 8);
 }
 
 /* What a client sends. It is shorter than PIPE_BUF, so the pipe keeps it in one piece. */

@@ -44,7 +44,12 @@ void history_note(const struct call *call, const uint32_t *answer)
 /* What the history holds. */
 struct tally {
 	uint64_t accepted[CALLS], refused, mistyped, lookups[3], periods;
+	uint64_t added[3]; /* by labels of 8, 13 and 14 digits */
 };
+
+/* The first codes whose labels have 13 and 14 digits. */
+#define FIRST_OF_13 UINT64_C(100000000)
+#define FIRST_OF_14 UINT64_C(10000000000000)
 
 static void tally_event(struct tally *tally, const struct event *event, uint32_t *generation)
 {
@@ -54,6 +59,11 @@ static void tally_event(struct tally *tally, const struct event *event, uint32_t
 		return;
 	}
 	tally->accepted[event->call.name]++;
+	if (event->call.name == CALL_ADD) {
+		uint64_t code = call_argument(&event->call, KIND_CODE, 0);
+
+		tally->added[(code >= FIRST_OF_13) + (code >= FIRST_OF_14)]++;
+	}
 	if (event->call.name == CALL_STEP)
 		tally->lookups[event->answer[1]]++;
 	if (event->call.name == CALL_CLOCK) {
@@ -85,6 +95,8 @@ static void print_tally(const struct tally *tally)
 	for (int name = 0; name < CALLS; name++)
 		printf(" %s %" PRIu64, call_forms[name].command, tally->accepted[name]);
 	printf(", refused %" PRIu64 ", %" PRIu64 " of them mistyped codes\n", tally->refused, tally->mistyped);
+	printf("hall: added by labels of 8, 13 and 14 digits %" PRIu64 ", %" PRIu64 ", %" PRIu64 "\n",
+		tally->added[0], tally->added[1], tally->added[2]);
 }
 
 bool history_judge(void)

@@ -19,7 +19,7 @@ enum {
 };
 
 /* A stretch of words between two pages that may not be touched. */
-static uint32_t *guarded(void)
+static void *guarded(void)
 {
 	size_t bytes = EDGE_WORDS * sizeof(uint32_t);
 	uint32_t *start = mmap(NULL, 3 * bytes, PROT_READ | PROT_WRITE, MAP_PRIVATE | MAP_ANONYMOUS, -1, 0);
@@ -160,9 +160,97 @@ enum difference beside_call(struct beside *beside, const struct call *call)
 	return difference;
 }
 
+/* ---- labels */
+
+#define FILL_BYTE 0xa5u /* of FILL */
+
+/* The text that is lent to a label function, before it. */
+static void label_text(const struct step *step, uint8_t *text)
+{
+	if (step->kind == STEP_READ)
+		memcpy(text, step->text, step->number);
+	else
+		memset(text, FILL_BYTE, step->number);
+}
+
+static uint32_t label_make(const struct interface *interface, const struct step *step, uint8_t *text,
+		uint32_t *answer, size_t answer_words)
+{
+	return step->kind == STEP_READ ? interface->label_read(text, step->number, answer, answer_words) :
+		interface->label_write(text, step->number, answer, answer_words, step->code);
+}
+
+/* The text's bytes at an edge of the stretch, those beside them filled; and whether these were kept. */
+static uint8_t *lend_text(uint8_t *stretch, size_t bytes, bool at_start)
+{
+	size_t all = EDGE_WORDS * sizeof(uint32_t);
+
+	memset(stretch, FILL_BYTE, OUTSIDE + bytes);
+	memset(stretch + all - bytes - OUTSIDE, FILL_BYTE, OUTSIDE + bytes);
+	return at_start ? stretch : stretch + all - bytes;
+}
+
+static bool text_outside_kept(const uint8_t *lent, size_t bytes, bool at_start)
+{
+	for (size_t n = 0; n < OUTSIDE; n++)
+		if (*(at_start ? lent + bytes + n : lent - 1 - n) != FILL_BYTE)
+			return false;
+	return true;
+}
+
+/* By the implementation that is tried, on bytes and words at the edge of a page. */
+static enum difference label_tried(struct beside *beside, const struct step *step)
+{
+	static uint8_t *stretch;
+	static uint32_t *answer;
+	struct left *left = &beside->left;
+	uint8_t *text;
+	bool kept;
+
+	if (stretch == NULL) {
+		stretch = guarded();
+		answer = guarded();
+	}
+	text = lend_text(stretch, step->number, beside->at_start);
+	label_text(step, text);
+	left->words = 0;
+	left->answer_words = beside->answer_words;
+	left->answer = lend(answer, left->answer_words, beside->at_start);
+	fill(left->answer, left->answer_words);
+	left->status = label_make(beside->tried, step, text, left->answer, left->answer_words);
+	kept = text_outside_kept(text, step->number, beside->at_start) &&
+		outside_kept(left->answer, left->answer_words, beside->at_start);
+	memcpy(beside->left_text, text, step->number);
+	return kept ? SAME : DIFFERS_OUTSIDE;
+}
+
+/* On both; there are always both. */
+static enum difference beside_label(struct beside *beside, const struct step *step)
+{
+	enum difference difference;
+
+	fill(beside->expected_answer, BESIDE_ANSWER);
+	label_text(step, beside->expected_text);
+	beside->expected = (struct left){ beside->memory, 0, beside->expected_answer, beside->answer_words, 0 };
+	beside->expected.status = label_make(beside->judge, step, beside->expected_text,
+			beside->expected_answer, beside->answer_words);
+	difference = label_tried(beside, step);
+	if (difference == SAME)
+		difference = alike_answer(&beside->expected, &beside->left);
+	if (difference == SAME)
+		difference = owed_answer(&beside->left);
+	if (difference == SAME && memcmp(beside->expected_text, beside->left_text, step->number) != 0)
+		difference = beside->expected.status == PT_OK ? DIFFERS_TEXT : DIFFERS_REFUSED;
+	beside->difference = difference;
+	return difference;
+}
+
 enum difference beside_step(struct beside *beside, const struct step *step)
 {
 	switch (step->kind) {
+	case STEP_READ:
+	case STEP_WRITE:
+		return beside_label(beside, step);
 	case STEP_POKE:
 		beside->fed = false;
 		if (step->number < BESIDE_WORDS)

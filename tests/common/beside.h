@@ -5,6 +5,7 @@
  * judge alone. Without an implementation, as for a listing program, the judge goes alone.
  *
  * What is lent ends, or begins, where a page lies that may be neither read nor written.
+ * A label function's text is lent so too; it goes by its answer and the bytes of the text.
  */
 #ifndef COMMON_BESIDE_H
 #define COMMON_BESIDE_H
@@ -39,6 +40,7 @@ struct beside {
 	struct call call;
 	uint32_t expected_answer[BESIDE_ANSWER];
 	struct left expected, left;
+	uint8_t expected_text[LABEL_MOST], left_text[LABEL_MOST]; /* of a label function */
 	enum difference difference;
 	const char *fault; /* of the ledger */
 };

@@ -9,16 +9,22 @@ const struct interface reference = {
 #define ARGUMENT(n, KIND)
 #define CALL(NAME, name, command, weight, arguments, causes) .name = ref_##name,
 #include "calls.def"
+	.label_read = ref_label_read,
+	.label_write = ref_label_write,
 };
+
+#ifdef TEST_LIBRARY
+#define TESTED(name) pt_##name
+#else
+#define TESTED(name) ref_##name
+#endif
 
 const struct interface tested = {
 #define ARGUMENT(n, KIND)
-#ifdef TEST_LIBRARY
-#define CALL(NAME, name, command, weight, arguments, causes) .name = pt_##name,
-#else
-#define CALL(NAME, name, command, weight, arguments, causes) .name = ref_##name,
-#endif
+#define CALL(NAME, name, command, weight, arguments, causes) .name = TESTED(name),
 #include "calls.def"
+	.label_read = TESTED(label_read),
+	.label_write = TESTED(label_write),
 };
 
 #define CAUSES(...) __VA_ARGS__

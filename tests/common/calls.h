@@ -35,6 +35,7 @@ typedef uint32_t argument_CABINETS, argument_LANES, argument_SLOTS, argument_LAN
 	argument_DEPOSIT, argument_MATERIAL, argument_KIND;
 typedef uint64_t argument_CODE;
 
+/* LAST_CAUSE: of the calls; a label's own cause comes after it. */
 enum { CALL_ARGUMENTS = 4, CALL_CAUSES = 8, LAST_CAUSE = PT_WRONG_DIGIT };
 
 /* A call; arguments that it does not take are 0. */
@@ -66,11 +67,17 @@ uint64_t call_argument(const struct call *call, enum kind kind, uint64_t none);
 /* What the call functions of every kind take first. */
 #define CALL_LENT uint32_t *memory, size_t words, uint32_t *answer, size_t answer_words
 
-/* The calls of one implementation. */
+/* The same of the two label functions, which have a text and no memory. */
+#define LABEL_READ_LENT const uint8_t *text, size_t bytes, uint32_t *answer, size_t answer_words
+#define LABEL_WRITE_LENT uint8_t *text, size_t bytes, uint32_t *answer, size_t answer_words
+
+/* The calls of one implementation, and its label functions. */
 struct interface {
 #define ARGUMENT(n, KIND) , argument_##KIND
 #define CALL(NAME, name, command, weight, arguments, causes) uint32_t (*name)(CALL_LENT arguments);
 #include "calls.def"
+	uint32_t (*label_read)(LABEL_READ_LENT);
+	uint32_t (*label_write)(LABEL_WRITE_LENT, uint64_t code);
 };
 
 extern const struct interface reference;

@@ -1,5 +1,5 @@
 /*
- * codes.c - the right codes: twelve digits are any number, the thirteenth follows. All others are wrong.
+ * codes.c - the right codes: all digits but the last are any number, and the last follows. All others are wrong.
  */
 #include "codes.h"
 
@@ -7,10 +7,10 @@
 
 enum { TEN = 10 };
 
-/* The right code whose first twelve digits are those of @number. */
+/* The right code whose digits but the last are those of @number. */
 static uint64_t completed(uint64_t number)
 {
-	uint32_t sum = 0, weight = 3; /* of the twelfth digit */
+	uint32_t sum = 0, weight = 3; /* of the digit before the last */
 
 	for (uint64_t rest = number; rest > 0; rest /= TEN) {
 		sum += (uint32_t)(rest % TEN) * weight;

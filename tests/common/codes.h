@@ -1,8 +1,8 @@
 /*
  * codes.h - codes whose check digit is right, for every test, example and measurement that
  * enters records, and codes whose check digit is wrong, for what the office mistypes and for
- * older records. Counted from the left of thirteen digits, zeros included, the first twelve
- * weigh 1, 3, 1, 3 and so on, and the thirteenth brings the sum to a multiple of ten (GS1).
+ * older records. From the right, leaving out the check digit, the digits weigh 3, 1, 3 and so
+ * on, and the check digit brings the sum to a multiple of ten (GS1).
  * One code of each ten is right: 0, 17, 24, 31, 48, 55, 62, 79, ..; of chain 0: 0, 192, 512,
  * 1472, 1984, ..
  */

@@ -20,6 +20,7 @@ enum difference {
 	DIFFERS_OUTSIDE,     /* a word that is not lent */
 	DIFFERS_NOT_LEGAL,   /* an accepted call left a memory that is not legal */
 	DIFFERS_LEDGER,	     /* the ledger of demand 3 finds fault */
+	DIFFERS_TEXT,	     /* another byte of a label's text */
 	DIFFERENCES
 };
 
@@ -43,6 +44,10 @@ enum difference owed(const uint32_t *before, const struct left *left);
 
 /* How what a call left differs from what is expected, from the same memory. */
 enum difference alike(const struct left *expected, const struct left *left);
+
+/* Both of the status and the answer alone. */
+enum difference owed_answer(const struct left *left);
+enum difference alike_answer(const struct left *expected, const struct left *left);
 
 /* The total of a table whose contents stand in the memory, 0 if their sizes are none. */
 size_t total_of(const uint32_t *memory);

@@ -11,8 +11,8 @@
 #define LANE(l, word) (CABINET(DAMAGES_CABINETS) + LANE_WORDS * (l) + (word))
 #define SLOT(s, word) (LANE(DAMAGES_CABINETS * DAMAGES_LANES, 0) + SLOT_WORDS * (s) + (word))
 
-/* 10,000,000,000,000 in two words. */
-enum { CODE_BEYOND_LOW = 1316134912, CODE_BEYOND_HIGH = 2328 };
+/* 100,000,000,000,000 in two words. */
+enum { CODE_BEYOND_LOW = 276447232, CODE_BEYOND_HIGH = 23283 };
 
 #define NONE PT_NONE
 
@@ -90,7 +90,7 @@ const struct damage damages[] = {
 	{ BASE_RICH, LEGAL_FIELDS, "fields in range", { { SLOT(0, SLOT_MATERIAL), 8 } } },
 	{ BASE_RICH, LEGAL_FIELDS, "fields in range", { { LANE(0, LANE_CODE + CODE_LOW), CODE_BEYOND_LOW },
 			{ LANE(0, LANE_CODE + CODE_HIGH), CODE_BEYOND_HIGH } } },
-	{ BASE_RICH, LEGAL_FIELDS, "fields in range", { { LANE(0, LANE_CODE + CODE_HIGH), 2329 } } },
+	{ BASE_RICH, LEGAL_FIELDS, "fields in range", { { LANE(0, LANE_CODE + CODE_HIGH), CODE_BEYOND_HIGH + 1 } } },
 
 	{ BASE_RICH, LEGAL_ONCE, "each slot in one place", { { GLOBAL(GLOBAL_CHAINS + 17), NONE } } },
 	{ BASE_RICH, LEGAL_ONCE, "each slot in one place", { { GLOBAL(GLOBAL_CHAINS + 0), 0 } } },

@@ -125,6 +125,45 @@ uint32_t draw_word(uint64_t *seed, const uint32_t *memory, size_t total, size_t 
 	}
 }
 
+/* ---- labels */
+
+/* A code that takes so many digits at most; often the largest of them, or the next. */
+static uint64_t draw_wide_code(uint64_t *seed)
+{
+	uint64_t limit = 1;
+
+	for (uint32_t digits = draw_below(seed, 18); digits > 0; digits--)
+		limit *= 10;
+	if (draw_below(seed, 3) == 0)
+		return limit - draw_below(seed, 2);
+	return ((uint64_t)draw_below(seed, PT_NONE) << 32 | draw_below(seed, PT_NONE)) % limit;
+}
+
+/* One of the three lengths, or any. */
+static uint32_t draw_bytes(uint64_t *seed)
+{
+	static const uint32_t lengths[] = { PT_LABEL_8, PT_LABEL_13, PT_LABEL_14 };
+	uint32_t n = draw_below(seed, 5);
+
+	return n < 3 ? lengths[n] : draw_below(seed, LABEL_MOST + 1);
+}
+
+struct step draw_label(uint64_t *seed)
+{
+	struct step step = { .kind = draw_below(seed, 2) == 0 ? STEP_READ : STEP_WRITE };
+
+	step.number = draw_bytes(seed);
+	if (step.kind == STEP_WRITE) {
+		step.code = draw_wide_code(seed);
+		return step;
+	}
+	for (uint32_t n = 0; n < step.number; n++)
+		step.text[n] = (uint8_t)('0' + draw_below(seed, 10));
+	if (step.number > 0 && draw_below(seed, 3) == 0) /* a byte that may be another */
+		step.text[draw_below(seed, step.number)] = (uint8_t)draw_below(seed, 256);
+	return step;
+}
+
 /* ---- steps */
 
 static void ahead(struct drawer *drawer, enum step_kind kind, uint32_t number, uint32_t value)
@@ -262,6 +301,8 @@ struct step drawer_next(struct drawer *drawer, const uint32_t *memory, size_t wo
 		drawer->taken = drawer->ahead = 0;
 		if (!drawer->calls_only && draw_below(&drawer->seed, 40) == 0)
 			ahead_older(drawer, memory, words); /* first: it goes by the memory as it is */
+		if (!drawer->calls_only && draw_below(&drawer->seed, 10) == 0)
+			drawer->step[drawer->ahead++] = draw_label(&drawer->seed);
 		if (draw_below(&drawer->seed, 20 + 10 * lanes) == 0)
 			ahead_lanes(drawer);
 		if (!drawer->calls_only && draw_below(&drawer->seed, 12) == 0)

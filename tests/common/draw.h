@@ -34,6 +34,9 @@ struct call draw_arguments(uint64_t *seed, const struct list *list, enum call_na
 /* A word for the address @at: near what stands there, about a range, another word's, or any. */
 uint32_t draw_word(uint64_t *seed, const uint32_t *memory, size_t total, size_t at);
 
+/* A step of a label function: texts and codes that are labels, nearly labels, or none. */
+struct step draw_label(uint64_t *seed);
+
 /* Where the drawing of a list's steps stands. */
 enum { DRAWN_AHEAD = 700 };
 struct drawer {
@@ -50,8 +53,8 @@ void drawer_start(struct drawer *drawer, const struct list *list, uint64_t seed,
 /*
  * The next step, on the memory as it is: mostly a call; a call on a memory or an answer that
  * is too short; calls on a memory of which some words are changed, after which they are as
- * they were; a record that becomes an older one, with a wrong check digit; now and then all
- * lanes finish their lookups, pass and hand back.
+ * they were; a record that becomes an older one, with a wrong check digit; a label that is
+ * read or written; now and then all lanes finish their lookups, pass and hand back.
  */
 struct step drawer_next(struct drawer *drawer, const uint32_t *memory, size_t words);
 

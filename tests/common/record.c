@@ -37,7 +37,7 @@ static void note_words(struct record *record, const struct beside *beside)
 	}
 }
 
-static void note_difference(struct record *record, const struct beside *beside)
+static void note_difference(struct record *record, const struct beside *beside, const struct step *step)
 {
 	const struct left *left = beside->tried != NULL ? &beside->left : &beside->expected;
 
@@ -55,7 +55,12 @@ static void note_difference(struct record *record, const struct beside *beside)
 			legal_text(ref_broken(beside->before, beside->words)));
 	memcpy(record->expected_answer, beside->expected.answer,
 		left->answer_words * sizeof left->answer[0]);
-	note_words(record, beside);
+	if (step_is_label(step)) {
+		memcpy(record->expected_text, beside->expected_text, sizeof record->expected_text);
+		memcpy(record->left_text, beside->left_text, sizeof record->left_text);
+	} else {
+		note_words(record, beside);
+	}
 }
 
 enum difference record_step(struct record *record, struct beside *beside, const struct step *step)
@@ -64,7 +69,7 @@ enum difference record_step(struct record *record, struct beside *beside, const 
 	uint32_t at = record->steps.count;
 
 	steps_add(&record->steps, step);
-	if (step->kind != STEP_CALL)
+	if (!step_is_made(step))
 		return beside_step(beside, step);
 	record->under_way = true;
 	record->difference = beside_step(beside, step);
@@ -76,7 +81,7 @@ enum difference record_step(struct record *record, struct beside *beside, const 
 	else if (left->answer_words >= PT_ANSWER_WORDS)
 		memcpy(record->answer[at], left->answer, sizeof record->answer[at]);
 	if (record->difference != SAME)
-		note_difference(record, beside);
+		note_difference(record, beside, step);
 	return record->difference;
 }
 
@@ -123,6 +128,28 @@ static void print_words(const struct record *record, FILE *file)
 		fprintf(file, "      .. and %" PRIu32 " more\n", record->differing - RECORD_WORDS);
 }
 
+/* The text that a label function left, as the line that reads it. */
+static void print_text(const char *who, uint32_t bytes, const uint8_t *text, FILE *file)
+{
+	struct step step = { .kind = STEP_READ, .number = bytes };
+	char line[STEP_TEXT];
+
+	memcpy(step.text, text, bytes);
+	step_text(&step, line);
+	fprintf(file, "      %-22s %s\n", who, line + strlen("read "));
+}
+
+static void print_texts(const struct record *record, const char *engine, const char *judge, FILE *file)
+{
+	const struct step *last = &record->steps.step[record->steps.count - 1];
+
+	if (last->kind != STEP_WRITE)
+		return;
+	fprintf(file, "  the text after it\n");
+	print_text(judge, last->number, record->expected_text, file);
+	print_text(engine, last->number, record->left_text, file);
+}
+
 /* What stands beside a step that is no call. */
 static void remark(const struct step *step, const uint32_t sizes[3], char text[WORD_TEXT + 8])
 {
@@ -155,7 +182,7 @@ static void print_steps(const struct record *record, FILE *file)
 		const struct step *step = &record->steps.step[n];
 
 		step_text(step, text);
-		if (step->kind != STEP_CALL)
+		if (!step_is_made(step))
 			remark(step, sizes, answer);
 		else if (ended && n + 1 == record->steps.count)
 			snprintf(answer, sizeof answer, "<- here");
@@ -186,4 +213,5 @@ void record_print(const struct record *record, const char *engine, const char *j
 	if (!record->silent)
 		print_answer(engine, record->left_answer, record->answer_words, record->status, file);
 	print_words(record, file);
+	print_texts(record, engine, judge, file);
 }

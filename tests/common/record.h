@@ -17,7 +17,7 @@ enum { RECORD_WORDS = 12, RECORD_TEXT = 160 };
 
 struct record {
 	struct steps steps;
-	uint32_t answer[STEPS_MOST][PT_ANSWER_WORDS]; /* of each step that is a call */
+	uint32_t answer[STEPS_MOST][PT_ANSWER_WORDS]; /* of each step that makes a call */
 	bool under_way;				      /* the last step has not returned */
 
 	/* The difference of the last step. */
@@ -27,6 +27,7 @@ struct record {
 	bool silent;		 /* there is no other */
 	uint32_t expected_status, status, answer_words;
 	uint32_t expected_answer[BESIDE_ANSWER], left_answer[BESIDE_ANSWER];
+	uint8_t expected_text[LABEL_MOST], left_text[LABEL_MOST]; /* of a label function */
 	uint32_t differing; /* words of the memory, of which the first are here */
 	struct {
 		char name[WORD_TEXT];

@@ -366,6 +366,26 @@ void tally_call(struct tally *tally, const struct beside *beside)
 	tally_add(tally, &tries, &broken);
 }
 
+/* ---- labels */
+
+void tally_label(struct tally *tally, const struct beside *beside, const struct step *step)
+{
+	static const enum sentence sentences[2][2] = { /* read and written; accepted and refused */
+		{ SENTENCE_LABEL_READ, SENTENCE_LABEL_READ_REFUSED },
+		{ SENTENCE_LABEL_WRITTEN, SENTENCE_LABEL_WRITE_REFUSED },
+	};
+	struct tries tries = { { false } }, broken = { { false } };
+	uint32_t status = beside->expected.status;
+	int written = step->kind == STEP_WRITE;
+	enum sentence sentence = status == PT_SHORT_ANSWER ? SENTENCE_SHORT_ANSWER : sentences[written][status != PT_OK];
+
+	tries.of[sentence] = true;
+	broken.of[sentence] = beside->difference != SAME;
+	if (status <= PT_WRONG_LABEL)
+		tally->labels[written][status]++;
+	tally_add(tally, &tries, &broken);
+}
+
 /* ---- the ledger's */
 
 void tally_judged(struct tally *tally, const struct call *call, const uint32_t *answer, bool fault)

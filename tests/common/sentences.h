@@ -26,6 +26,7 @@ struct tally {
 	uint64_t calls;
 	uint64_t accepted[CALLS];
 	uint64_t refused[CALLS][LAST_CAUSE + 1];
+	uint64_t labels[2][PT_WRONG_LABEL + 1]; /* read and written: 0, and by cause */
 	/* how often a cause was answered while another of the call's applied as well */
 	uint64_t before[CALLS][LAST_CAUSE + 1][LAST_CAUSE + 1];
 };
@@ -35,6 +36,9 @@ const char *legal_text(enum legal_sentence sentence);
 
 /* Adds the last call of a run that has a judge, and its difference. */
 void tally_call(struct tally *tally, const struct beside *beside);
+
+/* Adds the last step, of a label function, and its difference. */
+void tally_label(struct tally *tally, const struct beside *beside, const struct step *step);
 
 /* Adds the last call of a list that is judged by the ledger alone. */
 void tally_judged(struct tally *tally, const struct call *call, const uint32_t *answer, bool fault);

@@ -23,8 +23,8 @@ static uint64_t weight(const struct steps *steps)
 
 	for (uint32_t n = 0; n < steps->count; n++)
 		for (uint32_t a = 0; a < CALL_ARGUMENTS; a++)
-			sum += steps->step[n].call.argument[a] < UINT64_C(1) << 44 ?
-				steps->step[n].call.argument[a] : UINT64_C(1) << 44;
+			sum += steps->step[n].call.argument[a] < UINT64_C(1) << 47 ?
+				steps->step[n].call.argument[a] : UINT64_C(1) << 47;
 	return sum;
 }
 

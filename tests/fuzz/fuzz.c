@@ -5,7 +5,8 @@
  * as nothing was damaged. A difference is shrunk and printed, and ends the run.
  *
  * The library is not compiled with the sanitizers. So memory and answer end where a page
- * begins that may be neither read nor written: a word past what is lent ends the run.
+ * begins that may be neither read nor written: a word past what is lent ends the run, and
+ * so does a byte past a label's text.
  */
 #include <inttypes.h>
 #include <stdbool.h>
@@ -27,6 +28,7 @@ enum {
 static struct beside beside;
 static struct record record;
 static uint64_t calls, streams, accepted[CALLS], refused[LAST_CAUSE + 1], short_answers, fed;
+static uint64_t labels[2][PT_WRONG_LABEL + 1]; /* read and written: 0, and by cause */
 
 static void report(void)
 {
@@ -38,7 +40,9 @@ static void report(void)
 	printf("\nfuzz: refused");
 	for (uint32_t cause = PT_BAD_SIZE; cause <= LAST_CAUSE; cause++)
 		printf(" %" PRIu32 ": %" PRIu64, cause, refused[cause]);
-	printf("\n");
+	printf("\nfuzz: labels read %" PRIu64 ", 18: %" PRIu64 "; written %" PRIu64 ", 11: %" PRIu64 ", 18: %" PRIu64 "\n",
+		labels[0][PT_OK], labels[0][PT_WRONG_LABEL], labels[1][PT_OK], labels[1][PT_OUT_OF_RANGE],
+		labels[1][PT_WRONG_LABEL]);
 }
 
 static void count_call(const struct call *call, uint32_t status)
@@ -85,6 +89,8 @@ static void take(const struct step *step)
 		fault();
 	if (step->kind == STEP_CALL)
 		count_call(&step->call, beside.left.status);
+	else if (step_is_label(step) && beside.left.status != PT_SHORT_ANSWER)
+		labels[step->kind == STEP_WRITE][beside.left.status]++;
 }
 
 static void take_call(const struct call *call)
@@ -148,6 +154,7 @@ static void round_of_lanes(void)
 static void operate(struct stream *stream)
 {
 	uint32_t operation = stream_byte(stream) % OPERATIONS;
+	struct step label;
 	struct call call;
 
 	switch (operation) {
@@ -166,6 +173,11 @@ static void operate(struct stream *stream)
 		break;
 	case ROUND:
 		round_of_lanes();
+		break;
+	case READ:
+	case WRITE:
+		label = stream_label(stream, operation == READ ? STEP_READ : STEP_WRITE);
+		take(&label);
 		break;
 	default:
 		call = stream_call(stream, (enum call_name)operation, lanes_of_table());

@@ -70,10 +70,26 @@ static void put_call(const struct call *call)
 			put_number((uint32_t)call->argument[n]);
 }
 
+static void put_label(const struct step *step)
+{
+	put(step->kind == STEP_READ ? READ : WRITE, 1);
+	put(step->number, 1);
+	if (step->kind == STEP_WRITE)
+		put_code(step->code);
+	for (uint32_t n = 0; step->kind == STEP_READ && n < step->number; n++)
+		if (step->text[n] >= '0' && step->text[n] <= '9') {
+			put(step->text[n] - '0', 1);
+		} else {
+			put(BYTES, 1);
+			put(step->text[n], 1);
+		}
+}
+
 /* An operation that is no call, or else the call that the line is. */
 static void put_line(const char *line)
 {
 	uint32_t a, b;
+	struct step step;
 	struct call call;
 
 	if (sscanf(line, "poke %" SCNu32 " %" SCNu32, &a, &b) == 2) {
@@ -94,6 +110,8 @@ static void put_line(const char *line)
 		put(MEND, 1);
 	} else if (strcmp(line, "round") == 0) {
 		put(ROUND, 1);
+	} else if (step_read(line, &step) && step_is_label(&step)) {
+		put_label(&step);
 	} else {
 		call = lent_call(line);
 		put_call(&call);

@@ -9,7 +9,11 @@
  *     many more than the total less 8, below 32 that many less 16, else the number;
  *   ANSWER, a byte: how many words of answer are lent from here on;
  *   MEND: what the last accepted call left is put back, and everything is lent again;
- *   ROUND: each lane makes the calls clock, pass 0 and clock.
+ *   ROUND: each lane makes the calls clock, pass 0 and clock;
+ *   READ, a byte: a label of so many bytes, modulo LABEL_MOST and one, is read, and then its
+ *     bytes follow: one below BYTES is a digit by its last, one from there on comes before
+ *     the byte that is meant;
+ *   WRITE, a byte and a code: the code's label is written into so many bytes.
  * A number is a byte below EDGES for itself, one of the edges, or RAW and four bytes,
  * low byte first. A lane is a number too, but bytes from LANES to EDGES are taken modulo
  * the table's lanes and one. A code is a byte below EDGES for one of 32 codes, a code
@@ -24,6 +28,7 @@
 #include "calls.h"
 #include "codes.h"
 #include "product_table.h"
+#include "steps.h"
 
 enum {
 	POKE = CALLS,
@@ -32,10 +37,12 @@ enum {
 	ANSWER,
 	MEND,
 	ROUND,
+	READ,
+	WRITE,
 	OPERATIONS
 };
 
-enum { LANES = 0x40, EDGES = 0xe0, RAW = 0xf0 };
+enum { LANES = 0x40, BYTES = 0xc8, EDGES = 0xe0, RAW = 0xf0 };
 
 static const uint32_t edges[RAW - EDGES] = {
 	PT_NONE, PT_NONE - 1, 0x7fffffffu, 0x80000000u, 1023, 1024, 1025, PT_MAX_DEPOSIT,
@@ -130,6 +137,21 @@ static inline struct call stream_call(struct stream *stream, enum call_name name
 		else
 			call.argument[n] = stream_number(stream);
 	return call;
+}
+
+/* The step of a label function whose operation byte was read. */
+static inline struct step stream_label(struct stream *stream, enum step_kind kind)
+{
+	struct step step = { .kind = kind, .number = stream_byte(stream) % (LABEL_MOST + 1) };
+
+	if (kind == STEP_WRITE)
+		step.code = stream_code(stream);
+	for (uint32_t n = 0; kind == STEP_READ && n < step.number; n++) {
+		uint32_t byte = stream_byte(stream);
+
+		step.text[n] = (uint8_t)(byte < BYTES ? '0' + byte % 10 : stream_byte(stream));
+	}
+	return step;
 }
 
 #endif /* FUZZ_STREAM_H */

@@ -1,10 +1,11 @@
 /*
  * program.c - links with the library, as C and as C++: each call once, its answer against
- * document 01's rules, and a table in a memory from malloc. Prints "linked, " and the shared
- * library's name with the memory's version word, and ends with 0.
+ * the rules of documents 01 and 02, a table in a memory from malloc, and labels. Prints
+ * "linked, " and the shared library's name with the memory's version word, and ends with 0.
  */
 #include <stdio.h>
 #include <stdlib.h>
+#include <string.h>
 
 #include "product_table.h"
 
@@ -21,6 +22,41 @@ static void is(const char *call, uint32_t status, uint32_t a, uint32_t b, uint32
 		(unsigned long)answer[1], (unsigned long)answer[2], (unsigned long)answer[3],
 		(unsigned long)answer[4], (unsigned long)status);
 	wrong = 1;
+}
+
+static uint8_t text[] = "################"; /* longer than every label */
+
+static void text_is(const char *call, const char *expected)
+{
+	if (memcmp(text, expected, sizeof text) == 0)
+		return;
+	fprintf(stderr, "%s: the text is %s\n", call, (const char *)text);
+	wrong = 1;
+}
+
+/* The two label functions, which take a text and no memory. */
+static void labels(void)
+{
+#define LABEL(digits) (const uint8_t *)digits, sizeof digits - 1, answer, PT_ANSWER_WORDS
+	is("label_read, 8", pt_label_read(LABEL("96385074")), 0, 96385074, 0, 0, 0);
+	is("label_read, 13", pt_label_read(LABEL("4006381333931")), 0, 3471814059u, 932, 0, 0);
+	is("label_read, 14", pt_label_read(LABEL("99999999999999")), 0, 276447231, 23283, 0, 0);
+	is("label_read, 9", pt_label_read(LABEL("963850740")), 18, 0, 0, 0, 0);
+	is("label_read, a blank", pt_label_read(LABEL("96385 74")), 18, 0, 0, 0, 0);
+	is("label_read, a NUL", pt_label_read(LABEL("9638507\0")), 18, 0, 0, 0, 0);
+#define TEXT(bytes) text, bytes, answer, PT_ANSWER_WORDS
+	is("label_write, short", pt_label_write(TEXT(13), 10000000000007), 18, 0, 0, 0, 0);
+	is("label_write, limit", pt_label_write(TEXT(14), PT_MAX_CODE + 1), 11, 0, 0, 0, 0);
+	text_is("label_write, refused", "################");
+	is("label_write, 14", pt_label_write(TEXT(14), 10000000000007), 0, 14, 0, 0, 0);
+	text_is("label_write, 14", "10000000000007##");
+	is("label_write, 13", pt_label_write(TEXT(14), 4006381333931), 0, 13, 0, 0, 0);
+	text_is("label_write, 13", "40063813339317##");
+	is("label_write, 8", pt_label_write(TEXT(sizeof text), 17), 0, 8, 0, 0, 0);
+	text_is("label_write, 8", "00000017339317##");
+	is("label_read, rewritten", pt_label_read(TEXT(8)), 0, 17, 0, 0, 0);
+	if (pt_label_read(text, 8, answer, 4) != PT_SHORT_ANSWER)
+		wrong = 1;
 }
 
 int main(void)
@@ -48,6 +84,7 @@ int main(void)
 	is("hand_back", pt_hand_back(LENT, 0), 0, 0, 0, 0, 0);
 	if (pt_awaited(memory, words, answer, 4) != PT_SHORT_ANSWER)
 		wrong = 1;
+	labels();
 	if (!wrong)
 		printf("linked, libproduct_table.so.%lu\n", (unsigned long)memory[0]);
 	free(memory);

@@ -8,8 +8,25 @@
 #include "codes.h"
 #include "lent.h"
 
-/* The rule, on thirteen digits from the left. */
+/* The rule, on so many digits, from the left: the last weighs 1, the one before it 3, and so on in turn. */
+static bool right_in_digits(uint64_t code, int count)
+{
+	char digits[32];
+	int sum = 0;
+
+	snprintf(digits, sizeof digits, "%0*" PRIu64, count, code);
+	for (int n = 0; n < count; n++)
+		sum += (digits[n] - '0') * ((count - 1 - n) % 2 == 0 ? 1 : 3);
+	return sum % 10 == 0;
+}
+
 static bool right_by_text(uint64_t code)
+{
+	return right_in_digits(code, 14);
+}
+
+/* Request 1's: counted from the left, the first twelve of thirteen weigh 1, 3, 1, 3 and so on. */
+static bool right_from_left(uint64_t code)
 {
 	char digits[32];
 	int sum = 0;
@@ -45,7 +62,13 @@ int main(void)
 	check_codes(UINT64_C(1) << 32, 17, 40);
 	for (uint64_t code = 0; code < 5000; code++)
 		CHECK(code_is_right(code) == right_by_text(code));
-	CHECK(code_is_right(PT_MAX_CODE - 5) && !code_is_right(PT_MAX_CODE));
+	CHECK(code_is_right(PT_MAX_CODE - 2) && !code_is_right(PT_MAX_CODE));
+	for (uint64_t code = 0; code < 5000; code++) /* zeros on the left do not count */
+		for (int count = 4; count <= 20; count++)
+			CHECK(right_in_digits(code, count) == right_by_text(code));
+	for (uint64_t code = 0; code < UINT64_C(10000000000000); code += UINT64_C(1234567891))
+		CHECK(right_from_left(code) == right_by_text(code));
+	CHECK(code_is_right(96385074) && code_is_right(4006381333931) && code_is_right(10012345678902));
 	for (uint64_t code = 0; code < 5000; code++)
 		CHECK(!right_by_text(wrong_code(code)) && wrong_code(code) % CHAINS == code % CHAINS);
 	puts("codes: those with right check digits, and no others; wrong ones of the same chain");

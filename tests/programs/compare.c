@@ -78,6 +78,19 @@ static void print_wrong_digits(bool often)
 	printf("\n");
 }
 
+/* How many labels were read and written, and refused by each cause. */
+static void print_labels(bool often)
+{
+	enum { OFTEN = 100 };
+
+	printf("compare: labels read %" PRIu64 ", 18: %" PRIu64 "; written %" PRIu64 ", 11: %" PRIu64 ", 18: %" PRIu64 "\n",
+		tally.labels[0][PT_OK], tally.labels[0][PT_WRONG_LABEL], tally.labels[1][PT_OK],
+		tally.labels[1][PT_OUT_OF_RANGE], tally.labels[1][PT_WRONG_LABEL]);
+	CHECK(!often || (tally.labels[0][PT_OK] >= OFTEN && tally.labels[0][PT_WRONG_LABEL] >= OFTEN &&
+		tally.labels[1][PT_OK] >= OFTEN && tally.labels[1][PT_OUT_OF_RANGE] >= OFTEN &&
+		tally.labels[1][PT_WRONG_LABEL] >= OFTEN));
+}
+
 /* One list; returns the calls that were made. */
 static uint32_t play(const struct list *list, uint64_t seed, uint32_t calls)
 {
@@ -92,13 +105,16 @@ static uint32_t play(const struct list *list, uint64_t seed, uint32_t calls)
 		struct step step = drawer_next(&drawer, beside.memory, beside.words);
 
 		record_step(&record, &beside, &step);
-		if (step.kind != STEP_CALL)
+		if (!step_is_made(&step))
 			continue;
 		made++;
-		tally_call(&tally, &beside);
+		if (step_is_label(&step))
+			tally_label(&tally, &beside, &step);
+		else
+			tally_call(&tally, &beside);
 		if (record.difference != SAME)
 			report(seed);
-		if (beside.expected.status != PT_OK && beside.expected.status != PT_SHORT_ANSWER)
+		if (step.kind == STEP_CALL && beside.expected.status != PT_OK && beside.expected.status != PT_SHORT_ANSWER)
 			check_cause();
 	}
 	return made;
@@ -125,6 +141,7 @@ int main(int argc, char **argv)
 		CHECK(met > 0);
 	}
 	print_wrong_digits(argc == 1);
+	print_labels(argc == 1);
 	printf("compare: seed %" PRIu64 ", %" PRIu64 " calls, %" PRIu64 " slots handed back\n", first,
 		tally.calls, tally.accepted[CALL_HAND_BACK]);
 	return 0;

@@ -251,23 +251,19 @@ static bool record_in_range(uint64_t code, uint32_t deposit, uint32_t material)
 	return code <= PT_MAX_CODE && deposit <= PT_MAX_DEPOSIT && material <= PT_MAX_MATERIAL;
 }
 
-enum { CODE_DIGITS = 13, FIRST_WEIGHT = 1, SECOND_WEIGHT = 3, TEN = 10 };
+enum { FIRST_WEIGHT = 3, SECOND_WEIGHT = 1, TEN = 10 };
 
 /*
- * Counted from the left, the first twelve digits weigh 1, 3, 1, 3 and so on; the thirteenth
- * brings the sum to a multiple of ten. The code is in range.
+ * From the right, leaving out the check digit, weights run 3, 1, 3 and so on; the check digit
+ * brings the sum to a multiple of ten. Zeros on the left weigh nothing.
  */
 static bool check_digit_right(uint64_t code)
 {
-	uint32_t digit[CODE_DIGITS], sum = 0;
+	uint32_t check = (uint32_t)(code % TEN), sum = 0, place = 0;
 
-	for (int n = CODE_DIGITS - 1; n >= 0; n--) {
-		digit[n] = (uint32_t)(code % TEN);
-		code /= TEN;
-	}
-	for (int n = 0; n < CODE_DIGITS - 1; n++)
-		sum += digit[n] * (n % 2 == 0 ? FIRST_WEIGHT : SECOND_WEIGHT);
-	return (sum + digit[CODE_DIGITS - 1]) % TEN == 0;
+	for (uint64_t rest = code / TEN; rest > 0; rest /= TEN)
+		sum += (uint32_t)(rest % TEN) * (place++ % 2 == 0 ? FIRST_WEIGHT : SECOND_WEIGHT);
+	return (sum + check) % TEN == 0;
 }
 
 /* Takes the first free slot for a record. */

@@ -23,12 +23,16 @@ const char judge_name[] = "the proved library";
 #define ARGUMENT(n, KIND) , argument_##KIND
 #define CALL(NAME, name, command, weight, arguments, causes) uint32_t proved_##name(CALL_LENT arguments);
 #include "calls.def"
+uint32_t proved_label_read(LABEL_READ_LENT);
+uint32_t proved_label_write(LABEL_WRITE_LENT, uint64_t code);
 #endif
 
 const struct interface judge = {
 #define ARGUMENT(n, KIND)
 #define CALL(NAME, name, command, weight, arguments, causes) .name = JUDGE(name),
 #include "calls.def"
+	.label_read = JUDGE(label_read),
+	.label_write = JUDGE(label_write),
 };
 
 #ifdef ENGINE_ARCHIVE
@@ -39,6 +43,8 @@ const struct interface *engine_open(const char *path)
 #define ARGUMENT(n, KIND)
 #define CALL(NAME, name, command, weight, arguments, causes) .name = pt_##name,
 #include "calls.def"
+		.label_read = pt_label_read,
+		.label_write = pt_label_write,
 	};
 
 	(void)path;
@@ -70,11 +76,14 @@ const struct interface *engine_open(const char *path)
 		printf("trial: the library is not loaded: %s\ndiffers\n", dlerror());
 		exit(1);
 	}
-#define ARGUMENT(n, KIND)
-#define CALL(NAME, name, command, weight, arguments, causes) \
+#define FUNCTION(name) \
 	found = function(library, "pt_" #name, &missing); \
 	memcpy(&engine.name, &found, sizeof found);
+#define ARGUMENT(n, KIND)
+#define CALL(NAME, name, command, weight, arguments, causes) FUNCTION(name)
 #include "calls.def"
+	FUNCTION(label_read)
+	FUNCTION(label_write)
 	if (missing > 0) {
 		puts("differs");
 		exit(1);

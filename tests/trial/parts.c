@@ -1,6 +1,6 @@
 /*
  * parts.c - the lists of a trial: the cases of documents 01 and 02, every cause with its neighbours,
- * damaged memories, lengths at the edge of a page, and lists that are drawn.
+ * damaged memories, lengths at the edge of a page, labels, and lists that are drawn.
  */
 #include "trial.h"
 
@@ -25,8 +25,12 @@ enum { CASE_STEPS = 20 };
 static const char *const stars[][CASE_STEPS] = {
 	{ "lend 7455", "setup 8 8 1024", "lend 7456", "setup 8 8 1024", "awaited" },
 	{ "setup 1 1 0", "setup 1 1 1025", "setup 8 8 1024" },
-	{ "setup 1 1 2", "add 0 9999999999999 1 1", "add 0 9999999999994 1 1", "add 0 10000000000000 1 1",
+	{ "setup 1 1 4", "add 0 9999999999999 1 1", "add 0 9999999999994 1 1", "add 0 10000000000000 1 1",
 		"rep 0 9999999999999 1 1", "rep 0 9999999999994 2 2", "del 0 9999999999999", "del 0 9999999999994" },
+	{ "setup 1 1 4", "add 0 99999999999999 1 1", "add 0 99999999999997 1 1", "add 0 100000000000000 1 1",
+		"rep 0 99999999999999 1 1", "rep 0 99999999999997 2 2", "rep 0 100000000000000 2 2", "begin 0",
+		"start 0 100000000000000", "start 0 99999999999999", "step 0", "step 0", "step 0",
+		"del 0 100000000000000", "del 0 99999999999999", "del 0 99999999999997" },
 	{ "setup 1 2 2", "clock 2", "clock 1" },
 	{ "setup 1 1 2", "poke 12 4294967295", "poke 13 4294967294", "add 0 17 1 1", "del 0 17",
 		"clock 0", "pass 0 0", "clock 0", "back 0", "add 0 17 1 1", "del 0 17", "clock 0" },
@@ -331,6 +335,63 @@ static void play_edges(uint32_t n)
 	play_lengths(&list, STEP_LEND, 0, 30, &seed);
 }
 
+/* ---- labels: every length and every byte at every place, codes about every length, at both edges of a page */
+
+static const uint32_t label_lengths[] = { PT_LABEL_8, PT_LABEL_13, PT_LABEL_14 };
+
+static uint32_t label_lists(void)
+{
+	return 2 * (COUNT(label_lengths) + 1);
+}
+
+static struct step reading(uint32_t bytes)
+{
+	struct step step = { .kind = STEP_READ, .number = bytes };
+
+	for (uint32_t n = 0; n < bytes; n++)
+		step.text[n] = (uint8_t)('0' + (n * 7 + 9) % 10);
+	return step;
+}
+
+static void play_bytes(uint32_t length)
+{
+	for (uint32_t at = 0; at < length; at++)
+		for (uint32_t byte = 0; byte <= UINT8_MAX; byte++) {
+			struct step step = reading(length);
+
+			step.text[at] = (uint8_t)byte;
+			player_step(&step);
+		}
+}
+
+static void play_label_lengths(void)
+{
+	static const uint64_t codes[] = { 0, 17, 99999999, 100000000, 9999999999999, 10000000000000,
+		PT_MAX_CODE - 2, PT_MAX_CODE, PT_MAX_CODE + 1, UINT64_MAX };
+
+	for (uint32_t bytes = 0; bytes <= 20; bytes++) {
+		struct step step = reading(bytes);
+
+		player_step(&step);
+		for (uint32_t n = 0; n < COUNT(codes); n++)
+			player_step(&(struct step){ .kind = STEP_WRITE, .number = bytes, .code = codes[n] });
+	}
+}
+
+static void play_labels(uint32_t n)
+{
+	player_start(false);
+	player.beside.at_start = n % 2 == 1;
+	if (n / 2 < COUNT(label_lengths)) {
+		play_bytes(label_lengths[n / 2]);
+		return;
+	}
+	for (uint32_t words = 0; words <= PT_ANSWER_WORDS + 3; words++) {
+		player_step(&(struct step){ .kind = STEP_ANSWER, .number = words });
+		play_label_lengths();
+	}
+}
+
 /* ---- lists that are drawn */
 
 enum { DRAWN_CALLS = 250, DRAWN_LISTS_OF_A_PROGRAM = 12 };
@@ -345,7 +406,7 @@ static void play_drawn_list(const struct list *list, uint64_t seed, bool calls_o
 		struct step step = drawer_next(&drawer, player.beside.memory, player.beside.words);
 
 		player_step(&step);
-		calls += step.kind == STEP_CALL ? 1u : 0u;
+		calls += step_is_made(&step) ? 1u : 0u;
 	}
 }
 
@@ -377,6 +438,7 @@ const struct part parts[] = {
 	{ "every cause with each of its neighbours", true, false, cause_lists, play_causes, 0 },
 	{ "damaged memories, a sentence of legality at a time", false, false, damage_lists, play_damages, 0 },
 	{ "every length at the edge of a page", false, false, edge_lists, play_edges, 0 },
+	{ "labels: every length, every byte at every place", false, false, label_lists, play_labels, 0 },
 	{ "drawn lists, on a dozen sizes", true, false, NULL, play_random, 0.75 },
 	{ "drawn lists, judged by the ledger of demand 3", true, true, NULL, play_judged, 0.25 },
 };

@@ -21,10 +21,14 @@ void player_start(bool by_ledger)
 	player.beside.all_lent = trial.program != NULL;
 }
 
-static void count(void)
+static void count(const struct step *step)
 {
 	if (player.tally == NULL)
 		return;
+	if (step_is_label(step)) {
+		tally_label(player.tally, &player.beside, step);
+		return;
+	}
 	if (player.by_ledger && trial.program == NULL)
 		tally_judged(player.tally, &player.beside.call, player.beside.left.answer,
 			player.record->difference != SAME);
@@ -39,9 +43,9 @@ void player_step(const struct step *step)
 	shared->ticks++;
 	difference = record_step(player.record, &player.beside, step);
 	shared->ticks++;
-	if (step->kind != STEP_CALL)
+	if (!step_is_made(step))
 		return;
-	count();
+	count(step);
 	if (difference != SAME)
 		_exit(EXIT_DONE + END_DIFFERS);
 }

@@ -264,6 +264,10 @@ static void print_calls(void)
 		}
 		printf("\n");
 	}
+	printf("  %-8s %9" PRIu64 "   18: %" PRIu64 "\n", "read", shared->tally.labels[0][PT_OK],
+		shared->tally.labels[0][PT_WRONG_LABEL]);
+	printf("  %-8s %9" PRIu64 "   11: %" PRIu64 "  18: %" PRIu64 "\n", "write", shared->tally.labels[1][PT_OK],
+		shared->tally.labels[1][PT_OUT_OF_RANGE], shared->tally.labels[1][PT_WRONG_LABEL]);
 }
 
 /* How many pairs of a call's causes were met at once, of those that do not exclude each other. */

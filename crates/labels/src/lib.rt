@@ -97,7 +97,9 @@ pub fn read(text: &[u8]) -> access::Answer
         return access::refused(causes::WRONG_LABEL);
     }
     let code = code_of(text);
-    access::accepted(words::low(code), words::high(code), 0, 0)
+    let low = words::low(code);
+    let high = words::high(code);
+    access::accepted(low, high, 0, 0)
 }
 
 // ---- the writer
