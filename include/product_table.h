@@ -37,7 +37,7 @@
  * every word is in range or at its rest value, each slot stands in exactly one chain
  * or queue, and flags, masks and generations agree with each other. pt_setup()
  * makes a legal memory of any words, and every call keeps it legal. A damaged
- * memory is refused by all other calls, and never followed out of its bounds.
+ * memory is refused by all other calls on it, and never followed out of its bounds.
  *
  * Sections. What pt_begin(), pt_step() and pt_hand_back() promise about sections holds
  * as long as nothing but these calls has written the memory since its set-up. Legality
@@ -46,11 +46,12 @@
  *
  * Answer. Each call writes five words into the first PT_ANSWER_WORDS words of
  * @answer, the status first, and returns the status. A refusal answers its number
- * and four times 0, and changes no word of the memory and no byte of a text. Words of the answer past the
- * fifth stay. With fewer than five the call returns PT_SHORT_ANSWER, before every
- * other test, and writes nothing at all. Where several refusals apply, the one that
- * stands first in the call's list is returned; the numbers do not order them: of add
- * and replace PT_WRONG_DIGIT, 17, stands directly after PT_OUT_OF_RANGE, 11.
+ * and four times 0, and changes no word of the memory and no byte of a text. Words
+ * of the answer past the fifth stay. With fewer than five the call returns
+ * PT_SHORT_ANSWER, before every other test, and writes nothing at all. Where several
+ * refusals apply, the one that stands first in the call's list is returned; the
+ * numbers do not order them: of add and replace PT_WRONG_DIGIT, 17, stands directly
+ * after PT_OUT_OF_RANGE, 11.
  *
  * Check digit. pt_add() and pt_replace() take codes whose GS1 check digit is right:
  * from the right, leaving out the check digit, the digits weigh 3, 1, 3 and so on, and
@@ -97,7 +98,7 @@ extern "C" {
 #define PT_OK             0u  /* done */
 #define PT_BAD_SIZE       1u  /* setup: a size is out of range */
 #define PT_SHORT_MEMORY   2u  /* setup: the memory is below the total */
-#define PT_NOT_LEGAL      3u  /* any other call: the memory is not legal */
+#define PT_NOT_LEGAL      3u  /* any other call on a memory: it is not legal */
 #define PT_NO_LANE        4u  /* the lane number is not below that of lanes */
 #define PT_OFFLINE        5u  /* the lane is offline */
 #define PT_ONLINE         6u  /* on: the lane is online already */

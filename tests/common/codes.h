@@ -12,13 +12,17 @@
 #include <stdbool.h>
 #include <stdint.h>
 
-/* The @k-th right code, from 0, of those that leave @rest when divided by @modulus. */
+/* The @k-th right code, from 0, of @rest, @rest + @modulus and so on. */
 uint64_t right_code(uint64_t modulus, uint64_t rest, uint64_t k);
 
 /* The @k-th right code of all, of a chain, and of those with a given low word. */
 #define CODE_OF_ALL(k) right_code(1, 0, k)
 #define CODE_OF_CHAIN(chain, k) right_code(64, chain, k)
 #define CODE_OF_LOW_WORD(low, k) right_code(UINT64_C(1) << 32, low, k)
+
+/* The same of those of fourteen digits: near the limit, with a given low word. */
+#define CODE_NEAR_LIMIT(low, k) right_code(UINT64_C(1) << 32, (UINT64_C(22000) << 32) + (low), k)
+#define FIRST_OF_14_DIGITS UINT64_C(10000000000000)
 
 /* Whether the check digit is right. */
 bool code_is_right(uint64_t code);

@@ -40,14 +40,15 @@ static uint32_t in_range(uint64_t *seed, uint32_t count, uint32_t often, uint32_
 	return draw_below(seed, often) == 0 ? count + draw_below(seed, beyond) : draw_below(seed, count);
 }
 
-/* Right codes of lists: half of them share chain 0, the others a low word, so that they differ in the high one alone. */
+/* Right codes of lists: half of them share chain 0, the others a low word, so that they differ in the high one alone; half of these have fourteen digits. */
 static uint64_t draw_right_code(uint64_t *seed, const struct list *list)
 {
 	static uint64_t codes[DRAW_CODES]; /* each is found once; 0 is not yet found, or itself */
 	uint32_t n = draw_below(seed, list->codes);
 
 	if (codes[n] == 0)
-		codes[n] = n % 2 == 0 ? CODE_OF_CHAIN(0, n / 2) : CODE_OF_LOW_WORD(5, n / 2);
+		codes[n] = n % 2 == 0 ? CODE_OF_CHAIN(0, n / 2) :
+			n % 4 == 1 ? CODE_OF_LOW_WORD(5, n / 4) : CODE_NEAR_LIMIT(5, n / 4);
 	return codes[n];
 }
 

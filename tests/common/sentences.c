@@ -244,6 +244,7 @@ static void call_tries(struct tally *tally, struct tries *tries, const struct be
 	}
 	tries->of[SENTENCE_FIVE_WORDS] = true;
 	tries->of[SENTENCE_WIDTHS] = call_argument(&beside->call, KIND_CODE, 0) > UINT32_MAX;
+	tries->of[SENTENCE_CODE_LIMIT] = call_argument(&beside->call, KIND_CODE, 0) >= FIRST_OF_14_DIGITS;
 	if (beside->words > CONTENTS_WORDS && beside->tried != NULL) {
 		size_t total = total_of(beside->memory);
 
@@ -300,12 +301,14 @@ static void blame_digits(struct tries *broken, const struct tries *tries, uint32
 {
 	for (int n = SENTENCE_DIGIT_RIGHT; n <= SENTENCE_DIGIT_OLDER; n++)
 		broken->of[n] |= status == PT_WRONG_DIGIT && tries->of[n];
+	broken->of[SENTENCE_DIGIT_WEIGHTS] |= status == PT_WRONG_DIGIT && tries->of[SENTENCE_DIGIT_WEIGHTS];
 }
 
 static void blame_status(struct tries *broken, const struct tries *tries, const struct beside *beside)
 {
 	uint32_t expected = beside->expected.status, status = beside->left.status;
 
+	broken->of[SENTENCE_CODE_LIMIT] = tries->of[SENTENCE_CODE_LIMIT];
 	if (expected == PT_SHORT_ANSWER || status == PT_SHORT_ANSWER) {
 		broken->of[SENTENCE_SHORT_ANSWER] = true;
 	} else if (expected == PT_OK) {

@@ -52,7 +52,8 @@ static const uint32_t edges[RAW - EDGES] = {
 
 /*
  * The code that a byte below EDGES is: four right codes of each of two chains, of each
- * another with the same low word, and of each of these sixteen a wrong one of its chain.
+ * another of fourteen digits with the same low word, and of each of these sixteen a wrong
+ * one of its chain.
  */
 static inline uint64_t spread(uint32_t byte)
 {
@@ -62,7 +63,7 @@ static inline uint64_t spread(uint32_t byte)
 	if (codes[n] == 0) {
 		codes[n] = CODE_OF_CHAIN(n & 4u ? 17 : 0, n & 3u);
 		if (n & 8u)
-			codes[n] = CODE_OF_LOW_WORD((uint32_t)codes[n], 1);
+			codes[n] = CODE_NEAR_LIMIT((uint32_t)codes[n], 0);
 		if (n & 16u)
 			codes[n] = wrong_code(codes[n]);
 	}

@@ -60,6 +60,9 @@ int main(void)
 	for (uint32_t chain = 0; chain < CHAINS; chain++)
 		check_codes(CHAINS, chain, 40);
 	check_codes(UINT64_C(1) << 32, 17, 40);
+	for (uint64_t k = 0; k < 100; k++)
+		CHECK(right_by_text(CODE_NEAR_LIMIT(5, k)) && CODE_NEAR_LIMIT(5, k) % (UINT64_C(1) << 32) == 5 &&
+			CODE_NEAR_LIMIT(5, k) >= FIRST_OF_14_DIGITS && CODE_NEAR_LIMIT(5, k) <= PT_MAX_CODE);
 	for (uint64_t code = 0; code < 5000; code++)
 		CHECK(code_is_right(code) == right_by_text(code));
 	CHECK(code_is_right(PT_MAX_CODE - 2) && !code_is_right(PT_MAX_CODE));

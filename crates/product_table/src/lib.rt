@@ -1,4 +1,4 @@
-// The static library: the calls for C, as include/product_table.h declares them. A slice is a pointer and a length.
+// The static library: the functions for C, as include/product_table.h declares them. A slice is a pointer and a length.
 ghost use mathlib.Core.Path.{_≡_};
 ghost use mathlib.Core.List.{_++_};
 ghost use Prim.Native.Nat.{_≤_};
