@@ -63,6 +63,9 @@ module _ (w v : ℕ) (weights : Weights w v) (ds : List ℕ) (h : Decimal ds) (r
 abbrev pub exchange : List ℕ → ℕ → List ℕ
 exchange ds p = set (set ds p (getD ds (suc p) 0)) (suc p) (getD ds p 0)
 
+pub length-exchange : (ds : List ℕ) (p : ℕ) → length (exchange ds p) ≡ length ds
+length-exchange ds p = length-set (set ds p (getD ds (suc p) 0)) (suc p) (getD ds p 0) ∙ length-set ds p (getD ds (suc p) 0)
+
 -- two digits differ by 5
 abbrev pub fiveApart : ℕ → ℕ → Bool
 fiveApart a b = eqb (a + 5) b || eqb (b + 5) a
@@ -130,37 +133,34 @@ module _ (w v : ℕ) (weights : Weights w v) (ds : List ℕ) (h : Decimal ds) (r
 
 -- ---- a right check digit
 
--- the sum from the left that decides over ds, and over any other digits of as many places
-module _ (ds : List ℕ) (n : ℕ) (e : length ds ≡ n) where
-  abbrev w : ℕ
-  w = weightAt firstWeight secondWeight n
+-- counted from the left, the first of n digits weighs this, and the second that
+abbrev w : ℕ → ℕ
+w n = weightAt firstWeight secondWeight n
 
-  abbrev v : ℕ
-  v = weightAt secondWeight firstWeight n
+abbrev v : ℕ → ℕ
+v n = weightAt secondWeight firstWeight n
 
-  decided : rightDigits ds ≡ eqb (weighed w v ds % ten) 0
-  decided =
-      right-sum ds
-      ∙ ap (λ (x : ℕ). eqb (x % ten) 0)
-      (weighed-reverse secondWeight firstWeight ds
-      ∙ ap (λ (k : ℕ). weighed (weightAt firstWeight secondWeight k) (weightAt secondWeight firstWeight k) ds) e)
+-- the sum from the left decides
+decided : (ds : List ℕ) (n : ℕ) → length ds ≡ n → rightDigits ds ≡ eqb (weighed (w n) (v n) ds % ten) 0
+decided ds n e =
+    right-sum ds
+    ∙ ap (λ (x : ℕ). eqb (x % ten) 0) (weighed-reverse secondWeight firstWeight ds ∙ ap (λ (k : ℕ). weighed (w k) (v k) ds) e)
 
 module _ (ds : List ℕ) (h : Decimal ds) (right : rightDigits ds ≡ true) where
   abbrev n : ℕ
   n = length ds
 
-  weights : Weights (w ds n refl) (v ds n refl)
+  weights : Weights (w n) (v n)
   weights = weights-at firstWeight secondWeight (inr (refl, refl)) n
 
-  tens : Tens (w ds n refl) (v ds n refl) ds
-  tens = eqb-true (weighed (w ds n refl) (v ds n refl) ds % ten) 0 (sym (decided ds n refl) ∙ right)
+  tens : Tens (w n) (v n) ds
+  tens = eqb-true (weighed (w n) (v n) ds % ten) 0 (sym (decided ds n refl) ∙ right)
 
   -- one wrong digit is always caught
   pub mistyped-wrong : (p d : ℕ) → p < length ds → d < ten → d ≢ getD ds p 0 → rightDigits (set ds p d) ≡ false
   mistyped-wrong p d place digit other =
       decided (set ds p d) n (length-set ds p d)
-      ∙ ne-eqb (weighed (w ds n refl) (v ds n refl) (set ds p d) % ten) 0
-      (other-digit (w ds n refl) (v ds n refl) weights ds h tens p d place digit other)
+      ∙ ne-eqb (weighed (w n) (v n) (set ds p d) % ten) 0 (other-digit (w n) (v n) weights ds h tens p d place digit other)
 
   module _ (p : ℕ) (place : suc p < length ds) where
     abbrev a : ℕ
@@ -171,9 +171,7 @@ module _ (ds : List ℕ) (h : Decimal ds) (right : rightDigits ds ≡ true) wher
 
     -- two neighbours exchanged pass exactly where they are equal or differ by 5
     pub exchanged-right : rightDigits (exchange ds p) ≡ equalOrFiveApart (getD ds p 0) (getD ds (suc p) 0)
-    exchanged-right =
-        decided (exchange ds p) n (length-set (set ds p b) (suc p) a ∙ length-set ds p b)
-        ∙ exchange-right (w ds n refl) (v ds n refl) weights ds h tens p place
+    exchanged-right = decided (exchange ds p) n (length-exchange ds p) ∙ exchange-right (w n) (v n) weights ds h tens p place
 
     -- two that are not equal are caught unless they differ by 5
     pub exchanged-caught : getD ds p 0 ≢ getD ds (suc p) 0 → rightDigits (exchange ds p) ≡ fiveApart (getD ds p 0) (getD ds (suc p) 0)

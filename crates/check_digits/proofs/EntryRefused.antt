@@ -15,7 +15,7 @@ use Rattle.model.specs.Digits.{ten, number}
 use Rattle.model.specs.CheckDigit.{codeDigits, rightDigits, rightCheckDigit}
 use Rattle.model.specs.Rules.{Op, add, replace, refused, Cause, firstOf, wrongProduct, laneOf, ofLane, ofEntry, causes, answerOf, answer}
 use Rattle.check_digits.proofs.Digits.{Decimal, decimal-set}
-use Rattle.check_digits.proofs.Caught.{exchange, fiveApart, mistyped-wrong, exchanged-caught, right-number, number-fits}
+use Rattle.check_digits.proofs.Caught.{exchange, length-exchange, fiveApart, mistyped-wrong, exchanged-caught, right-number, number-fits}
 
 -- an entry is refused with 17
 pub record Refuses (s : State) (i c d m : ℕ) : Type 0 where
@@ -71,5 +71,5 @@ module _ (s : State) (i d m : ℕ) (lane : firstOf (ofLane s i []) ≡ 0) (depos
     pub exchanged-refused : suc p < length ds → getD ds p 0 ≢ getD ds (suc p) 0 → fiveApart (getD ds p 0) (getD ds (suc p) 0) ≡ false
         → Refuses s i (number (exchange ds p)) d m
     exchanged-refused place other near =
-        wrong-refused (exchange ds p) (length-set (set ds p b) (suc p) a ∙ length-set ds p b)
+        wrong-refused (exchange ds p) (length-exchange ds p)
         (decimal-set (set ds p b) (suc p) a (decimal-set ds p b h (h (suc p))) (h p)) (exchanged-caught ds h right p place other ∙ near)

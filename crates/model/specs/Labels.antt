@@ -8,7 +8,7 @@ use lib.Dec.{ltb, eqb}
 use Rattle.model.specs.Lists.{any}
 use Rattle.model.specs.Digits.{ten, digits, number, isDigit, digitOf, byteOf}
 use Rattle.model.specs.CheckDigit.{codeDigits}
-use Rattle.model.specs.Rules.{Answer, accepted, refused, cause, firstOf, wrongCode}
+use Rattle.model.specs.Rules.{Answer, accepted, refused, Cause, cause, firstOf, wrongCode}
 use Rattle.model.specs.Memory.{low, high}
 
 -- ---- the three lengths: GTIN-8, GTIN-13 and GTIN-14
@@ -20,7 +20,7 @@ abbrev pub gtin13 : ℕ
 gtin13 = 13
 
 abbrev pub gtin14 : ℕ
-gtin14 = 14
+gtin14 = codeDigits
 
 abbrev pub isLabelLength : ℕ → Bool
 isLabelLength n = eqb n gtin8 || eqb n gtin13 || eqb n gtin14
@@ -42,9 +42,12 @@ filled ds = replicate (codeDigits - length ds) 0 ++ ds
 unfoldable pub labelCode : List ℕ → ℕ
 labelCode text = number (filled (map digitOf text))
 
+abbrev pub wrongLabel : Bool → Cause
+wrongLabel b = cause 18 b
+
 -- the number of the cause that refuses to read a text; 0 where none does
 unfoldable pub readRefusal : List ℕ → ℕ
-readRefusal text = firstOf (cause 18 (noLabel text) ∷ [])
+readRefusal text = firstOf (wrongLabel (noLabel text) ∷ [])
 
 -- the answer where cause n refuses; n is 0 where none does
 unfoldable pub readReplyOf : ℕ → List ℕ → Answer
@@ -67,7 +70,7 @@ labelText c = map byteOf (digits (labelLength c) c)
 
 -- the number of the cause that refuses to write a code's label into a text: the code is out of range, or the text is shorter than the label
 unfoldable pub writeRefusal : List ℕ → ℕ → ℕ
-writeRefusal text c = firstOf (cause 11 (wrongCode c) ∷ cause 18 (ltb (length text) (labelLength c)) ∷ [])
+writeRefusal text c = firstOf (cause 11 (wrongCode c) ∷ wrongLabel (ltb (length text) (labelLength c)) ∷ [])
 
 unfoldable pub writeReplyOf : ℕ → ℕ → Answer
 writeReplyOf (suc n) c = refused (suc n)
