@@ -1,5 +1,5 @@
 -- The second step: the numbers below n by their codes, a tree in cells that hold 0 or such a number plus 1. A code begins in one of R cells; a
--- number that stands in a cell has eight cells of its own, from R + 8 × it, and a code that is not its own goes on in the one of its next digit.
+-- number that stands in a cell has sixteen cells of its own, from R + 16 × it, and a code that is not its own goes on in the one of its next digit.
 use Prim.Native.Nat.{ℕ, suc, _+_, _*_, _/_, _%_, _≤_, _<_}
 use mathlib.Core.Bool.{Bool, true, false}
 use mathlib.Core.Path.{_≡_}
@@ -10,7 +10,7 @@ use Rattle.distinct_codes.specs.Cells.{fewCells, manyCells, cellsOf}
 
 -- the cells of a number's own, and the base of the digits
 abbrev pub branches : ℕ
-branches = 8
+branches = 16
 
 -- the cell in which code c begins, of R
 abbrev pub root : ℕ → ℕ → ℕ

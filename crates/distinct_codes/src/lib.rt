@@ -13,7 +13,7 @@ ghost use Rattle.distinct_codes.specs.Cells.{fewCells, cellsOf, codeAt, 
 ghost use Rattle.distinct_codes.specs.Tree.{branches, Roots, Rooted, Shape, Entered, Empty};
 
 // the base of the digits, and the cells of a number's own
-const DIGIT: u64 = 8;
+const DIGIT: u64 = 16;
 
 const BRANCHES: usize = DIGIT as usize;
 
