@@ -16,8 +16,9 @@ use Rattle.model.specs.Layout.{maxCode}
 use Rattle.model.specs.Digits.{ten, digits, number}
 use Rattle.model.specs.CheckDigit.{codeDigits, firstWeight, secondWeight, weighed, rightDigits, rightCheckDigit}
 use Rattle.laws.specs.Tests.{iff-eq, or-cases, or-else-intro}
-use Rattle.check_digits.proofs.Digits.{Decimal, number-digits, number-range, digits-padded}
+use Rattle.check_digits.proofs.Digits.{Decimal, digits-length, digits-decimal, number-digits, number-range, digits-padded}
 use Rattle.check_digits.proofs.Weights.{weightAt, weighed-set, Weights, weights-at, weighed-reverse, right-sum, right-zeros}
+use Rattle.check_digits.proofs.Weights.{thirteen, rightFromLeft, right-thirteen}
 
 -- ---- sums from the left, with weights 1, 3 or 3, 1
 
@@ -190,6 +191,14 @@ module _ (ds : List ℕ) (few : length ds ≤ codeDigits) (h : Decimal ds) where
   number-fits =
       let wider : ten ^ length ds ≤ ten ^ codeDigits = pow-le-pow-right (omega arith) few in
       omega (arith, number-range ds h)
+
+-- of codes of up to thirteen digits it is request 1's reading, from the left
+pub right-code-thirteen : (c : ℕ) → c < ten ^ thirteen → rightCheckDigit c ≡ rightFromLeft (digits thirteen c)
+right-code-thirteen c h =
+    let ds = digits thirteen c in
+    ap rightCheckDigit (sym (number-digits thirteen c h))
+    ∙ right-number ds (omega (arith, digits-length thirteen c)) (digits-decimal thirteen c)
+    ∙ right-thirteen ds (digits-length thirteen c)
 
 -- codes in range are those of fourteen digits
 pub code-digits : (c : ℕ) → c ≤ maxCode → number (digits codeDigits c) ≡ c

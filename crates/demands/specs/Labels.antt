@@ -57,16 +57,19 @@ pub record Labels : Type 0 where
 
 -- ---- that it holds
 
+read-answer : (text a b : List ℕ) (s : ℕ) → LabelRead text a b s → answerLength ≤ length a → Answered (readReply text) a b s
+read-answer text a b s h l = made-answer (readReply text) text text a text b s h (le-ltb (length a) answerLength l)
+
 reads-by-the-rule : (text a b : List ℕ) (s : ℕ) → LabelRead text a b s → ReadsByTheRule text a b s
 unfolding readReply readReplyOf
 reads-by-the-rule text a b s h = record {
   short = λ l. short-answer (readReply text) text text a text b s h (lt-ltb (length a) answerLength l);
-  broken = λ l n e. subst (λ (r : Answer). Answered r a b s) (ap (λ (x : ℕ). readReplyOf x text) e) (answered l);
-  kept = λ l e. subst (λ (r : Answer). Answered r a b s) (ap (λ (x : ℕ). readReplyOf x text) e) (answered l);
+  broken = λ l n e. by l e;
+  kept = λ l e. by l e;
 }
   where
-    answered : answerLength ≤ length a → Answered (readReply text) a b s
-    answered l = made-answer (readReply text) text text a text b s h (le-ltb (length a) answerLength l)
+    by : {n : ℕ} → answerLength ≤ length a → readRefusal text ≡ n → Answered (readReplyOf n text) a b s
+    by l e = subst (λ (r : Answer). Answered r a b s) (ap (λ (x : ℕ). readReplyOf x text) e) (read-answer text a b s h l)
 
 writes-by-the-rule : (c : ℕ) (text a after b : List ℕ) (s : ℕ) → LabelWritten c text a after b s → WritesByTheRule c text a after b s
 unfolding writeReply writeReplyOf written writtenOf
@@ -115,12 +118,7 @@ module _ (c : ℕ) (text a after b : List ℕ) (h : LabelWritten c text a after 
 code-in : (c : ℕ) (a b : List ℕ) (s : ℕ) → Answered (accepted (low c) (high c) 0 0) a b s → (s ≡ 0) × (codeIn b ≡ c)
 code-in c a b s h = (h .status, ap codeIn (h .answer) ∙ omega arith)
 
--- a reader's call
-module _ (text a b : List ℕ) (s : ℕ) (h : LabelRead text a b s) where
-  read-answer : answerLength ≤ length a → Answered (readReply text) a b s
-  read-answer l = made-answer (readReply text) text text a text b s h (le-ltb (length a) answerLength l)
-
--- one that returned 0
+-- a reader's call that returned 0
 module _ (label a b : List ℕ) (h : LabelRead label a b 0) where
   read-lent : answerLength ≤ length a
   read-lent = ltb-false (length a) answerLength (made-long (readReply label) label label a label b 0 h refl)
