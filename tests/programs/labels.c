@@ -17,9 +17,22 @@ static struct beside beside;
 static struct record record;
 static uint64_t read_count, written_count, refused_count;
 
+/* A step's line is read as that step. */
+static void check_line(const struct step *step)
+{
+	char line[STEP_TEXT];
+	struct step again;
+
+	step_text(step, line);
+	CHECK(step_read(line, &again));
+	CHECK(again.kind == step->kind && again.number == step->number && again.code == step->code);
+	CHECK(memcmp(again.text, step->text, step->number) == 0 || step->kind != STEP_READ);
+}
+
 /* Takes a step at both edges; ends the program with the step if it differs. */
 static void take(const struct step *step)
 {
+	check_line(step);
 	for (int edge = 0; edge < 2; edge++) {
 		beside.at_start = edge == 1;
 		record_start(&record);

@@ -8,7 +8,7 @@ use Rattle.model.specs.Layout.{lastOffset, currentOffset, cabinetMaskAt, global
 use Rattle.model.specs.Rules.{add, delete, off}
 use Rattle.model.specs.Legal.{legal}
 use Rattle.model.specs.Calls.{Call, set-up, on-state, sized, leftAll}
-use Rattle.cases.specs.Scripts.{answered, lentWords}
+use Rattle.scripts.specs.Scripts.{answered, lentWords}
 
 -- the calls that made the memory, the word put at an address of it, and whether it is still legal
 pub data Damage : Type 0 where

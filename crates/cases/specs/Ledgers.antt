@@ -8,8 +8,7 @@ use Rattle.model.specs.Lists.{drops, tail}
 use Rattle.model.specs.Rules.{add, replace, delete, begin, end, start, step}
 use Rattle.model.specs.Calls.{set-up, left}
 use Rattle.model.specs.Ledger.{Section, Entry, Search, Out, Ledger, fed, fedCall, ledgerFrom, ledger, events, searchIn}
-use Rattle.cases.specs.Scripts.{Line, op, setUp123, callOf, answered, lentWords}
-use Rattle.cases.specs.Stars.{listing}
+use Rattle.scripts.specs.Scripts.{Line, op, setUp123, listing, callOf, answered, lentWords}
 
 -- what the ledger holds at an instant
 pub data Book : Type 0 where

@@ -13,7 +13,7 @@ use Rattle.model.specs.Rules.{Op, add, delete, pass, clock, hand-back, answer, 
 use Rattle.model.specs.Memory.{at, maskWord, state}
 use Rattle.model.specs.Legal.{legal}
 use Rattle.model.specs.Calls.{set-up, stored, left}
-use Rattle.cases.specs.Scripts.{answered, lentWords}
+use Rattle.scripts.specs.Scripts.{answered, lentWords}
 
 -- of a lane: whether it holds a snapshot, the generation of its current queue, and the lengths of its next, current and done queues
 pub data View : Type 0 where

@@ -2,7 +2,7 @@
 use mathlib.Core.Path.{_≡_, refl}
 use mathlib.Core.List.{List, [], _∷_, map}
 use Rattle.model.specs.Rules.{add, replace, delete, begin, start, step, pass, clock, on, off, hand-back, awaited}
-use Rattle.cases.specs.Scripts.{Line, op, setUp112, setUp123, setUp124, Row, script, expected, run}
+use Rattle.scripts.specs.Scripts.{Line, op, setUp112, setUp123, setUp124, Row, script, expected, run}
 
 -- A lookup stands on a slot, which is then removed, and another slot after it: a queue that goes by the chain link would lead the lookup away
 abbrev pub chainLinkStays : List Line

@@ -1,1 +1,1 @@
-// Definitions only: specs/ computes cases of documents 01 and 02 by the definitions of the crate `model`.
+// Definitions only: specs/ computes traps, ledgers, damaged memories and walk-throughs by the definitions of the crate `model`.

@@ -4,34 +4,11 @@ use Prim.Native.Nat.{ℕ, _+_, _-_}
 use mathlib.Core.Path.{_≡_, refl}
 use mathlib.Core.Bool.{true, false}
 use mathlib.Core.List.{List, [], _∷_, _++_, map}
-use Rattle.model.specs.Rules.{add, replace, delete, begin, end, start, step, pass, clock, hand-back, awaited}
+use Rattle.model.specs.Rules.{add, replace, delete, begin, start, step, awaited}
 use Rattle.model.specs.Layout.{codeAt, slotAddress, lookupAt, laneAddress}
 use Rattle.model.specs.Calls.{set-up, sized}
-use Rattle.cases.specs.Scripts.{Line, line, op, setUp111, setUp112, setUp123, largestTotal}
-use Rattle.cases.specs.Scripts.{Row, script, poked, order, digit, reads, writes, expected, run}
-
--- the listing
-abbrev pub listing : List Line
-listing =
-    setUp123
-    ∷ op (add 0 17 25 1) 0 0 0 0 0
-    ∷ op (begin 1) 0 0 0 0 0
-    ∷ op (start 1 17) 0 0 0 0 0
-    ∷ op (delete 0 17) 0 0 0 0 0
-    ∷ op (step 1) 0 1 0 25 1
-    ∷ op (clock 0) 0 1 1 1 0
-    ∷ op (clock 1) 0 1 1 1 0
-    ∷ op (pass 0 0) 0 0 0 0 0
-    ∷ op (clock 0) 0 1 1 1 0
-    ∷ op (pass 1 0) 7 0 0 0 0
-    ∷ op (end 1) 0 0 0 0 0
-    ∷ op (pass 1 0) 0 0 0 0 0
-    ∷ op (clock 1) 0 2 1 0 0
-    ∷ op (hand-back 0) 16 0 0 0 0
-    ∷ op (clock 0) 0 2 1 0 0
-    ∷ op (hand-back 0) 0 0 0 0 0
-    ∷ op awaited 0 0 4294967295 3 0
-    ∷ []
+use Rattle.scripts.specs.Scripts.{Line, line, op, setUp111, setUp112, setUp123, largestTotal, listing}
+use Rattle.scripts.specs.Scripts.{Row, script, poked, order, digit, reads, writes, expected, run}
 
 -- replace with code missing and no free slot
 abbrev pub missingFirst : List Line

@@ -13,6 +13,7 @@ use Rattle.model.specs.CheckDigit.{weighed, rightFromRight, rightDigits, rightC
 use Rattle.model.specs.Engine.{started, ended, released, counted, settled, ready, target, requested}
 use Rattle.model.specs.Engine.{advancedLane, advancedGlobal, differs, sampled, clocked, wentOff}
 use Rattle.model.specs.Table.{slotIn, added, replaced, deleted, reclaimed}
+use Rattle.model.specs.Rules.{add, delete, begin, end, start, step, pass, clock, hand-back, awaited}
 use Rattle.model.specs.Rules.{Op, Answer, firstOf, causes, outcomeAnswer, outcome, continued, performed, pendingFrom, queuedIn, result, fresh}
 use Rattle.model.specs.Memory.{contents, flags, lookupCode, lookupPosition, snapshotCount, laneWords, slotWords}
 use Rattle.model.specs.Memory.{globalWords, words, walk, readChains, readLane, readProduct, state}
@@ -72,6 +73,30 @@ setUp124 = line (set-up 1 2 4) 0 151 0 0 0
 -- the largest table's
 abbrev pub largestTotal : ℕ
 largestTotal = 7456
+
+-- ---- the listing of document 01
+
+abbrev pub listing : List Line
+listing =
+    setUp123
+    ∷ op (add 0 17 25 1) 0 0 0 0 0
+    ∷ op (begin 1) 0 0 0 0 0
+    ∷ op (start 1 17) 0 0 0 0 0
+    ∷ op (delete 0 17) 0 0 0 0 0
+    ∷ op (step 1) 0 1 0 25 1
+    ∷ op (clock 0) 0 1 1 1 0
+    ∷ op (clock 1) 0 1 1 1 0
+    ∷ op (pass 0 0) 0 0 0 0 0
+    ∷ op (clock 0) 0 1 1 1 0
+    ∷ op (pass 1 0) 7 0 0 0 0
+    ∷ op (end 1) 0 0 0 0 0
+    ∷ op (pass 1 0) 0 0 0 0 0
+    ∷ op (clock 1) 0 2 1 0 0
+    ∷ op (hand-back 0) 16 0 0 0 0
+    ∷ op (clock 0) 0 2 1 0 0
+    ∷ op (hand-back 0) 0 0 0 0 0
+    ∷ op awaited 0 0 4294967295 3 0
+    ∷ []
 
 -- ---- what a script must give, and what it gives
 
