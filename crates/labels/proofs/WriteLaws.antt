@@ -82,7 +82,7 @@ length-14 c h k = rw (le-ltb c (ten ^ gtin8) h, le-ltb c (ten ^ gtin13) k)
 
 -- ---- the ways out of the writer
 
--- the longest of the three lengths is one of fourteen bytes
+-- no label is longer than fourteen bytes
 pub length-few : (c : ℕ) → labelLength c ≤ gtin14
 unfolding labelLength
 length-few c =

@@ -128,7 +128,7 @@ labelDigits =
     ∷ digit "0" true
     ∷ []
 
--- the three lengths; the check digit is not judged; other lengths; other bytes: a blank, those next to the digits' and the last of all
+-- the three lengths; the check digit is not judged; other lengths; other bytes: a blank, and those next to the digits'
 abbrev pub labelsRead : List Row
 labelsRead =
     reads "96385074" 0 96385074 0
