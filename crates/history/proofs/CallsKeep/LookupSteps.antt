@@ -23,7 +23,7 @@ use Rattle.history.proofs.EngineHalf.Grace.{grace-same}
 use Rattle.history.proofs.ChainHalf.ChainStretches.{SameOr}
 use Rattle.history.proofs.ChainHalf.Trail.{trail-none, trail-found}
 use Rattle.history.proofs.CallsKeep.SlotFacts.{standing-once, standing-some, retains-queued, queued-lane}
-use Rattle.history.proofs.CallsKeep.Respects.{Respects, respects-still, looks-kept, trail-kept, looking-kept, sections-same, outs-same, Keeps}
+use Rattle.history.proofs.CallsKeep.Respects.{Respects, respects-still, looking-still, sections-same, outs-same, Keeps}
 
 -- the ledger's lookups become qs
 abbrev withSearches : List Search → Ledger → Ledger
@@ -105,6 +105,5 @@ module _ {past : ℕ → Ledger} {k : ℕ} {s : State} {g : Ledger} (v : Invaria
 
       go : (j : ℕ) → SameOr j i → Looking past (suc k) (s .table) g′ j (laneAt (atLane i f (s .engine)) j .lookup)
       go j (inl e) = rw (e, getD-update-same freshLane (s .engine .lanes) i f inside, is) mine
-      go j (inr e) = rw (getD-update-other freshLane (s .engine .lanes) i f j (e .0)) (looking-kept j (laneOf s j .lookup)
-          (λ c p h. looks-kept r past j c p (λ z n m. m) (λ q n m. to q (λ d. e .0 (sym n ∙ d)) m) (λ q n m. of q (λ d. e .0 (sym n ∙ d)) m)
-          (trail-kept r past c (λ xs ys z. (xs, z)) p)) (v .looking j))
+      go j (inr e) = rw (getD-update-other freshLane (s .engine .lanes) i f j (e .0)) (looking-still r past j (laneOf s j .lookup) (λ z n m. m)
+          (λ q n m. to q (λ d. e .0 (sym n ∙ d)) m) (λ q n m. of q (λ d. e .0 (sym n ∙ d)) m) (v .looking j))

@@ -70,6 +70,15 @@ pub looking-kept : {past : ℕ → Ledger} {k : ℕ} {t u : Table} {g g′ : Led
 looking-kept i idle f h = tt
 looking-kept i (running c p) f h = f c p refl h
 
+-- of a call that leaves the table: a lookup whose section and note it leaves
+pub looking-still : {k : ℕ} {t : Table} {g g′ : Ledger} (r : Respects k t t g g′) (past : ℕ → Ledger) (i : ℕ) (l : Lookup)
+    → ((z : Section) → z .lane ≡ i → List·Memᴰ z (g .sections) → List·Memᴰ z (g′ .sections))
+    → ((q : Search) → q .lane ≡ i → List·Memᴰ q (g .searches) → List·Memᴰ q (g′ .searches))
+    → ((q : Search) → q .lane ≡ i → List·Memᴰ q (g′ .searches) → List·Memᴰ q (g .searches))
+    → Looking past k t g i l → Looking past (suc k) t g′ i l
+looking-still r past i l opens notes only =
+    looking-kept i l (λ c p e. looks-kept r past i c p opens notes only (trail-kept r past c (λ xs ys z. (xs, z)) p))
+
 -- a call that changes neither table nor slots out
 pub respects-still : (k : ℕ) (t : Table) (g g′ : Ledger) → g′ .outs ≡ g .outs
     → ((z : Section) → List·Memᴰ z (g′ .sections) → z .opened ≤ k → List·Memᴰ z (g .sections)) → Respects k t t g g′

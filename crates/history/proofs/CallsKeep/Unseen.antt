@@ -13,7 +13,7 @@ use Rattle.history.proofs.Ties.Halves.{Grace, WaitsFor}
 use Rattle.history.proofs.Ties.Invariant.{Invariant}
 use Rattle.history.proofs.EngineHalf.Grace.{grace-same}
 use Rattle.history.proofs.EngineHalf.ClockKeeps.{grace-clocked, grace-wentOff}
-use Rattle.history.proofs.CallsKeep.Respects.{Respects, respects-still, looks-kept, trail-kept, looking-kept, sections-same, outs-same, Keeps}
+use Rattle.history.proofs.CallsKeep.Respects.{Respects, respects-still, looking-still, sections-same, outs-same, Keeps}
 
 module _ {past : ℕ → Ledger} {k : ℕ} {s : State} {g : Ledger} (v : Invariant past k s g) where
   -- the engine becomes e, which leaves sections, lookups and the number of times that each slot is queued
@@ -25,8 +25,7 @@ module _ {past : ℕ → Ledger} {k : ℕ} {s : State} {g : Ledger} (v : Invaria
       sections = sections-same e (f .reading) (v .sections);
       outs = outs-same e (f .once) (v .outs);
       grace = h;
-      looking = λ i. rw (f .lookup i) (looking-kept i (laneOf s i .lookup)
-          (λ c p l. looks-kept r past i c p (λ z n m. m) (λ q n m. m) (λ q n m. m) (trail-kept r past c (λ xs ys z. (xs, z)) p)) (v .looking i));
+      looking = λ i. rw (f .lookup i) (looking-still r past i (laneOf s i .lookup) (λ z n m. m) (λ q n m. m) (λ q n m. m) (v .looking i));
     };
     respects = r;
   }
