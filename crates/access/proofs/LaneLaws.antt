@@ -89,6 +89,19 @@ module _ (m : List ℕ) (l : Lane) (k : Named m l) where
       go true q f = absurd (omega arith)
       go false q f = lane-known (leb-false (laneCount (state m .sizes)) (l .number) q)
 
+-- a lane of the memory is one of every other of the same sizes
+pub lane-again : (m n : List ℕ) (l : Lane) → LaneIn m l → Sound n → sizes n ≡ sizes m → LaneIn n l
+unfolding state
+lane-again m n l k v e =
+    let here : l .sizes ≡ sizesIn n = k .named .sizes ∙ ap (λ (z : Sizes). record { cabinets = z .cabinets; places = z .places; slots = z .slots }) (sym e) in
+    lane-known n l (record {
+      sound = v;
+      address = k .named .address ∙ ap (λ (z : Sizes). laneAddress z (l .number)) (sym e);
+      sizes = here;
+      lent = subst (Lent n) (sym (ap sizesOf here)) (lent n v);
+    })
+    (subst (λ (z : Sizes). l .number < laneCount z) (sym e) (k .known))
+
 -- ---- its cabinet and its place there
 
 module _ (m : List ℕ) (l : Lane) (k : LaneIn m l) where

@@ -18,6 +18,7 @@ use Rattle.representation.specs.Sound.{Sound}
 use Rattle.representation.proofs.Memories.{left-sound}
 use Rattle.representation.proofs.Round.{one-to-one}
 use Rattle.history.proofs.Demand3.{demand3 as listed}
+use Rattle.history.proofs.Corollaries.{EveryList}
 use Rattle.product_table.specs.Called.{answerLength, Called}
 use Rattle.demands.specs.Demands.{Answered, workAnswer, workState, Demand1, Run, Ran, lastMemory, NoSetUps, callsOf}
 use Rattle.demands.specs.Demands.{FollowsRules, SetsUp, stateAfter, Demand2, eventsOf, Demand3}
@@ -106,13 +107,18 @@ demand2 = record { calls = follows-rules; setUp = sets-up; list = state-listed; 
 
 -- ---- demand 3
 
-pub demand3 : Demand3
-demand3 c p x m a m₀ b h xs ran ups =
-    subst (λ (es : List Event). Demand es (lastMemory m₀ xs)) (sym (ran-events m₀ xs ran))
-    (subst (λ (w : List ℕ). Demand (events m₀ (callsOf xs)) w) (sym (ran-left m₀ xs ran))
-    (subst (λ (w : List ℕ). Demand (events w (callsOf xs)) (leftAll w (callsOf xs))) (sym is)
-    (listed m c p x (set-up-status c p x m a m₀ b h) (callsOf xs)
+-- what holds of every list of the model holds of the calls for C
+pub on-lists : (P : List Event → List ℕ → Type 0) → EveryList P → (c p x : ℕ) (m a m₀ b : List ℕ) → Called (set-up c p x) m a m₀ b 0
+    → (xs : List Run) → Ran m₀ xs → NoSetUps xs → P (eventsOf xs) (lastMemory m₀ xs)
+on-lists P every c p x m a m₀ b h xs ran ups =
+    subst (λ (es : List Event). P es (lastMemory m₀ xs)) (sym (ran-events m₀ xs ran))
+    (subst (λ (w : List ℕ). P (events m₀ (callsOf xs)) w) (sym (ran-left m₀ xs ran))
+    (subst (λ (w : List ℕ). P (events w (callsOf xs)) (leftAll w (callsOf xs))) (sym is)
+    (every m c p x (set-up-status c p x m a m₀ b h) (callsOf xs)
     (subst (λ (w : List ℕ). RefusesSetUps w (callsOf xs)) is (ran-set-ups m₀ xs ran ups)))))
   where
     is : m₀ ≡ left m (set-up c p x)
     is = set-up-memory c p x m a m₀ b h
+
+pub demand3 : Demand3
+demand3 = on-lists Demand listed

@@ -1,4 +1,5 @@
--- Document 01, "The ledger of demand 3": the ledger, fed with calls and their answers and nothing from the memory, and the demand.
+-- Document 01, "The ledger of demand 3", with document 02's request 3: the ledger, fed with calls and their answers and nothing from the memory, and the
+-- demand.
 use Prim.Native.Nat.{ℕ, suc, _+_, _≤_}
 use mathlib.Core.Path.{_≡_}
 use mathlib.Core.Bool.{Bool, true, cond, _&&_, _||_}
@@ -92,9 +93,9 @@ sectionEnded i g = record { entries = g .entries; sections = drops (sectionOf i)
 abbrev pub searchNoted : Search → Ledger → Ledger
 searchNoted q g = record { entries = g .entries; sections = g .sections; searches = q ∷ drops (searchOf (q .lane)) (g .searches); outs = g .outs }
 
--- lane i's lookup is answered
-abbrev pub searchAnswered : ℕ → Ledger → Ledger
-searchAnswered i g = record { entries = g .entries; sections = g .sections; searches = drops (searchOf i) (g .searches); outs = g .outs }
+-- lane i's lookup, if it has one, is struck: it is answered, or dropped
+abbrev pub searchStruck : ℕ → Ledger → Ledger
+searchStruck i g = record { entries = g .entries; sections = g .sections; searches = drops (searchOf i) (g .searches); outs = g .outs }
 
 -- a step's answer with outcome 1 or 2
 abbrev pub isAnswer : Answer → Bool
@@ -109,9 +110,9 @@ fed k (add i c d m) r g = entryMade (entryOf c (r .a) d m) g
 fed k (replace i c d m) r g = slotOut (r .b) (entryMade (entryOf c (r .a) d m) g)
 fed k (delete i c) r g = slotOut (r .a) (entryStruck c g)
 fed k (begin i) r g = sectionOpened i k g
-fed k (end i) r g = sectionEnded i g
+fed k (end i) r g = searchStruck i (sectionEnded i g)
 fed k (start i c) r g = searchNoted (record { lane = i; code = c; started = k }) g
-fed k (step i) r g = cond (isAnswer r) (searchAnswered i g) g
+fed k (step i) r g = cond (isAnswer r) (searchStruck i g) g
 fed k (hand-back i) r g = slotBack (r .a) g
 fed k (pass i n) r g = g
 fed k (clock i) r g = g
@@ -215,3 +216,30 @@ abbrev pub Demand3 : Type 0
 Demand3 =
     (m : List ℕ) (c p n : ℕ) → reply m (set-up c p n) .status ≡ 0
     → (ks : List Call) → let m₀ = left m (set-up c p n) in RefusesSetUps m₀ ks → Demand (events m₀ ks) (leftAll m₀ ks)
+
+-- ---- document 02, request 3: what an accepted end leaves
+
+abbrev pub endEvent : ℕ → Answer → Event
+endEvent i r = record { call = on-state (end i); answer = r }
+
+-- no event of the list is an accepted begin of lane i
+abbrev pub NoBegin : ℕ → List Event → Type 0
+NoBegin i es = (a : Answer) → a .status ≡ 0 → List·Memᴰ (record { call = on-state (begin i); answer = a }) es → ⊥
+
+-- nor an accepted start
+abbrev pub NoStart : ℕ → List Event → Type 0
+NoStart i es = (c : ℕ) (a : Answer) → a .status ≡ 0 → List·Memᴰ (record { call = on-state (start i c); answer = a }) es → ⊥
+
+-- the events `es` end with an accepted end of lane i and those `since`; the events `rest` come after them
+pub record Left (i : ℕ) (es since rest : List Event) : Type 0 where
+  -- till the lane begins a section the ledger has none of it
+  pub noSection : NoBegin i since → (x : Section) → List·Memᴰ x (ledger es .sections) → x .lane ≡ i → ⊥
+  -- till it starts a lookup the ledger has none of it, and a step of it is not accepted, let alone answered
+  pub noSearch : NoStart i since → (q : Search) → List·Memᴰ q (ledger es .searches) → q .lane ≡ i → ⊥
+  pub noStep : NoStart i since → (a : Answer) (later : List Event) → rest ≡ stepEvent i a ∷ later → a .status ≡ 0 → ⊥
+
+-- after each accepted end of the list, at any instant
+abbrev pub Leaves : List Event → Type 0
+Leaves h =
+    (i : ℕ) (r : Answer) (before since rest : List Event) → r .status ≡ 0 → h ≡ (before ++ endEvent i r ∷ since) ++ rest
+    → Left i (before ++ endEvent i r ∷ since) since rest

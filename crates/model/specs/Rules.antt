@@ -1,5 +1,5 @@
 -- The thirteen calls on a state: the causes that refuse one, in the order of their tests, its answer, and the state after it (document 01, "The
--- table" and "Causes"; document 02, request 1).
+-- table" and "Causes"; document 02, requests 1 and 3).
 use Prim.Native.Nat.{ℕ, zero, suc, _+_}
 use mathlib.Core.Bool.{Bool, true, false, not, cond, _&&_, _||_}
 use mathlib.Core.List.{List, [], _∷_, _++_}
@@ -130,7 +130,7 @@ module _ (s : State) where
   causes (start i c) = ofLane i (noSection i ∷ lookupRunning i ∷ outOfRange (wrongCode c) ∷ [])
   causes (pass i k) = ofLane i (sectionOpen i ∷ outOfRange (wrongKind k) ∷ [])
   causes (begin i) = ofLane i (sectionOpen i ∷ [])
-  causes (end i) = ofLane i (noSection i ∷ lookupRunning i ∷ [])
+  causes (end i) = ofLane i (noSection i ∷ [])
   causes (step i) = ofLane i (noLookup i ∷ [])
   causes (clock i) = ofLane i []
   causes (on i) = noSuchLane i ∷ alreadyOnline i ∷ []
@@ -185,6 +185,10 @@ stepped t l = setLookup (continued t (l .lookup) (outcome t (l .lookup))) l
 
 -- ---- what a call does that no cause refuses
 
+-- end: the section is closed, and a lookup unfinished is dropped, its words at rest
+abbrev pub leaving : Lane → Lane
+leaving l = setReading false (setLookup idle l)
+
 -- slot o is appended to the lane's next queue
 abbrev pub retiring : ℕ → Lane → Lane
 retiring o l = setQueues (setNext (l .queues .next ++ (o ∷ [])) (l .queues)) l
@@ -228,7 +232,7 @@ module _ (s : State) where
   performed (start i c) = withLane i (setLookup (running c (first (chainOf (s .table) c))))
   performed (pass i k) = withLane i (counted k)
   performed (begin i) = withLane i (setReading true)
-  performed (end i) = withLane i (setReading false)
+  performed (end i) = withLane i leaving
   performed (step i) = withLane i (stepped (s .table))
   performed (clock i) = withEngine (clocked i (s .engine))
   performed (on i) = withLane i (setOnline true)

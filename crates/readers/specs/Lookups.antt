@@ -4,6 +4,7 @@ use mathlib.Core.Path.{_≡_}
 use mathlib.Core.Bool.{Bool, true, false}
 use mathlib.Core.List.{List}
 use lib.ListN.{set}
+use Rattle.model.specs.Word.{none}
 use Rattle.model.specs.State.{isRunning}
 use Rattle.model.specs.Layout.{lookupAt, positionAt, lookupBit}
 use Rattle.model.specs.Table.{linkOf}
@@ -16,6 +17,10 @@ use Rattle.access.specs.Lanes.{LaneIn}
 -- whether a lookup runs, its code c and its position p in the record that begins at a; all other words stay
 abbrev pub lookupStored : List ℕ → ℕ → Bool → ℕ → ℕ → List ℕ
 lookupStored m a b c p = set (set (set (flagPut m a lookupBit b) (a + lookupAt) (low c)) (a + lookupAt + 1) (high c)) (a + positionAt) p
+
+-- no lookup: the flag cleared, the code words 0, the position none
+abbrev pub lookupRested : List ℕ → ℕ → List ℕ
+lookupRested m a = lookupStored m a false 0 none
 
 -- a lane of a legal memory whose lookup is running
 pub record Looking (m : List ℕ) (l : Lane) : Type 0 where

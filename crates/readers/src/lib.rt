@@ -8,7 +8,7 @@ ghost use Rattle.model.specs.Calls.{on-state};
 ghost use Rattle.chains.specs.Outcome.{outcomeOf};
 ghost use Rattle.access.specs.Contract.{five, Does};
 ghost use Rattle.access.specs.Lanes.{Named, LaneIn};
-ghost use Rattle.readers.specs.Lookups.{lookupStored, Looking, isGoing, Going, movedOn};
+ghost use Rattle.readers.specs.Lookups.{lookupStored, lookupRested, Looking, isGoing, Going, movedOn};
 use access::causes;
 
 // ---- begin
@@ -38,39 +38,6 @@ pub fn begin(m: &mut [u32], lane: access::Lane) -> access::Answer
         return access::refused(n);
     }
     access::put_flag(m, lane, words::READING, true);
-    access::accepted(0, 0, 0, 0)
-}
-
-// ---- end
-
-// The number of the cause that refuses it, 0 where none does.
-fn end_refusal(m: &[u32], lane: access::Lane) -> u32
-    requires { ⌜ Named (now m) lane ⌝ }
-    ensures { λ r. ⌜ r ≡ refusal (state (now (m .entry))) (ending (lane .number)) ⌝ }
-{
-    let n = access::lane_refusal(m, lane);
-    if n > 0 {
-        return n;
-    }
-    if !access::is_reading(m, lane) {
-        return causes::NO_SECTION;
-    }
-    if access::is_running(m, lane) {
-        return causes::IN_LOOKUP;
-    }
-    0
-}
-
-// Closes the section of a lane.
-pub fn end(m: &mut [u32], lane: access::Lane) -> access::Answer
-    requires { ⌜ Named (now m) lane ⌝ }
-    ensures { λ r. ⌜ Does (on-state (ending (lane .number))) (now (m .entry)) r (now (m .exit)) ⌝ }
-{
-    let n = end_refusal(m, lane);
-    if n > 0 {
-        return access::refused(n);
-    }
-    access::put_flag(m, lane, words::READING, false);
     access::accepted(0, 0, 0, 0)
 }
 
@@ -115,6 +82,45 @@ fn put_lookup(m: &mut [u32], lane: access::Lane, runs: bool, code: u64, position
     m[a + words::LOOKUP_AT] = words::low(code);
     m[a + words::LOOKUP_AT + 1] = words::high(code);
     m[a + words::POSITION_AT] = position;
+}
+
+// Puts a lane's lookup to rest. All other words stay.
+fn put_to_rest(m: &mut [u32], lane: access::Lane)
+    requires { ⌜ LaneIn (now m) lane ⌝ }
+    ensures { λ _. ⌜ now (m .exit) ≡ lookupRested (now (m .entry)) (lane .address) ⌝ }
+{
+    put_lookup(m, lane, false, 0, words::NONE);
+}
+
+// ---- end
+
+// The number of the cause that refuses it, 0 where none does.
+fn end_refusal(m: &[u32], lane: access::Lane) -> u32
+    requires { ⌜ Named (now m) lane ⌝ }
+    ensures { λ r. ⌜ r ≡ refusal (state (now (m .entry))) (ending (lane .number)) ⌝ }
+{
+    let n = access::lane_refusal(m, lane);
+    if n > 0 {
+        return n;
+    }
+    if !access::is_reading(m, lane) {
+        return causes::NO_SECTION;
+    }
+    0
+}
+
+// Closes the section of a lane; a lookup unfinished is dropped.
+pub fn end(m: &mut [u32], lane: access::Lane) -> access::Answer
+    requires { ⌜ Named (now m) lane ⌝ }
+    ensures { λ r. ⌜ Does (on-state (ending (lane .number))) (now (m .entry)) r (now (m .exit)) ⌝ }
+{
+    let n = end_refusal(m, lane);
+    if n > 0 {
+        return access::refused(n);
+    }
+    put_to_rest(m, lane);
+    access::put_flag(m, lane, words::READING, false);
+    access::accepted(0, 0, 0, 0)
 }
 
 // ---- start
@@ -233,7 +239,7 @@ pub fn step(m: &mut [u32], lane: access::Lane) -> access::Answer
         go_on(m, lane);
         return r;
     }
-    put_lookup(m, lane, false, 0, words::NONE);
+    put_to_rest(m, lane);
     r
 }
 

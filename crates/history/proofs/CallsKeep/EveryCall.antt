@@ -6,13 +6,13 @@ use native.Mathlib.Omega.{arith}
 use lib.ListN.{length}
 use lib.Dec.{eqb, eqb·suc-zero}
 use borrow.Author.Tests.{eqb-true}
-use Rattle.model.specs.State.{running, State, isRunning, laneCount}
+use Rattle.model.specs.State.{State, laneCount}
 use Rattle.model.specs.Rules.{Op, add, replace, delete, begin, end, start, step, pass, clock, on, off, hand-back, awaited, refusal}
-use Rattle.model.specs.Rules.{Answer, refused, laneOf, performed, result, answer, next}
+use Rattle.model.specs.Rules.{Answer, refused, performed, result, answer, next}
 use Rattle.model.specs.Calls.{Call, set-up, on-state}
-use Rattle.model.specs.Ledger.{Entry, Search, Ledger, entryOf, isAnswer, fed, fedCall}
-use Rattle.model.specs.Ledger.{entryMade, entryStruck, slotOut, slotBack, sectionOpened, sectionEnded, searchNoted, searchAnswered}
-use Rattle.laws.specs.Tests.{clash, cond-cases, eqb-self}
+use Rattle.model.specs.Ledger.{Entry, Ledger, entryOf, isAnswer, fed, fedCall}
+use Rattle.model.specs.Ledger.{entryMade, entryStruck, slotOut, slotBack, sectionOpened, sectionEnded, searchNoted, searchStruck}
+use Rattle.laws.specs.Tests.{cond-cases, eqb-self}
 use Rattle.representation.proofs.Causes.Passed.{call-cases}
 use Rattle.representation.proofs.Causes.Accepted.{accepts}
 use Rattle.representation.proofs.WellFormed.{WellFormed}
@@ -46,6 +46,7 @@ changesCode c (on-state (hand-back i)) = false
 changesCode c (on-state awaited) = false
 
 -- P holds of the ledger g and after each change that call o may make of it: entries change only for a code that o changes, begin alone opens a section
+-- and start alone notes a lookup
 pub record Changed (P : Ledger → Type 0) (o : Op) (g : Ledger) : Type 0 where
   pub same : P g
   pub made : (e : Entry) → changesCode (e .code) (on-state o) ≡ true → P (entryMade e g)
@@ -54,19 +55,19 @@ pub record Changed (P : Ledger → Type 0) (o : Op) (g : Ledger) : Type 0 where
   pub back : (x : ℕ) → P (slotBack x g)
   pub opened : (i k : ℕ) → o ≡ begin i → P (sectionOpened i k g)
   pub ended : (i : ℕ) → P (sectionEnded i g)
-  pub noted : (q : Search) → P (searchNoted q g)
-  pub answered : (i : ℕ) → P (searchAnswered i g)
+  pub noted : (i c k : ℕ) → o ≡ start i c → P (searchNoted (record { lane = i; code = c; started = k }) g)
+  pub dropped : (i : ℕ) (l : Ledger) → P l → P (searchStruck i l)
 
 pub fed-cases : (P : Ledger → Type 0) (k : ℕ) (o : Op) (r : Answer) (g : Ledger) → Changed P o g → P (fed k o r g)
 unfolding fed changesCode
 fed-cases P k (add i c d m) r g h = h .made (entryOf c (r .a) d m) (eqb-self c)
 fed-cases P k (replace i c d m) r g h = h .out (r .b) _ (h .made (entryOf c (r .a) d m) (eqb-self c))
 fed-cases P k (delete i c) r g h = h .out (r .a) _ (h .struck c (eqb-self c))
-fed-cases P k (start i c) r g h = h .noted (record { lane = i; code = c; started = k })
+fed-cases P k (start i c) r g h = h .noted i c k refl
 fed-cases P k (pass i n) r g h = h .same
 fed-cases P k (begin i) r g h = h .opened i k refl
-fed-cases P k (end i) r g h = h .ended i
-fed-cases P k (step i) r g h = cond-cases P (isAnswer r) (λ t. h .answered i) (λ t. h .same)
+fed-cases P k (end i) r g h = h .dropped i _ (h .ended i)
+fed-cases P k (step i) r g h = cond-cases P (isAnswer r) (λ t. h .dropped i _ (h .same)) (λ t. h .same)
 fed-cases P k (clock i) r g h = h .same
 fed-cases P k (on i) r g h = h .same
 fed-cases P k (off i) r g h = h .same
@@ -99,7 +100,7 @@ module _ {past : ℕ → Ledger} {k : ℕ} {s : State} {g : Ledger} (v : Invaria
   -- no cause applies
   keeps-accepted : (o : Op) → refusal s o ≡ 0 → WellFormed (performed s o) → past (suc k) ≡ fed (suc k) o (result s o) g
       → Keeps past k s (performed s o) g (fed (suc k) o (result s o) g)
-  unfolding performed result fed isRunning
+  unfolding performed result fed
   keeps-accepted (add i c d m) z w now = keeps-add v c d m (accepts s (add i c d m) z .free) w
   keeps-accepted (replace i c d m) z w now =
       let a = accepts s (replace i c d m) z in
@@ -108,12 +109,7 @@ module _ {past : ℕ → Ledger} {k : ℕ} {s : State} {g : Ledger} (v : Invaria
   keeps-accepted (start i c) z w now = let a = accepts s (start i c) z in keeps-start v i c (inside i (a .lane .known)) (a .reading) w now
   keeps-accepted (pass i n) z w now = keeps-pass v i n w (accepts s (pass i n) z .closed)
   keeps-accepted (begin i) z w now = keeps-begin v i (inside i (accepts s (begin i) z .lane .known)) w
-  keeps-accepted (end i) z w now =
-      let a = accepts s (end i) z in
-      keeps-end v i (inside i (a .lane .known)) w (λ c p e. clash (runs c p e) (a .idle))
-    where
-      runs : (c p : ℕ) → laneOf s i .lookup ≡ running c p → isRunning (laneOf s i .lookup) ≡ true
-      runs c p e = rw e
+  keeps-accepted (end i) z w now = keeps-end v i (inside i (accepts s (end i) z .lane .known)) w
   keeps-accepted (step i) z w now = keeps-step v i (inside i (accepts s (step i) z .lane .known)) w
   keeps-accepted (clock i) z w now = keeps-clock v i w
   keeps-accepted (on i) z w now = keeps-on v i w

@@ -1,64 +1,55 @@
--- Begin and end: a section is opened and ended. No slot waits for a section that is only now opened, nor for one that is ended.
+-- Begin and end: a section is opened and ended, a lookup that ran in it is dropped. No slot waits for a section that is only now opened, nor for one that
+-- is ended.
 use Prim.Native.Nat.{ℕ, suc, _<_, _≤_}
 use mathlib.Core.Path.{_≡_, refl, sym, ap, _∙_}
 use mathlib.Core.Logic.{_⊎_, inl, inr, ⊎-elim, _≢_}
-use mathlib.Core.Bool.{Bool, true, false}
+use mathlib.Core.Bool.{true, false}
 use mathlib.Core.List.{List, _∷_, List·Memᴰ, List·Memᴰ·head, List·Memᴰ·tail, List·Memᴰ·cases-cons}
 use native.Mathlib.Omega.{arith}
 use lib.ListN.{length}
 use lib.Dec.{eqb}
 use borrow.Author.Tests.{eq-eqb}
 use Rattle.model.specs.Lists.{drops}
-use Rattle.model.specs.State.{running, Lane, State}
+use Rattle.model.specs.State.{Lane, State}
 use Rattle.model.specs.Engine.{freshLane, laneAt, setReading, atLane}
-use Rattle.model.specs.Rules.{laneOf, withLane}
-use Rattle.model.specs.Ledger.{Section, Ledger, sectionOf, sectionOpened, sectionEnded}
+use Rattle.model.specs.Rules.{laneOf, withLane, leaving}
+use Rattle.model.specs.Ledger.{Section, Ledger, sectionOf, searchOf, sectionOpened, sectionEnded, searchStruck}
 use Rattle.laws.specs.Tests.{clash, same-or}
 use Rattle.laws.specs.ListLaws.{update-cases, getD-update-same, getD-update-other}
 use Rattle.laws.specs.Elements.{of-drops, to-drops}
 use Rattle.representation.proofs.WellFormed.{WellFormed}
-use Rattle.history.proofs.Ties.Halves.{Waits, Grace, WaitsFor}
+use Rattle.history.proofs.Ties.Halves.{Waits, Grace, WaitsFor, Looking}
 use Rattle.history.proofs.Ties.Invariant.{OpenOn, Sections, Invariant}
 use Rattle.history.proofs.EngineHalf.Grace.{grace-same, grace-wider}
 use Rattle.history.proofs.ChainHalf.ChainStretches.{SameOr}
 use Rattle.history.proofs.CallsKeep.SlotFacts.{queued-lane, retains-map, waits-map}
-use Rattle.history.proofs.CallsKeep.Respects.{Respects, respects-still, looks-kept, trail-kept, looking-kept, outs-same, Keeps}
+use Rattle.history.proofs.CallsKeep.Respects.{Respects, respects-still, looking-still, outs-same, Keeps}
 
 module _ {past : ℕ → Ledger} {k : ℕ} {s : State} {g : Ledger} (v : Invariant past k s g) where
-  -- lane i's section is opened or ended, as b says, and the ledger's sections become those of g′: what both calls share
-  keeps-reading : (i : ℕ) (b : Bool) (g′ : Ledger) → WellFormed (withLane s i (setReading b))
-      → g′ .entries ≡ g .entries → g′ .outs ≡ g .outs → g′ .searches ≡ g .searches
-      → Sections (suc k) (atLane i (setReading b) (s .engine)) (g′ .sections)
-      → Grace (WaitsFor g′) (atLane i (setReading b) (s .engine))
-      → ((z : Section) → List·Memᴰ z (g′ .sections) → z .opened ≤ k → List·Memᴰ z (g .sections))
-      → ((j c p : ℕ) → laneOf s j .lookup ≡ running c p → (z : Section) → z .lane ≡ j → List·Memᴰ z (g .sections) → List·Memᴰ z (g′ .sections))
-      → Keeps past k s (withLane s i (setReading b)) g g′
-  keeps-reading i b g′ w ee eo es zs gr was open′ = record {
+  -- lane i's section is opened or ended by f, and the ledger becomes g′: what both calls share
+  keeps-reading : (i : ℕ) (f : Lane → Lane) (g′ : Ledger) → f (laneOf s i) .queues ≡ laneOf s i .queues → WellFormed (withLane s i f)
+      → g′ .entries ≡ g .entries → g′ .outs ≡ g .outs
+      → Sections (suc k) (atLane i f (s .engine)) (g′ .sections) → Grace (WaitsFor g′) (atLane i f (s .engine))
+      → (r : Respects k (s .table) (s .table) g g′)
+      → ((j : ℕ) → Looking past (suc k) (s .table) g′ j (laneAt (atLane i f (s .engine)) j .lookup)) → Keeps past k s (withLane s i f) g g′
+  keeps-reading i f g′ q w ee eo zs gr r looks = record {
     invariant = record {
       wellFormed = w;
       entries = rw ee (v .entries);
       sections = zs;
-      outs = rw eo (outs-same (atLane i (setReading b) (s .engine)) (queued-lane i (setReading b) (s .engine) refl) (v .outs));
+      outs = rw eo (outs-same (atLane i f (s .engine)) (queued-lane i f (s .engine) q) (v .outs));
       grace = gr;
-      looking = λ j. rw (lookup j) (looking-kept j (laneOf s j .lookup)
-          (λ c p l. looks-kept r past j c p (open′ j c p l) (λ q n m. rw es m) (λ q n m. rw es at m)
-          (trail-kept r past c (λ xs ys z. (xs, z)) p)) (v .looking j));
+      looking = looks;
     };
     respects = r;
   }
-    where
-      r : Respects k (s .table) (s .table) g g′
-      r = respects-still k (s .table) g g′ eo was
-
-      lookup : (j : ℕ) → laneAt (atLane i (setReading b) (s .engine)) j .lookup ≡ laneOf s j .lookup
-      lookup = update-cases freshLane (λ (j : ℕ) (l : Lane). l .lookup ≡ laneOf s j .lookup) (s .engine .lanes) i (setReading b) (λ j. refl) refl
 
   -- a lane other than i reads as before
-  reading-other : (i : ℕ) (b : Bool) (j : ℕ) → j ≢ i → laneAt (atLane i (setReading b) (s .engine)) j .reading ≡ laneOf s j .reading
-  reading-other i b j n = ap (λ (l : Lane). l .reading) (getD-update-other freshLane (s .engine .lanes) i (setReading b) j n)
+  reading-other : (i : ℕ) (f : Lane → Lane) (j : ℕ) → j ≢ i → laneAt (atLane i f (s .engine)) j .reading ≡ laneOf s j .reading
+  reading-other i f j n = ap (λ (l : Lane). l .reading) (getD-update-other freshLane (s .engine .lanes) i f j n)
 
-  reading-self : (i : ℕ) (b : Bool) → i < length (s .engine .lanes) → laneAt (atLane i (setReading b) (s .engine)) i .reading ≡ b
-  reading-self i b h = ap (λ (l : Lane). l .reading) (getD-update-same freshLane (s .engine .lanes) i (setReading b) h)
+  reading-self : (i : ℕ) (f : Lane → Lane) → i < length (s .engine .lanes) → laneAt (atLane i f (s .engine)) i .reading ≡ f (laneOf s i) .reading
+  reading-self i f h = ap (λ (l : Lane). l .reading) (getD-update-same freshLane (s .engine .lanes) i f h)
 
   -- ---- begin
 
@@ -86,27 +77,32 @@ module _ {past : ℕ → Ledger} {k : ℕ} {s : State} {g : Ledger} (v : Invaria
             (s .engine .lanes) i (setReading true) (λ j r. r) (λ r. refl)
 
         read : (z : Section) → (z ≡ new) ⊎ List·Memᴰ z (g .sections) → laneAt (atLane i (setReading true) (s .engine)) (z .lane) .reading ≡ true
-        read z (inl e) = let q : z .lane ≡ i = ap (λ (z : Section). z .lane) e in rw q (reading-self i true inside)
+        read z (inl e) = let q : z .lane ≡ i = ap (λ (z : Section). z .lane) e in rw q (reading-self i (setReading true) inside)
         read z (inr n) = still (z .lane) (v .sections .reading z n)
 
         open′ : (j : ℕ) → SameOr j i → laneAt (atLane i (setReading true) (s .engine)) j .reading ≡ true → OpenOn (new ∷ g .sections) j
         open′ j (inl e) r = record { section = new; isOpen = List·Memᴰ·head refl; ofLane = sym e }
         open′ j (inr e) r =
-            let u = v .sections .section j (sym (reading-other i true j (e .0)) ∙ r) in
+            let u = v .sections .section j (sym (reading-other i (setReading true) j (e .0)) ∙ r) in
             record { section = u .section; isOpen = List·Memᴰ·tail (u .isOpen); ofLane = u .ofLane }
 
     pub keeps-begin : Keeps past k s (withLane s i (setReading true)) g (sectionOpened i (suc k) g)
-    keeps-begin = keeps-reading i true (sectionOpened i (suc k) g) w refl refl refl sections-begin
-        (grace-same i (setReading true) (s .engine) refl refl refl (λ x q. (before .reads x i q .0, refl, refl)) before)
-        (λ z m o. older z o m) (λ j c p l z n m. List·Memᴰ·tail m)
+    keeps-begin = keeps-reading i (setReading true) (sectionOpened i (suc k) g) refl w refl refl sections-begin
+        (grace-same i (setReading true) (s .engine) refl refl refl (λ x q. (before .reads x i q .0, refl, refl)) before) r
+        (λ j. rw (lookup j) (looking-still r past j (laneOf s j .lookup) (λ z n m. List·Memᴰ·tail m) (λ q n m. m) (λ q n m. m) (v .looking j)))
       where
         before : Grace (Waits (g .outs) (new ∷ g .sections)) (s .engine)
         before = grace-wider (s .engine) (λ x j q. inl (fewer x j q)) (v .grace)
 
-  -- ---- end
+        r : Respects k (s .table) (s .table) g (sectionOpened i (suc k) g)
+        r = respects-still k (s .table) g (sectionOpened i (suc k) g) refl (λ z m o. older z o m)
 
-  module _ (i : ℕ) (inside : i < length (s .engine .lanes)) (w : WellFormed (withLane s i (setReading false)))
-      (idles : (c p : ℕ) → laneOf s i .lookup ≡ running c p → ⊥) where
+        lookup : (j : ℕ) → laneAt (atLane i (setReading true) (s .engine)) j .lookup ≡ laneOf s j .lookup
+        lookup = update-cases freshLane (λ (j : ℕ) (l : Lane). l .lookup ≡ laneOf s j .lookup) (s .engine .lanes) i (setReading true) (λ j. refl) refl
+
+  -- ---- end: the lane has no section then, and no lookup
+
+  module _ (i : ℕ) (inside : i < length (s .engine .lanes)) (w : WellFormed (withLane s i leaving)) where
     abbrev rest : List Section
     rest = drops (sectionOf i) (g .sections)
 
@@ -120,31 +116,38 @@ module _ {past : ℕ → Ledger} {k : ℕ} {s : State} {g : Ledger} (v : Invaria
     fewer-end : (x j : ℕ) → Waits (g .outs) rest x j → WaitsFor g x j
     fewer-end x j = waits-map x j (λ z. retains-map z x (λ o e m. m) (λ m. left z m .0))
 
-    sections-end : Sections (suc k) (atLane i (setReading false) (s .engine)) rest
+    sections-end : Sections (suc k) (atLane i leaving (s .engine)) rest
     sections-end = record {
-      reading = λ z m. reading-other i false (z .lane) (others z m) ∙ v .sections .reading z (left z m .0);
+      reading = λ z m. reading-other i leaving (z .lane) (others z m) ∙ v .sections .reading z (left z m .0);
       section = λ j r. open′ j (same-or j i) r;
       opened = λ z m. omega (arith, v .sections .opened z (left z m .0));
     }
       where
-        open′ : (j : ℕ) → SameOr j i → laneAt (atLane i (setReading false) (s .engine)) j .reading ≡ true → OpenOn rest j
-        open′ j (inl e) r = clash (rw e at r) (reading-self i false inside)
+        open′ : (j : ℕ) → SameOr j i → laneAt (atLane i leaving (s .engine)) j .reading ≡ true → OpenOn rest j
+        open′ j (inl e) r = clash (rw e at r) (reading-self i leaving inside)
         open′ j (inr e) r =
-            let u = v .sections .section j (sym (reading-other i false j (e .0)) ∙ r) in
+            let u = v .sections .section j (sym (reading-other i leaving j (e .0)) ∙ r) in
             record {
               section = u .section;
               isOpen = to-drops (sectionOf i) (u .section) (g .sections) (u .isOpen) (rw (u .ofLane) (e .1));
               ofLane = u .ofLane;
             }
 
-    pub keeps-end : Keeps past k s (withLane s i (setReading false)) g (sectionEnded i g)
-    keeps-end = keeps-reading i false (sectionEnded i g) w refl refl refl sections-end
-        (grace-same i (setReading false) (s .engine) refl refl refl (λ x q. absurd (others (q .section) (q .retains .isOpen) (q .ofLane))) before)
-        (λ z m o. left z m .0) (λ j c p l z n m. to-drops (sectionOf i) z (g .sections) m (stays j c p l z n (same-or j i)))
+    pub keeps-end : Keeps past k s (withLane s i leaving) g (searchStruck i (sectionEnded i g))
+    keeps-end = keeps-reading i leaving (searchStruck i (sectionEnded i g)) refl w refl refl sections-end
+        (grace-same i leaving (s .engine) refl refl refl (λ x q. absurd (others (q .section) (q .retains .isOpen) (q .ofLane))) before) r
+        (λ j. looks j (same-or j i))
       where
         before : Grace (Waits (g .outs) rest) (s .engine)
         before = grace-wider (s .engine) (λ x j q. inl (fewer-end x j q)) (v .grace)
 
-        stays : (j c p : ℕ) → laneOf s j .lookup ≡ running c p → (z : Section) → z .lane ≡ j → SameOr j i → eqb (z .lane) i ≡ false
-        stays j c p l z n (inl e) = absurd (idles c p (rw e at l))
-        stays j c p l z n (inr e) = rw n (e .1)
+        r : Respects k (s .table) (s .table) g (searchStruck i (sectionEnded i g))
+        r = respects-still k (s .table) g (searchStruck i (sectionEnded i g)) refl (λ z m o. left z m .0)
+
+        -- the lane's own lookup, if one ran, is at rest; of another lane both section and note stay
+        looks : (j : ℕ) → SameOr j i → Looking past (suc k) (s .table) (searchStruck i (sectionEnded i g)) j (laneAt (atLane i leaving (s .engine)) j .lookup)
+        looks j (inl e) = rw (e, getD-update-same freshLane (s .engine .lanes) i leaving inside) tt
+        looks j (inr e) =
+            rw (getD-update-other freshLane (s .engine .lanes) i leaving j (e .0)) (looking-still r past j (laneOf s j .lookup)
+            (λ z n m. to-drops (sectionOf i) z (g .sections) m (rw n (e .1))) (λ q n m. to-drops (searchOf i) q (g .searches) m (rw n (e .1)))
+            (λ q n m. of-drops (searchOf i) q (g .searches) m .0) (v .looking j))

@@ -12,7 +12,7 @@ use Rattle.model.specs.State.{Lookup, idle, running, Lane, State}
 use Rattle.model.specs.Engine.{setLookup}
 use Rattle.model.specs.Table.{chainOf, linkOf}
 use Rattle.model.specs.Rules.{laneOf, withLane, Outcome, outcome, outcomeAnswer, continued, stepped}
-use Rattle.model.specs.Ledger.{Search, Ledger, searchOf, searchNoted, searchAnswered, isAnswer}
+use Rattle.model.specs.Ledger.{Search, Ledger, searchOf, searchNoted, searchStruck, isAnswer}
 use Rattle.laws.specs.Tests.{clash}
 use Rattle.laws.specs.Elements.{of-drops, to-drops}
 use Rattle.representation.proofs.WellFormed.{WellFormed}
@@ -63,7 +63,7 @@ module _ {past : ℕ → Ledger} {k : ℕ} {s : State} {g : Ledger} (v : Invaria
 
   -- the ledger after a step of lane i with outcome o
   abbrev stepLedger : ℕ → Outcome → Ledger
-  stepLedger i o = cond (isAnswer (outcomeAnswer o)) (searchAnswered i g) g
+  stepLedger i o = cond (isAnswer (outcomeAnswer o)) (searchStruck i g) g
 
   pub keeps-step : (i : ℕ) → i < length (s .engine .lanes) → WellFormed (withLane s i (stepped (s .table)))
       → Keeps past k s (withLane s i (stepped (s .table))) g (stepLedger i (outcome (s .table) (laneOf s i .lookup)))
@@ -80,7 +80,7 @@ module _ {past : ℕ → Ledger} {k : ℕ} {s : State} {g : Ledger} (v : Invaria
 
       -- the lookup is answered
       answered : stepped (s .table) (laneOf s i) ≡ setLookup idle (laneOf s i)
-          → Keeps past k s (withLane s i (stepped (s .table))) g (searchAnswered i g)
+          → Keeps past k s (withLane s i (stepped (s .table))) g (searchStruck i g)
       answered is = keeps-lookup v i (stepped (s .table)) idle (drops (searchOf i) (g .searches)) inside is w
           (λ q n m. to-drops (searchOf i) q (g .searches) m (ne-eqb (q .lane) i n)) (λ q n m. of-drops (searchOf i) q (g .searches) m .0) tt
 

@@ -1,5 +1,5 @@
--- What the invariant says of an answer, at the instant before it: an answered step is explained, a found slot is held, and the slot handed back was
--- out.
+-- What the invariant says of an answer, at the instant before it: an accepted step has its lookup noted, an answered one is explained, a found slot is
+-- held, and the slot handed back was out.
 use Prim.Native.Nat.{ℕ, suc, _<_}
 use mathlib.Core.Path.{_≡_, refl, ap}
 use mathlib.Core.Logic.{_⊎_, ⊎-elim}
@@ -7,7 +7,7 @@ use mathlib.Core.Bool.{true, false}
 use mathlib.Core.List.{List·Memᴰ}
 use native.Mathlib.Omega.{arith}
 use lib.Dec.{eqb·suc-zero}
-use Rattle.model.specs.State.{Lookup, idle, running, Product, State}
+use Rattle.model.specs.State.{Lookup, idle, running, isRunning, Product, State}
 use Rattle.model.specs.Table.{product, productAt}
 use Rattle.model.specs.Rules.{step, hand-back, Answer, refused, firstOf, laneOf, handedBack, causes, Outcome, outcome, outcomeAnswer, result, answer}
 use Rattle.model.specs.Ledger.{Section, Search, Out, Ledger, isAnswer}
@@ -22,6 +22,12 @@ use Rattle.history.proofs.CallsKeep.SlotFacts.{retains-queued}
 use Rattle.history.proofs.CallsKeep.LookupSteps.{Stepped, ends, finds, goes, stepped-cases, answer-window}
 use Rattle.history.proofs.CallsKeep.EveryCall.{inside}
 use Rattle.history.proofs.CallsKeep.Reclaim.{none-retains, was-out}
+
+-- the ledger has noted a lookup of lane i
+pub record Noted (g : Ledger) (i : ℕ) : Type 0 where
+  pub noted : Search
+  pub isNoted : List·Memᴰ noted (g .searches)
+  pub ofLane : noted .lane ≡ i
 
 -- a lookup that the ledger has noted of lane i, in whose window the answer r lies
 pub record Answered (past : ℕ → Ledger) (k : ℕ) (g : Ledger) (i : ℕ) (r : Answer) : Type 0 where
@@ -48,6 +54,15 @@ pub record Ended (g : Ledger) (x : ℕ) : Type 0 where
 
 module _ {past : ℕ → Ledger} {k : ℕ} {s : State} {g : Ledger} (v : Invariant past k s g) where
   -- ---- lookups
+
+  pub step-noted : (i : ℕ) → answer s (step i) .status ≡ 0 → Noted g i
+  unfolding isRunning
+  step-noted i = call-cases (λ (t : State) (r : Answer). r .status ≡ 0 → Noted g i) s (step i)
+      (λ z e. go (laneOf s i .lookup) (accepts s (step i) z .running) (v .looking i)) (λ m e. absurd (omega arith))
+    where
+      go : (l : Lookup) → isRunning l ≡ true → Looking past k (s .table) g i l → Noted g i
+      go idle e l = clash e refl
+      go (running c p) e l = record { noted = l .noted; isNoted = l .isNoted; ofLane = l .notedLane }
 
   pub step-answered : (i : ℕ) → isAnswer (answer s (step i)) ≡ true → Answered past k g i (answer s (step i))
   unfolding result outcome outcomeAnswer

@@ -53,8 +53,8 @@ search-changed c o g h = record {
   back = λ x. refl;
   opened = λ i k u. refl;
   ended = λ i. refl;
-  noted = λ q. refl;
-  answered = λ i. refl;
+  noted = λ i b k u. refl;
+  dropped = λ i l e. e;
 }
   where
     other : (b : ℕ) → changesCode b (on-state o) ≡ true → c ≢ b

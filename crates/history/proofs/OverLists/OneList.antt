@@ -1,4 +1,4 @@
--- The three parts of the demand on one list, from the invariant at its events and at its end.
+-- The three parts of the demand on one list, from the invariant at its events and at its end; and that an accepted step has its lookup noted.
 use Prim.Native.Nat.{ℕ, _<_}
 use mathlib.Core.Path.{_≡_, sym, ap, subst, _∙_}
 use mathlib.Core.Bool.{true}
@@ -13,7 +13,7 @@ use Rattle.model.specs.Calls.{Call, on-state, reply, leftAll}
 use Rattle.model.specs.Ledger.{Section, Search, Event, ledgerFrom, ledger, isAnswer, events, Came, Explained, Holds, Kept, Returned, stepEvent, handBackEvent}
 use Rattle.laws.specs.ListLaws.{getD-map-below}
 use Rattle.history.proofs.Ties.Invariant.{Invariant, Held}
-use Rattle.history.proofs.OverLists.Answers.{Answered, Found, Ended, step-answered, step-found, anchored-inside, handBack-ended}
+use Rattle.history.proofs.OverLists.Answers.{Noted, Answered, Found, Ended, step-noted, step-answered, step-found, anchored-inside, handBack-ended}
 use Rattle.history.proofs.OverLists.Stands.{Stands, reply-on}
 use Rattle.history.proofs.OverLists.ListInvariant.{At, Point, point, End, to-end}
 use Rattle.history.proofs.OverLists.Instants.{past}
@@ -66,6 +66,12 @@ module _ (m : List ℕ) (ks : List Call) (s : State) where
         where
           call : p .call ≡ on-state o
           call = ap (λ (e : Event). e .call) (p .is)
+
+  pub noted-list : At h [] s m ks → (i : ℕ) (r : Answer) (c : Came h (stepEvent i r)) → r .status ≡ 0 → Noted (ledger (c .before)) i
+  noted-list a i r c w = go (moment a (step i) r c)
+    where
+      go : Moment (step i) r (c .before) → Noted (ledger (c .before)) i
+      go p = step-noted (p .at .invariant) i (rw (p .is) w)
 
   pub explained-list : At h [] s m ks → (i : ℕ) (r : Answer) (c : Came h (stepEvent i r)) → isAnswer r ≡ true → Explained h i r (c .before)
   explained-list a i r c w = go (moment a (step i) r c)

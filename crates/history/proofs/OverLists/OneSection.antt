@@ -37,8 +37,8 @@ module _ {past : ℕ → Ledger} {k : ℕ} {s : State} {g : Ledger} (v : Invaria
     back = λ x. h;
     opened = new;
     ended = λ i. one-drops sectionLane (sectionOf i) (g .sections) h;
-    noted = λ q. h;
-    answered = λ i. h;
+    noted = λ i c k u. h;
+    dropped = λ i l d. d;
   }
     where
       new : (i k : ℕ) → o ≡ begin i → OneSection (sectionOpened i k g)

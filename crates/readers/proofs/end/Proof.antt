@@ -1,8 +1,6 @@
--- A refused `end` changes no word, and else it puts one flag of its lane.
-use Rattle.model.specs.Rules.{causes}
+-- A refused `end` changes no word, and else it puts the lookup to rest and the flag of the section.
 use Rattle.access.proofs.Ways.{refuses}
-use Rattle.access.proofs.LaneLaws.{lane-first}
-use Rattle.readers.proofs.FlagCalls.{end-done}
+use Rattle.readers.proofs.Leaving.{end-lane, end-resting, end-done}
 use borrow.Author.Needs.{needs}
 use Rattle.readers.proofs.end.Statement.{statement}
 use Rattle.readers.proofs.end.Tie as tie
@@ -19,9 +17,11 @@ same-length c = search needs
 returns : tie.Need-returns
 returns c = search (needs, refuses)
 
+put-to-rest-requires : tie.Need-put-to-rest-requires
+put-to-rest-requires c κs = search (needs, end-lane)
+
 put-flag-requires : tie.Need-put-flag-requires
-unfolding causes
-put-flag-requires c κs = search (needs, lane-first)
+put-flag-requires c κs = search (needs, end-resting)
 
 accepted-requires : tie.Need-accepted-requires
 accepted-requires c κs = search needs
@@ -40,6 +40,7 @@ end-spec =
     refused-requires
     same-length
     returns
+    put-to-rest-requires
     put-flag-requires
     accepted-requires
     same-length-2

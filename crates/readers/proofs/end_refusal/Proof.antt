@@ -20,16 +20,9 @@ returns-2 : tie.Need-returns-2
 unfolding causes
 returns-2 c = search (needs, refusals) depth 12 fits 9000
 
-is-running-requires : tie.Need-is-running-requires
-is-running-requires c κs = search (needs, lane-in)
-
 returns-3 : tie.Need-returns-3
 unfolding causes
 returns-3 c = search (needs, refusals) depth 12 fits 9000
-
-returns-4 : tie.Need-returns-4
-unfolding causes
-returns-4 c = search (needs, refusals) depth 12 fits 9000
 
 pub end-refusal-spec : {M : Type 1} → statement M
 end-refusal-spec =
@@ -39,6 +32,4 @@ end-refusal-spec =
     returns
     is-reading-requires
     returns-2
-    is-running-requires
-    returns-3
-    returns-4)
+    returns-3)

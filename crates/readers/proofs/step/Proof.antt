@@ -35,8 +35,8 @@ same-length-2 c = search needs
 returns-2 : tie.Need-returns-2
 returns-2 c = search (needs, step-going)
 
-put-lookup-requires : tie.Need-put-lookup-requires
-put-lookup-requires c κs = search (needs, step-lane)
+put-to-rest-requires : tie.Need-put-to-rest-requires
+put-to-rest-requires c κs = search (needs, step-lane)
 
 same-length-3 : tie.Need-same-length-3
 same-length-3 c = search needs
@@ -58,6 +58,6 @@ step-spec =
     go-on-requires
     same-length-2
     returns-2
-    put-lookup-requires
+    put-to-rest-requires
     same-length-3
     returns-3)

@@ -62,7 +62,7 @@ well-performed s w (delete i c) h = let k = accepts s (delete i c) h in well-del
 well-performed s w (start i c) h = let k = accepts s (start i c) h in well-start s w i c (k .reading) (code-fits c (k .inRange))
 well-performed s w (pass i k) h = well-pass s w i k
 well-performed s w (begin i) h = well-begin s w i (accepts s (begin i) h .lane .online)
-well-performed s w (end i) h = well-end s w i (accepts s (end i) h .idle)
+well-performed s w (end i) h = well-end s w i
 well-performed s w (step i) h = well-step s w i
 well-performed s w (clock i) h = let k = accepts s (clock i) h in well-clock s w i (k .known) (k .online)
 well-performed s w (on i) h = well-on s w i

@@ -7,11 +7,11 @@ use lib.ListN.{length, getD}
 use borrow.Author.Tests.{not-false}
 use Rattle.model.specs.Word.{none, upTo}
 use Rattle.model.specs.Lists.{update, any, first}
-use Rattle.model.specs.State.{Lookup, idle, running, Queues, Lane, Engine, Table, State, isRunning, laneCount}
+use Rattle.model.specs.State.{Lookup, idle, running, Queues, Lane, Engine, Table, State, laneCount}
 use Rattle.model.specs.Layout.{maxCode, countLimit, chainCount}
 use Rattle.model.specs.Engine.{freshLane, counted, setOnline, setReading, setLookup, atLane, clocked, wentOff}
 use Rattle.model.specs.Table.{chainOf}
-use Rattle.model.specs.Rules.{off, laneOf, with, withEngine, withLane, stepped, continued, outcome, Outcome, going, found, absent, isOnline}
+use Rattle.model.specs.Rules.{off, laneOf, with, withEngine, withLane, leaving, stepped, continued, outcome, Outcome, going, found, absent, isOnline}
 use Rattle.laws.specs.Generations.{up-word}
 use Rattle.laws.specs.Tests.{clash}
 use Rattle.laws.specs.ListLaws.{length-update, update-cases}
@@ -80,11 +80,6 @@ module _ (s : State) (w : WellFormed s) where
   reading-fits idle r f = tt
   reading-fits (running c p) r f = (refl, f .1, f .2)
 
-  idle-fits : (k : Lookup) (r : Bool) → isRunning k ≡ false → LookupFits n r k
-  unfolding isRunning
-  idle-fits idle r h = tt
-  idle-fits (running c p) r h = clash refl h
-
   pub well-begin : (i : ℕ) → laneOf s i .online ≡ true → WellFormed (withLane s i (setReading true))
   well-begin i o = at-lane i (setReading true) (λ l. refl) (λ l. refl)
       (let f = w .fits i in record {
@@ -95,11 +90,11 @@ module _ (s : State) (w : WellFormed s) where
         extra = f .extra;
       })
 
-  pub well-end : (i : ℕ) → isRunning (laneOf s i .lookup) ≡ false → WellFormed (withLane s i (setReading false))
-  well-end i h = at-lane i (setReading false) (λ l. refl) (λ l. refl)
+  pub well-end : (i : ℕ) → WellFormed (withLane s i leaving)
+  well-end i = at-lane i leaving (λ l. refl) (λ l. refl)
       (let f = w .fits i in record {
         counts = f .counts;
-        lookup = idle-fits (laneOf s i .lookup) false h;
+        lookup = tt;
         snapshot = f .snapshot;
         off = λ x. let u = f .off x in record { reading = refl; pending = u .pending; queues = u .queues };
         extra = f .extra;
@@ -113,6 +108,10 @@ module _ (s : State) (w : WellFormed s) where
     off = λ x. let u = f .off x in record { reading = u .reading; pending = u .pending; queues = u .queues };
     extra = f .extra;
   }
+
+  -- a lookup at rest: so a lane that leaves may drop it before its section
+  pub well-rest : (i : ℕ) → WellFormed (withLane s i (setLookup idle))
+  well-rest i = at-lane i (setLookup idle) (λ l. refl) (λ l. refl) (looks i idle tt)
 
   pub well-start : (i c : ℕ) → laneOf s i .reading ≡ true → c ≤ maxCode → WellFormed (withLane s i (setLookup (running c (first (chainOf t c)))))
   well-start i c r h = at-lane i (setLookup (running c (first (chainOf t c)))) (λ l. refl) (λ l. refl) (looks i _ (r, h, head-range s w (c % chainCount)))

@@ -58,7 +58,6 @@ pub record BeginAccepted (s : State) (i : ℕ) : Type 0 where
 pub record EndAccepted (s : State) (i : ℕ) : Type 0 where
   pub lane : OnLane s i
   pub reading : laneOf s i .reading ≡ true
-  pub idle : isRunning (laneOf s i .lookup) ≡ false
 
 pub record StepAccepted (s : State) (i : ℕ) : Type 0 where
   pub lane : OnLane s i
@@ -121,8 +120,8 @@ module _ (s : State) where
       let (k, (o, (w, _))) = clear (causes s (begin i)) (omega arith) h in
       record { lane = on-lane i k o; closed = w }
   accepts (end i) h =
-      let (k, (o, (w, (l, _)))) = clear (causes s (end i)) (omega arith) h in
-      record { lane = on-lane i k o; reading = not-false (laneOf s i .reading) w; idle = l }
+      let (k, (o, (w, _))) = clear (causes s (end i)) (omega arith) h in
+      record { lane = on-lane i k o; reading = not-false (laneOf s i .reading) w }
   accepts (step i) h =
       let (k, (o, (l, _))) = clear (causes s (step i)) (omega arith) h in
       record { lane = on-lane i k o; running = not-false (isRunning (laneOf s i .lookup)) l }
