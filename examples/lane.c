@@ -1,7 +1,7 @@
 /*
  * lane.c - a lane's round, call by call: the smallest program over the library. Two lanes
  * share a table; lane 1 reads a label and finds its product while lane 0 deletes it, and the
- * slot comes back only after lane 1 has moved on.
+ * slot comes back only after lane 1 has moved on, which it does in the middle of a lookup.
  *
  *     ./build lib
  *     cc -Iinclude examples/lane.c target/libproduct_table.a -o target/lane && target/lane
@@ -93,10 +93,13 @@ int main(void)
 	expect("hand_back is refused: lane 1 may still read", pt_hand_back(LENT, 0),
 		PT_NOTHING_DONE);
 
-	say("Lane 1 takes its snapshot, ends its section, passes: the grace period ends.");
+	say("Lane 1 takes its snapshot. Its customer takes the next bottle back, and the lane leaves:\n"
+		"the section ends without the lookup's answer. It passes, and the grace period ends.");
 	expect("clock of lane 1", pt_clock(LENT, 1), PT_OK);
 	expect("pass is refused inside a section", pt_pass(LENT, 1, PT_IDLE), PT_IN_SECTION);
-	expect("end", pt_end(LENT, 1), PT_OK);
+	expect("start: the next bottle", pt_start(LENT, 1, CODE), PT_OK);
+	expect("end: the lookup is dropped", pt_end(LENT, 1), PT_OK);
+	expect("step is refused: no lookup is running", pt_step(LENT, 1), PT_NO_LOOKUP);
 	pass_and_clock(1);
 
 	say("Lane 0's next clock moves the slot to its done queue, and it is handed back.");

@@ -182,8 +182,12 @@ def main(path):
     print(f"  the customer gets {euros(found(table, CUSTOMER)[1])}: the lookup stood on the old record already")
     print_try(table, "hand_back", OFFICE)
 
-    print("The customer goes. The lanes pass and make clocks until no slot is retired.")
+    print(f"The customer takes the next bottle, {LARGE}, back and goes: the section ends, and the lookup is dropped.")
+    table("start", CUSTOMER, LARGE)
     table("end", CUSTOMER)
+    print_try(table, "step", CUSTOMER)
+
+    print("The lanes pass and make clocks until no slot is retired.")
     while print_slots(table):
         for lane in range(LANES):
             table("pass", lane, IDLE)

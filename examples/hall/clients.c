@@ -6,7 +6,8 @@
  *
  * What a lane owes to the others: it reports a quiescent state (pass) outside its sections
  * and makes a clock now and then. A lane that stops doing so while it is online keeps
- * retired slots from being reclaimed; before a longer rest it goes off.
+ * retired slots from being reclaimed; before a longer rest it goes off. It may end its
+ * section whenever its customer goes: a lookup that runs is dropped with it.
  */
 #define _DEFAULT_SOURCE
 #include "hall.h"
@@ -118,18 +119,36 @@ static void look_up(struct client *lane, uint64_t code)
 	while (lane->answer[1] == PT_GOING);
 }
 
-/* One customer: some bottles in one section. */
+/* A bottle that the customer takes back: the lane leaves its lookup after a few steps. */
+static void look_up_halfway(struct client *lane, uint64_t code)
+{
+	uint32_t steps = draw(lane, 4);
+
+	must(lane, CALL_START, lane->number, code);
+	while (steps-- > 0 && lane->answer[1] == PT_GOING) /* 0 in the start's answer too */
+		must(lane, CALL_STEP, lane->number, 0);
+}
+
+/* The code of a bottle, by its label; the table may have no such product. */
+static uint64_t draw_bottle(struct client *lane)
+{
+	return by_label(product_code(draw(lane, PRODUCTS + PRODUCTS / 10)));
+}
+
+/* One customer: some bottles in one section, of which the last may be taken back. */
 static void serve_customer(struct client *lane)
 {
 	uint32_t bottles = 1 + draw(lane, 4);
 
 	must(lane, CALL_BEGIN, lane->number, 0);
 	while (bottles-- > 0) {
-		look_up(lane, by_label(product_code(draw(lane, PRODUCTS + PRODUCTS / 10))));
+		look_up(lane, draw_bottle(lane));
 		if (draw(lane, 4) == 0)
 			must(lane, CALL_CLOCK, lane->number, 0); /* a clock may come at any time */
 	}
-	must(lane, CALL_END, lane->number, 0);
+	if (draw(lane, 8) == 0)
+		look_up_halfway(lane, draw_bottle(lane));
+	must(lane, CALL_END, lane->number, 0); /* it waits for no answer */
 	must(lane, CALL_PASS, lane->number, PT_BOTTLE_DROPPED);
 }
 

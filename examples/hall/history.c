@@ -1,9 +1,10 @@
 /*
  * history.c - the recorded calls of the hall, judged after it has closed: they are made
  * once more on the C version, which must answer alike, and fed to the ledger of demand 3.
- * Every lookup is explained by one instant between its start and its answer, what a lane
- * found stood in its slot until the lane's section ended, and no slot was handed back
- * before the sections that were open at its removal had ended.
+ * Every answered lookup is explained by one instant between its start and its answer, what
+ * a lane found stood in its slot until the lane's section ended, and no slot was handed back
+ * before the sections that were open at its removal had ended. A lookup that was dropped,
+ * since the customer took the bottle back, had no answer and held nothing up.
  *
  * A lane maker needs nothing of this file.
  */
@@ -43,7 +44,7 @@ void history_note(const struct call *call, const uint32_t *answer)
 
 /* What the history holds. */
 struct tally {
-	uint64_t accepted[CALLS], refused, mistyped, lookups[3], periods;
+	uint64_t accepted[CALLS], refused, mistyped, lookups[3], taken_back, periods;
 	uint64_t added[3]; /* by labels of 8, 13 and 14 digits */
 };
 
@@ -72,6 +73,13 @@ static void tally_event(struct tally *tally, const struct event *event, uint32_t
 	}
 }
 
+/* Whether the call ends a section whose lookup runs, by the ledger before it. */
+static bool takes_back(const struct event *event)
+{
+	return event->call.name == CALL_END && event->answer[0] == PT_OK &&
+		ledger.lane[event->call.argument[0]].lookup;
+}
+
 /* The fault of one call, on the C version's memory, or NULL. */
 static const char *judge_event(uint32_t *memory, const struct event *event)
 {
@@ -89,9 +97,10 @@ static const char *judge_event(uint32_t *memory, const struct event *event)
 static void print_tally(const struct tally *tally)
 {
 	printf("hall: lookups %" PRIu64 " found, %" PRIu64 " absent, %" PRIu64
+		" taken back, %" PRIu64
 		" steps on the way; grace periods %" PRIu64 "\nhall:",
-		tally->lookups[PT_FOUND], tally->lookups[PT_ABSENT], tally->lookups[PT_GOING],
-		tally->periods);
+		tally->lookups[PT_FOUND], tally->lookups[PT_ABSENT], tally->taken_back,
+		tally->lookups[PT_GOING], tally->periods);
 	for (int name = 0; name < CALLS; name++)
 		printf(" %s %" PRIu64, call_forms[name].command, tally->accepted[name]);
 	printf(", refused %" PRIu64 ", %" PRIu64 " of them mistyped codes\n", tally->refused, tally->mistyped);
@@ -108,6 +117,7 @@ bool history_judge(void)
 
 	ledger_reset(&ledger);
 	for (size_t n = 0; n < length && fault == NULL; n++) {
+		tally.taken_back += takes_back(&events[n]) ? 1 : 0;
 		fault = judge_event(memory, &events[n]);
 		tally_event(&tally, &events[n], &generation);
 		if (fault != NULL)
@@ -117,9 +127,11 @@ bool history_judge(void)
 	}
 	print_tally(&tally);
 	if (fault == NULL)
-		printf("hall: %zu calls judged: one instant explains each lookup, finds were kept,\n"
+		printf("hall: %zu calls judged: one instant explains each answered lookup, finds were kept,\n"
 			"hall: no slot was handed back early, and the C version answers alike\n",
 			length);
+	if (tally.taken_back == 0)
+		printf("hall: NO bottle was taken back\n");
 	free(events);
-	return fault == NULL;
+	return fault == NULL && tally.taken_back > 0;
 }

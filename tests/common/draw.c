@@ -203,7 +203,7 @@ void drawer_start(struct drawer *drawer, const struct list *list, uint64_t seed,
 			LANE_COUNTS + kind, PT_NONE - draw_below(&drawer->seed, 3));
 }
 
-/* A lane finishes its lookup and its section, passes and hands back; perhaps it begins again. */
+/* A lane takes two steps and ends its section, with its lookup where that still runs, passes and hands back; perhaps it begins again. */
 static void ahead_lane(struct drawer *drawer, uint32_t lane)
 {
 	uint32_t kind = draw_below(&drawer->seed, KINDS);
@@ -227,6 +227,35 @@ static void ahead_lanes(struct drawer *drawer)
 	for (uint32_t l = 0; l < drawer->list->cabinets * drawer->list->lanes; l++)
 		if (staying == 0 || draw_below(&drawer->seed, 4) != 0)
 			ahead_lane(drawer, l);
+}
+
+/*
+ * A customer takes a bottle back: a lane's section ends with its lookup unfinished, after
+ * some steps, and perhaps on a slot that another lane has just removed.
+ */
+static void ahead_taken_back(struct drawer *drawer, const uint32_t *memory, size_t words)
+{
+	enum { STEPS = 4 }; /* more than the chains of small tables have */
+	static struct table table;
+	uint64_t code = draw_code(&drawer->seed, drawer->list);
+	uint32_t lanes = drawer->list->cabinets * drawer->list->lanes;
+	uint32_t lane = draw_below(&drawer->seed, lanes), other = draw_below(&drawer->seed, lanes), slot;
+
+	if (!table_read_legal(&table, memory, words))
+		return;
+	ahead_call(drawer, &(struct call){ CALL_BEGIN, { lane } });
+	ahead_call(drawer, &(struct call){ CALL_START, { lane, code } });
+	slot = table.heads[code % CHAINS];
+	for (uint32_t steps = draw_below(&drawer->seed, STEPS); steps > 0; steps--) {
+		ahead_call(drawer, &(struct call){ CALL_STEP, { lane } });
+		slot = slot != PT_NONE ? table.slot[slot].chain_link : PT_NONE;
+	}
+	if (slot != PT_NONE && draw_below(&drawer->seed, 2) == 0)
+		ahead_call(drawer, draw_below(&drawer->seed, 2) == 0 ?
+			&(struct call){ CALL_DELETE, { other, table.slot[slot].code } } :
+			&(struct call){ CALL_REPLACE, { other, table.slot[slot].code, 3, 3 } });
+	ahead_call(drawer, &(struct call){ CALL_END, { lane } });
+	ahead_call(drawer, &(struct call){ CALL_STEP, { lane } });
 }
 
 static void ahead_damage(struct drawer *drawer, const uint32_t *memory, uint32_t total)
@@ -302,6 +331,8 @@ struct step drawer_next(struct drawer *drawer, const uint32_t *memory, size_t wo
 		drawer->taken = drawer->ahead = 0;
 		if (!drawer->calls_only && draw_below(&drawer->seed, 40) == 0)
 			ahead_older(drawer, memory, words); /* first: it goes by the memory as it is */
+		if (draw_below(&drawer->seed, 40) == 0)
+			ahead_taken_back(drawer, memory, words);
 		if (!drawer->calls_only && draw_below(&drawer->seed, 10) == 0)
 			drawer->step[drawer->ahead++] = draw_label(&drawer->seed);
 		if (draw_below(&drawer->seed, 20 + 10 * lanes) == 0)

@@ -54,7 +54,8 @@ void drawer_start(struct drawer *drawer, const struct list *list, uint64_t seed,
  * The next step, on the memory as it is: mostly a call; a call on a memory or an answer that
  * is too short; calls on a memory of which some words are changed, after which they are as
  * they were; a record that becomes an older one, with a wrong check digit; a label that is
- * read or written; now and then all lanes finish their lookups, pass and hand back.
+ * read or written; a section that ends with its lookup unfinished; now and then all lanes end
+ * their sections, pass and hand back.
  */
 struct step drawer_next(struct drawer *drawer, const uint32_t *memory, size_t words);
 

@@ -73,6 +73,7 @@ static void refused_tries(struct tally *tally, struct tries *tries, const struct
 	tries->of[SENTENCE_CAUSE_RETURNED] = true;
 	tries->of[cause_sentence(cause)] = true;
 	tries->of[SENTENCE_DIGIT_WEIGHTS] = cause == PT_WRONG_DIGIT;
+	tries->of[SENTENCE_CAUSE_9] = cause == PT_IN_LOOKUP;
 	if (cause == PT_NOT_LEGAL) {
 		enum legal_sentence broken = ref_broken(beside->before, beside->words);
 
@@ -211,7 +212,28 @@ static void digit_tries(struct tries *tries, const struct call *call)
 	tries->of[SENTENCE_DIGIT_OLDER] = !enters && !code_is_right(call_argument(call, KIND_CODE, 0));
 }
 
-static void accepted_tries(struct tries *tries, const struct beside *beside)
+static enum dropped where_dropped(const struct table *table, const struct lane *lane)
+{
+	if (lane->position == PT_NONE)
+		return DROPPED_AT_NONE;
+	if (!chained(table, lane->position))
+		return DROPPED_OFF_CHAINS;
+	return table->heads[lane->code % CHAINS] == lane->position ? DROPPED_AT_HEAD : DROPPED_ON_CHAIN;
+}
+
+/* What the end of a section tries whose lookup runs. */
+static void dropped_tries(struct tally *tally, struct tries *tries, const struct table *then,
+		const struct call *call, uint32_t lane)
+{
+	if (call->name != CALL_END || !(then->lane[lane].flags & FLAG_LOOKUP))
+		return;
+	tries->of[SENTENCE_END_UNFINISHED] = true;
+	tries->of[SENTENCE_LOOKUP_DROPPED] = true;
+	tries->of[SENTENCE_CAUSE_9] = true;
+	tally->dropped[where_dropped(then, &then->lane[lane])]++;
+}
+
+static void accepted_tries(struct tally *tally, struct tries *tries, const struct beside *beside)
 {
 	static struct table then, now;
 	uint32_t lane = (uint32_t)call_argument(&beside->call, KIND_LANE, 0);
@@ -229,6 +251,7 @@ static void accepted_tries(struct tries *tries, const struct beside *beside)
 	digit_tries(tries, &beside->call);
 	table_read(&then, beside->before);
 	table_read(&now, beside->memory);
+	dropped_tries(tally, tries, &then, &beside->call, lane);
 	table_tries(tries, &then, &beside->call, beside->expected_answer, lane);
 	lane_tries(tries, &then, &now, &beside->call, lane);
 }
@@ -252,7 +275,7 @@ static void call_tries(struct tally *tally, struct tries *tries, const struct be
 	}
 	if (beside->expected.status == PT_OK) {
 		tally->accepted[beside->call.name]++;
-		accepted_tries(tries, beside);
+		accepted_tries(tally, tries, beside);
 	} else {
 		refused_tries(tally, tries, beside);
 	}
@@ -283,13 +306,13 @@ static void blame_records(struct tries *broken, const struct beside *beside)
 	}
 }
 
-/* The rules that the call tries: of generations, of the table, and the traps. */
+/* The rules that the call tries: of generations, of the table, of dropped lookups, and the traps. */
 static void blame_rules(struct tries *broken, const struct tries *tries, const struct beside *beside)
 {
 	uint32_t generation = beside->before[CONTENTS_WORDS + GLOBAL_CURRENT_GENERATION];
 
 	for (int n = 0; n < SENTENCES; n++)
-		if (n == SENTENCE_STEP_2 || n == SENTENCE_CURRENT_TO_NEXT || (n >= SENTENCE_TRAP_CHAINED && n <= SENTENCE_TRAP_SNAPSHOT) ||
+		if (n == SENTENCE_STEP_2 || n == SENTENCE_CURRENT_TO_NEXT || n == SENTENCE_LOOKUP_DROPPED || (n >= SENTENCE_TRAP_CHAINED && n <= SENTENCE_TRAP_SNAPSHOT) ||
 				(n >= SENTENCE_CABINET_BIT_GOES && n <= SENTENCE_STEP_ENDS))
 			broken->of[n] |= tries->of[n];
 	/* The order of generations, where the plain order is another. */
@@ -309,6 +332,9 @@ static void blame_status(struct tries *broken, const struct tries *tries, const 
 	uint32_t expected = beside->expected.status, status = beside->left.status;
 
 	broken->of[SENTENCE_CODE_LIMIT] = tries->of[SENTENCE_CODE_LIMIT];
+	broken->of[SENTENCE_END_UNFINISHED] = tries->of[SENTENCE_END_UNFINISHED];
+	broken->of[SENTENCE_CAUSE_9] = expected == PT_IN_LOOKUP ||
+		(status == PT_IN_LOOKUP && tries->of[SENTENCE_CAUSE_9]);
 	if (expected == PT_SHORT_ANSWER || status == PT_SHORT_ANSWER) {
 		broken->of[SENTENCE_SHORT_ANSWER] = true;
 	} else if (expected == PT_OK) {
@@ -419,16 +445,26 @@ void tally_judged(struct tally *tally, const struct call *call, const uint32_t *
 		tries.of[SENTENCE_LEDGER_STEP] = answered;
 		tries.of[SENTENCE_LEDGER_SEARCH] = answered;
 		tries.of[SENTENCE_LEDGER_INSTANT] = answered;
+		tries.of[SENTENCE_LEDGER_ANSWERED] = answered;
 		break;
 	case CALL_HAND_BACK: tries.of[SENTENCE_LEDGER_BACK] = true; break;
 	default: tries.of[SENTENCE_LEDGER_OTHERS] = true; break;
 	}
 	for (int n = SENTENCE_LEDGER_ADD; n <= SENTENCE_LEDGER_INSTANT; n++)
 		broken.of[n] = fault && tries.of[n];
+	broken.of[SENTENCE_LEDGER_ANSWERED] = fault && tries.of[SENTENCE_LEDGER_ANSWERED];
 	tally_add(tally, &tries, &broken);
 }
 
 /* ---- the report */
+
+void print_dropped(const struct tally *tally)
+{
+	printf("lookups dropped: %" PRIu64 " at the head, %" PRIu64 " further on, %" PRIu64
+		" on a slot of no chain, %" PRIu64 " at none\n",
+		tally->dropped[DROPPED_AT_HEAD], tally->dropped[DROPPED_ON_CHAIN],
+		tally->dropped[DROPPED_OFF_CHAINS], tally->dropped[DROPPED_AT_NONE]);
+}
 
 static void print_line(uint64_t tried, uint64_t broken, const char *text)
 {

@@ -1,7 +1,7 @@
 /*
- * sentences.h - which sentences of document 01 a call tries, and which of them a difference
- * breaks. What is tried is read off the memory before and after the call as the judge left
- * it; the engine that is tried is not asked.
+ * sentences.h - which sentences of documents 01 and 02 a call tries, and which of them a
+ * difference breaks. What is tried is read off the memory before and after the call as the
+ * judge left it; the engine that is tried is not asked.
  */
 #ifndef COMMON_SENTENCES_H
 #define COMMON_SENTENCES_H
@@ -19,6 +19,9 @@ enum sentence {
 	SENTENCES
 };
 
+/* Where a lookup stood that the end of its section dropped. */
+enum dropped { DROPPED_AT_HEAD, DROPPED_ON_CHAIN, DROPPED_OFF_CHAINS, DROPPED_AT_NONE, DROPPED };
+
 /* How often each was tried, and how often it did not hold. */
 struct tally {
 	uint64_t tried[SENTENCES];
@@ -27,12 +30,16 @@ struct tally {
 	uint64_t accepted[CALLS];
 	uint64_t refused[CALLS][LAST_CAUSE + 1];
 	uint64_t labels[2][PT_WRONG_LABEL + 1]; /* read and written: 0, and by cause */
+	uint64_t dropped[DROPPED]; /* lookups */
 	/* how often a cause was answered while another of the call's applied as well */
 	uint64_t before[CALLS][LAST_CAUSE + 1][LAST_CAUSE + 1];
 };
 
 /* The words of a sentence of legality. */
 const char *legal_text(enum legal_sentence sentence);
+
+/* How many lookups were dropped, by where they stood: a line. */
+void print_dropped(const struct tally *tally);
 
 /* Adds the last call of a run that has a judge, and its difference. */
 void tally_call(struct tally *tally, const struct beside *beside);

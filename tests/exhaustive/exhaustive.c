@@ -9,8 +9,9 @@
  *
  * The alphabet, of which each table below takes a part: one or two codes of one chain,
  * one of them 0 as in free slots, added with deposit and material 1 and replaced with 2;
- * quiescent states of some kinds; begin, start, step and end; clock, on, off, hand-back,
- * awaited and set-up. The smallest tables also take calls that every state refuses.
+ * quiescent states of some kinds; begin, start, step, and end wherever a lookup stands;
+ * clock, on, off, hand-back, awaited and set-up. The smallest tables also take calls that
+ * every state refuses.
  *
  * Why it ends. Generations and counts grow without bound, but the rules only compare them,
  * and answer the generation. So memories that differ by a shift of all generations are one state, and
@@ -105,6 +106,7 @@ static double begun; /* the run */
 
 /* Over all tables. */
 static uint64_t all_states, calls, accepted[CALLS], refused[LAST_CAUSE + 1], outcomes[3];
+static uint64_t dropped; /* lookups, by the ends of their sections */
 
 /* ---- the alphabet */
 
@@ -415,6 +417,12 @@ static void count_answer(const struct call *call, const uint32_t *answer)
 		outcomes[answer[1]]++;
 }
 
+/* Whether the call, if it is accepted, drops a lookup. */
+static bool drops(const struct state *state, const struct call *call)
+{
+	return call->name == CALL_END && state->ledger.lane[call->argument[0]].lookup;
+}
+
 /* A count that is ahead of its snapshot comes to the last number before it. */
 static void many_passes(const struct state *from, uint32_t number, uint32_t at)
 {
@@ -447,8 +455,10 @@ static void make(const struct state *from, uint32_t number, uint32_t at)
 	if (what != NULL)
 		fault(number, call, what);
 	count_answer(call, answer);
-	if (left.status == PT_OK)
-		meet(&state, number, at, kept[number].level + 1);
+	if (left.status != PT_OK)
+		return;
+	dropped += drops(from, call) ? 1 : 0;
+	meet(&state, number, at, kept[number].level + 1);
 }
 
 /* ---- the search */
@@ -461,8 +471,8 @@ static void print_counts(void)
 	printf("\nrefused, by cause:");
 	for (uint32_t cause = PT_BAD_SIZE; cause <= LAST_CAUSE; cause++)
 		printf(" %" PRIu32 ": %" PRIu64, cause, refused[cause]);
-	printf("\nsteps: %" PRIu64 " going, %" PRIu64 " found, %" PRIu64 " absent\n",
-		outcomes[PT_GOING], outcomes[PT_FOUND], outcomes[PT_ABSENT]);
+	printf("\nsteps: %" PRIu64 " going, %" PRIu64 " found, %" PRIu64 " absent; lookups dropped: %" PRIu64 "\n",
+		outcomes[PT_GOING], outcomes[PT_FOUND], outcomes[PT_ABSENT], dropped);
 }
 
 static void start(void)

@@ -13,6 +13,7 @@
 #include <stdio.h>
 #include <stdlib.h>
 
+#include "layout.h"
 #include "record.h"
 #include "shrink.h"
 #include "stream.h"
@@ -29,6 +30,7 @@ static struct beside beside;
 static struct record record;
 static uint64_t calls, streams, accepted[CALLS], refused[LAST_CAUSE + 1], short_answers, fed;
 static uint64_t labels[2][PT_WRONG_LABEL + 1]; /* read and written: 0, and by cause */
+static uint64_t dropped; /* lookups, by the ends of their sections */
 
 static void report(void)
 {
@@ -40,9 +42,20 @@ static void report(void)
 	printf("\nfuzz: refused");
 	for (uint32_t cause = PT_BAD_SIZE; cause <= LAST_CAUSE; cause++)
 		printf(" %" PRIu32 ": %" PRIu64, cause, refused[cause]);
+	printf("\nfuzz: lookups dropped %" PRIu64, dropped);
 	printf("\nfuzz: labels read %" PRIu64 ", 18: %" PRIu64 "; written %" PRIu64 ", 11: %" PRIu64 ", 18: %" PRIu64 "\n",
 		labels[0][PT_OK], labels[0][PT_WRONG_LABEL], labels[1][PT_OK], labels[1][PT_OUT_OF_RANGE],
 		labels[1][PT_WRONG_LABEL]);
+}
+
+/* Whether the last call, which was accepted, ended a section with its lookup running. */
+static bool dropped_lookup(const struct call *call)
+{
+	struct layout layout = layout_of(beside.before[CONTENTS_CABINETS],
+			beside.before[CONTENTS_LANES], beside.before[CONTENTS_SLOTS]);
+
+	return call->name == CALL_END && beside.before[layout.first[BODY_LANES] +
+		LANE_WORDS * call->argument[0] + LANE_FLAGS] & FLAG_LOOKUP;
 }
 
 static void count_call(const struct call *call, uint32_t status)
@@ -55,6 +68,8 @@ static void count_call(const struct call *call, uint32_t status)
 		refused[status]++;
 	else
 		accepted[call->name]++;
+	if (status == PT_OK && dropped_lookup(call))
+		dropped++;
 }
 
 /* ---- a difference */

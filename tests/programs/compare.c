@@ -91,6 +91,17 @@ static void print_labels(bool often)
 		tally.labels[1][PT_WRONG_LABEL] >= OFTEN));
 }
 
+/* How many lookups the ends of their sections dropped, by where they stood. */
+static void check_dropped(bool often)
+{
+	enum { OFTEN = 100 };
+
+	printf("compare: ");
+	print_dropped(&tally);
+	for (int n = 0; n < DROPPED; n++)
+		CHECK(!often || tally.dropped[n] >= OFTEN);
+}
+
 /* One list; returns the calls that were made. */
 static uint32_t play(const struct list *list, uint64_t seed, uint32_t calls)
 {
@@ -142,6 +153,7 @@ int main(int argc, char **argv)
 	}
 	print_wrong_digits(argc == 1);
 	print_labels(argc == 1);
+	check_dropped(argc == 1);
 	printf("compare: seed %" PRIu64 ", %" PRIu64 " calls, %" PRIu64 " slots handed back\n", first,
 		tally.calls, tally.accepted[CALL_HAND_BACK]);
 	return 0;

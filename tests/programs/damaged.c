@@ -145,6 +145,11 @@ static void test_odd_lookups(void)
 	memcpy(lent.memory, rich, sizeof lent.memory);
 	lent.memory[LANE(0, LANE_POSITION)] = 12;
 	lent_expect(&lent, "step 0", "0 1 12 0 0");
+	/* A section ends with its lookup on a free slot. */
+	memcpy(lent.memory, rich, sizeof lent.memory);
+	lent.memory[LANE(0, LANE_POSITION)] = 12;
+	lent_expect(&lent, "end 0", "0 0 0 0 0");
+	lent_expect(&lent, "step 0", "10 0 0 0 0");
 	/* All lanes offline: a lane goes on, and no call but on finds a lane online. */
 	memcpy(lent.memory, fresh, sizeof lent.memory);
 	for (uint32_t l = 0; l < DAMAGES_CABINETS * DAMAGES_LANES; l++)

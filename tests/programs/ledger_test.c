@@ -104,6 +104,99 @@ static void test_instants(void)
 	CHECK(says(FAULT(replaced, "0 2 0 0 0"), "explains"));
 }
 
+/* An end strikes the lane's lookup: no step of it is taken after that, and its instants explain nothing. */
+static void test_dropped(void)
+{
+	static const struct ledger_lane at_rest;
+	static const struct lent_step step[] = {
+		{ "setup 1 2 3", "0 145 0 0 0" }, { "add 0 17 25 1", "0 0 0 0 0" },
+		{ "begin 1", "0 0 0 0 0" }, { "start 1 17", "0 0 0 0 0" },
+		{ "end 1", "0 0 0 0 0" }, { "step 1", "10 0 0 0 0" },
+	};
+	static const struct lent_step other_code[] = {
+		{ "setup 1 2 3", "0 145 0 0 0" }, { "add 0 17 25 1", "0 0 0 0 0" },
+		{ "add 0 24 26 2", "0 1 0 0 0" }, { "begin 1", "0 0 0 0 0" },
+		{ "start 1 17", "0 0 0 0 0" }, { "end 1", "0 0 0 0 0" },
+		{ "begin 1", "0 0 0 0 0" }, { "start 1 24", "0 0 0 0 0" },
+		{ "step 1", "0 1 1 26 2" },
+	};
+	static const struct lent_step same_code[] = {
+		{ "setup 1 2 3", "0 145 0 0 0" }, { "add 0 17 25 1", "0 0 0 0 0" },
+		{ "begin 1", "0 0 0 0 0" }, { "start 1 17", "0 0 0 0 0" },
+		{ "del 0 17", "0 0 0 0 0" }, { "end 1", "0 0 0 0 0" },
+		{ "begin 1", "0 0 0 0 0" }, { "start 1 17", "0 0 0 0 0" },
+		{ "step 1", "0 2 0 0 0" },
+	};
+
+	CHECK(FEED(step) == NULL);
+	CHECK(memcmp(&ledger.lane[1], &at_rest, sizeof at_rest) == 0);
+	CHECK(says(FAULT(step, "0 0 0 0 0"), "no lookup running"));
+	CHECK(says(FAULT(step, "0 1 0 25 1"), "no lookup running"));
+	CHECK(says(FAULT(step, "0 2 0 0 0"), "no lookup running"));
+	CHECK(FEED(other_code) == NULL);
+	CHECK(says(FAULT(other_code, "0 1 0 25 1"), "explains"));
+	CHECK(FEED(same_code) == NULL);
+	CHECK(says(FAULT(same_code, "0 1 0 25 1"), "explains"));
+}
+
+/* A lookup that stood on a removed slot when it was dropped keeps it from nobody. */
+static void test_dropped_on_removed(void)
+{
+	static const struct lent_step ended[] = {
+		{ "setup 1 3 3", "0 164 0 0 0" }, { "add 0 17 25 1", "0 0 0 0 0" },
+		{ "begin 2", "0 0 0 0 0" }, { "start 2 17", "0 0 0 0 0" },
+		{ "del 0 17", "0 0 0 0 0" }, { "end 2", "0 0 0 0 0" },
+		{ "back 0", "0 0 0 0 0" },
+	};
+	static const struct lent_step open[] = {
+		{ "setup 1 3 3", "0 164 0 0 0" }, { "add 0 17 25 1", "0 0 0 0 0" },
+		{ "begin 1", "0 0 0 0 0" }, { "begin 2", "0 0 0 0 0" },
+		{ "start 1 17", "0 0 0 0 0" }, { "start 2 17", "0 0 0 0 0" },
+		{ "del 0 17", "0 0 0 0 0" }, { "end 2", "0 0 0 0 0" },
+		{ "back 0", "16 0 0 0 0" },
+	};
+
+	CHECK(FEED(ended) == NULL);
+	CHECK(FEED(open) == NULL); /* another section of the removal is open */
+	CHECK(says(FAULT(open, "0 0 0 0 0"), "before a section"));
+}
+
+/* What the ledger has of a lane's section and lookup says which calls cannot be accepted. */
+static void test_misplaced(void)
+{
+	static const struct lent_step begin[] = {
+		{ "setup 1 2 3", "0 145 0 0 0" }, { "begin 1", "0 0 0 0 0" },
+		{ "begin 0", "0 0 0 0 0" }, { "begin 1", "7 0 0 0 0" },
+	};
+	static const struct lent_step end[] = {
+		{ "setup 1 2 3", "0 145 0 0 0" }, { "begin 1", "0 0 0 0 0" },
+		{ "start 1 17", "0 0 0 0 0" }, { "end 1", "0 0 0 0 0" }, { "end 1", "8 0 0 0 0" },
+	};
+	static const struct lent_step outside[] = {
+		{ "setup 1 2 3", "0 145 0 0 0" }, { "begin 1", "0 0 0 0 0" },
+		{ "end 1", "0 0 0 0 0" }, { "start 1 17", "8 0 0 0 0" },
+	};
+	static const struct lent_step beside[] = {
+		{ "setup 1 2 3", "0 145 0 0 0" }, { "begin 1", "0 0 0 0 0" },
+		{ "start 1 17", "0 0 0 0 0" }, { "start 1 24", "9 0 0 0 0" },
+	};
+	static const struct lent_step answered[] = {
+		{ "setup 1 2 3", "0 145 0 0 0" }, { "begin 1", "0 0 0 0 0" },
+		{ "start 1 17", "0 0 0 0 0" }, { "step 1", "0 2 0 0 0" }, { "step 1", "10 0 0 0 0" },
+	};
+
+	CHECK(FEED(begin) == NULL);
+	CHECK(says(FAULT(begin, "0 0 0 0 0"), "inside a section"));
+	CHECK(FEED(end) == NULL);
+	CHECK(says(FAULT(end, "0 0 0 0 0"), "not open"));
+	CHECK(FEED(outside) == NULL);
+	CHECK(says(FAULT(outside, "0 0 0 0 0"), "outside a section"));
+	CHECK(FEED(beside) == NULL);
+	CHECK(says(FAULT(beside, "0 0 0 0 0"), "another runs"));
+	CHECK(FEED(answered) == NULL);
+	CHECK(says(FAULT(answered, "0 0 0 0 0"), "no lookup running"));
+}
+
 static void test_hand_back(void)
 {
 	static const struct lent_step open[] = {
@@ -193,6 +286,9 @@ int main(void)
 {
 	test_whole_search();
 	test_instants();
+	test_dropped();
+	test_dropped_on_removed();
+	test_misplaced();
 	test_hand_back();
 	test_slots();
 	test_kept();

@@ -1,7 +1,8 @@
 /*
- * listing-ledger.c - document 01's listing, fed to the ledger of demand 3: what the
- * ledger holds at eleven instants, those of the definitions' computed ledger (crate
- * cases, Ledgers). The ledger keeps of a removed slot's sections those still open.
+ * listing-ledger.c - lists fed to the ledger of demand 3, and what it holds at some of
+ * their instants: document 01's listing at eleven, those of the definitions' computed ledger
+ * (crate cases, Ledgers), and a list in which the end of a section drops its lookup. The
+ * ledger keeps of a removed slot's sections those still open.
  */
 #include <stdio.h>
 
@@ -21,7 +22,14 @@ static const struct lent_step listing[] = {
 	{ "awaited", "0 0 4294967295 3 0" },
 };
 
-enum { CALLS_LISTED = sizeof(listing) / sizeof(listing[0]) };
+/* The section ends while its lookup of 17 runs; the lane's next lookup is answered. */
+static const struct lent_step taken_back[] = {
+	{ "add 0 17 25 1", "0 0 0 0 0" }, { "begin 1", "0 0 0 0 0" },
+	{ "start 1 17", "0 0 0 0 0" }, { "del 0 17", "0 0 0 0 0" },
+	{ "end 1", "0 0 0 0 0" }, { "step 1", "10 0 0 0 0" },
+	{ "begin 1", "0 0 0 0 0" }, { "start 1 17", "0 0 0 0 0" },
+	{ "step 1", "0 2 0 0 0" }, { "end 1", "0 0 0 0 0" },
+};
 
 /* What the ledger holds of slot 0 and of lane 1; it holds nothing else. */
 struct book {
@@ -33,7 +41,7 @@ struct book {
 	uint64_t sections; /* open still, of those of its removal: bit 1 is lane 1's */
 };
 
-static const struct book books[] = {
+static const struct book listing_books[] = {
 	{ 0, false, false, false, false, 0 },
 	{ 1, true, false, false, false, 0 },
 	{ 2, true, true, false, false, 0 },
@@ -47,7 +55,16 @@ static const struct book books[] = {
 	{ 17, false, false, false, false, 0 },
 };
 
-enum { BOOKS = sizeof(books) / sizeof(books[0]) };
+static const struct book taken_back_books[] = {
+	{ 3, true, true, true, false, 0 },
+	{ 4, false, true, true, true, 2 },
+	{ 5, false, false, false, true, 0 },
+	{ 6, false, false, false, true, 0 },
+	{ 7, false, true, false, true, 0 },
+	{ 8, false, true, true, true, 0 },
+	{ 9, false, true, false, true, 0 },
+	{ 10, false, false, false, true, 0 },
+};
 
 static struct lent lent;
 static struct ledger ledger;
@@ -79,25 +96,41 @@ static void check_lanes(const struct book *book)
 	}
 }
 
-int main(void)
+/* Makes the calls from one instant to another, each with its answer. */
+static void make_calls(const struct lent_step *calls, size_t from, size_t to)
 {
-	size_t made = 0;
+	for (size_t n = from; n < to; n++) {
+		struct call call = lent_call(calls[n].call);
 
+		lent_expect(&lent, calls[n].call, calls[n].answer);
+		CHECK(ledger_feed(&ledger, &call, lent.answer) == NULL);
+		CHECK(ledger_kept(&ledger, lent.memory) == NULL);
+	}
+}
+
+/* Looks at the ledger at the instants of the books. */
+static void keep_books(const struct lent_step *calls, const struct book *books, size_t count)
+{
 	lent_start(&lent);
 	lent_expect(&lent, "setup 1 2 3", "0 145 0 0 0");
 	ledger_reset(&ledger);
-	for (size_t n = 0; n < BOOKS; n++) {
-		for (; made < books[n].instant; made++) {
-			struct call call = lent_call(listing[made].call);
-
-			lent_expect(&lent, listing[made].call, listing[made].answer);
-			CHECK(ledger_feed(&ledger, &call, lent.answer) == NULL);
-			CHECK(ledger_kept(&ledger, lent.memory) == NULL);
-		}
+	for (size_t n = 0; n < count; n++) {
+		make_calls(calls, n == 0 ? 0 : books[n - 1].instant, books[n].instant);
 		check_slots(&books[n]);
 		check_lanes(&books[n]);
 	}
-	CHECK(made == CALLS_LISTED);
-	printf("the listing's ledger at %d instants\n", (int)BOOKS);
+}
+
+#define COUNT(list) (sizeof(list) / sizeof((list)[0]))
+#define KEEP(list) \
+	CHECK(list##_books[COUNT(list##_books) - 1].instant == COUNT(list)); \
+	keep_books(list, list##_books, COUNT(list##_books))
+
+int main(void)
+{
+	KEEP(listing);
+	KEEP(taken_back);
+	printf("the listing's ledger at %zu instants, one with a dropped lookup at %zu\n",
+		COUNT(listing_books), COUNT(taken_back_books));
 	return 0;
 }

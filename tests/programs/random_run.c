@@ -33,7 +33,7 @@ static uint32_t *exact; /* the second memory */
 
 /* What all lists reached. */
 static uint32_t accepted[CALLS], refused[LAST_CAUSE + 1];
-static uint32_t found, absent, periods;
+static uint32_t found, absent, dropped, periods;
 
 static uint32_t draw(uint32_t below)
 {
@@ -46,6 +46,13 @@ static void complain(const struct call *call, const char *fault)
 		call_forms[call->name].command, call->argument[0], call->argument[1],
 		call->argument[2], call->argument[3], fault);
 	exit(1);
+}
+
+/* Whether the call is an end and the ledger has a lookup of its lane. */
+static bool drops(const struct call *call)
+{
+	return call->name == CALL_END && call->argument[0] < LEDGER_LANES &&
+		ledger.lane[call->argument[0]].lookup;
 }
 
 static void count_answer(const struct call *call, uint32_t generation)
@@ -69,9 +76,11 @@ static void make(const struct call *call, size_t length)
 {
 	uint32_t generation = lent_global(lent.memory)[GLOBAL_CURRENT_GENERATION];
 	uint32_t answer[PT_ANSWER_WORDS];
+	bool unfinished = drops(call);
 	const char *fault;
 
 	lent_make(&lent, call);
+	dropped += unfinished && lent.answer[0] == PT_OK ? 1 : 0;
 	call_make(&tested, exact, length, answer, PT_ANSWER_WORDS, call);
 	CHECK(memcmp(answer, lent.answer, sizeof answer) == 0);
 	CHECK(memcmp(exact, lent.memory, length * sizeof *exact) == 0);
@@ -174,9 +183,9 @@ int main(void)
 		CHECK(refused[cause] > 0);
 		calls += refused[cause];
 	}
-	CHECK(found > 0 && absent > 0 && periods > 0);
+	CHECK(found > 0 && absent > 0 && dropped > 0 && periods > 0);
 	printf("random run: %" PRIu32 " calls, %" PRIu32 " found, %" PRIu32 " absent, %" PRIu32
-		" grace periods, %" PRIu32 " slots handed back\n",
-		calls, found, absent, periods, accepted[CALL_HAND_BACK]);
+		" dropped, %" PRIu32 " grace periods, %" PRIu32 " slots handed back\n",
+		calls, found, absent, dropped, periods, accepted[CALL_HAND_BACK]);
 	return 0;
 }

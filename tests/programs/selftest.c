@@ -1,7 +1,7 @@
 /*
  * selftest.c - executed cases of the fourteen calls: the words of a set-up, every
- * cause and the order of the causes, limits, wraps, chains, grace periods, lanes on
- * and off, short answers, and the words past the total.
+ * cause and the order of the causes, limits, wraps, chains, dropped lookups, grace
+ * periods, lanes on and off, short answers, and the words past the total.
  */
 #include <stdio.h>
 #include <stdlib.h>
@@ -202,12 +202,15 @@ static void test_sections(void)
 		{ "step 0", "10 0 0 0 0" },
 		{ "start 0 18446744073709551615", "11 0 0 0 0" },
 		{ "start 0 55", "0 0 0 0 0" }, { "start 0 55", "9 0 0 0 0" },
-		{ "start 0 18446744073709551615", "9 0 0 0 0" }, { "end 0", "9 0 0 0 0" },
+		{ "start 0 18446744073709551615", "9 0 0 0 0" },
 		{ "begin 0", "7 0 0 0 0" }, { "clock 0", "0 1 0 0 0" },
 		{ "step 1", "10 0 0 0 0" }, { "end 1", "8 0 0 0 0" },
 		{ "step 0", "0 2 0 0 0" }, { "step 0", "10 0 0 0 0" },
 		{ "start 0 55", "0 0 0 0 0" }, { "step 0", "0 2 0 0 0" },
 		{ "end 0", "0 0 0 0 0" }, { "end 0", "8 0 0 0 0" },
+		/* A section ends while its lookup runs. */
+		{ "begin 0", "0 0 0 0 0" }, { "start 0 55", "0 0 0 0 0" },
+		{ "end 0", "0 0 0 0 0" }, { "step 0", "10 0 0 0 0" }, { "end 0", "8 0 0 0 0" },
 		/* The section is tested before the last lane online. */
 		{ "off 1", "0 0 0 0 0" }, { "begin 0", "0 0 0 0 0" },
 		{ "off 0", "7 0 0 0 0" }, { "end 0", "0 0 0 0 0" },
@@ -361,6 +364,200 @@ static void test_chains(void)
 	LENT_PLAY(&lent, six_calls);
 	LENT_PLAY(&lent, replaced);
 }
+
+/* ---- a section ends while its lookup runs (document 02, request 3) */
+
+static struct lent plain; /* the same calls without a lookup */
+
+/* Chain 0 is the slots 2, 1, 0 with the codes 512, 192, 0. */
+static const struct lent_step chain_of_three[] = {
+	{ "setup 1 2 6", "0 163 0 0 0" }, { "add 0 0 10 0", "0 0 0 0 0" },
+	{ "add 0 192 11 1", "0 1 0 0 0" }, { "add 0 512 12 2", "0 2 0 0 0" },
+};
+
+enum { DROP_STEPS = 6 };
+
+/* A lookup of lane 1, where it stands when its section ends, and the lane's next one. */
+struct drop {
+	uint32_t position;
+	struct lent_step lookup[DROP_STEPS], next[DROP_STEPS];
+};
+
+#define GOING { "step 1", "0 0 0 0 0" }
+
+static const struct drop drops[] = {
+	/* At the head. */
+	{ 2, { { "start 1 0", "0 0 0 0 0" } },
+		{ { "start 1 192", "0 0 0 0 0" }, GOING, { "step 1", "0 1 1 11 1" } } },
+	/* On the slot of its code, a step before the answer. */
+	{ 2, { { "start 1 512", "0 0 0 0 0" } },
+		{ { "start 1 0", "0 0 0 0 0" }, GOING, GOING, { "step 1", "0 1 0 10 0" } } },
+	/* In the middle, and on the last slot. */
+	{ 1, { { "start 1 0", "0 0 0 0 0" }, GOING },
+		{ { "start 1 512", "0 0 0 0 0" }, { "step 1", "0 1 2 12 2" } } },
+	{ 0, { { "start 1 1472", "0 0 0 0 0" }, GOING, GOING },
+		{ { "start 1 192", "0 0 0 0 0" }, GOING, { "step 1", "0 1 1 11 1" } } },
+	/* At none: the chain is walked to its end, or has no slot. */
+	{ PT_NONE, { { "start 1 1472", "0 0 0 0 0" }, GOING, GOING, GOING },
+		{ { "start 1 512", "0 0 0 0 0" }, { "step 1", "0 1 2 12 2" } } },
+	{ PT_NONE, { { "start 1 17", "0 0 0 0 0" } },
+		{ { "start 1 512", "0 0 0 0 0" }, { "step 1", "0 1 2 12 2" } } },
+	/* On a slot that was deleted: the head, and in the middle. */
+	{ 2, { { "start 1 0", "0 0 0 0 0" }, { "del 0 512", "0 2 0 0 0" } },
+		{ { "start 1 192", "0 0 0 0 0" }, { "step 1", "0 1 1 11 1" } } },
+	{ 1, { { "start 1 0", "0 0 0 0 0" }, GOING, { "del 0 192", "0 1 0 0 0" } },
+		{ { "start 1 192", "0 0 0 0 0" }, GOING, GOING, { "step 1", "0 2 0 0 0" } } },
+	/* On a slot that was replaced: by another lane, by its own, twice. */
+	{ 1, { { "start 1 0", "0 0 0 0 0" }, GOING, { "rep 0 192 13 3", "0 3 1 0 0" } },
+		{ { "start 1 192", "0 0 0 0 0" }, GOING, { "step 1", "0 1 3 13 3" } } },
+	{ 2, { { "start 1 192", "0 0 0 0 0" }, { "rep 1 512 13 3", "0 3 2 0 0" },
+			{ "rep 1 512 14 4", "0 4 3 0 0" } },
+		{ { "start 1 512", "0 0 0 0 0" }, { "step 1", "0 1 4 14 4" } } },
+	/* A second lookup of the section, after one that was answered. */
+	{ 1, { { "start 1 512", "0 0 0 0 0" }, { "step 1", "0 1 2 12 2" },
+			{ "start 1 0", "0 0 0 0 0" }, GOING },
+		{ { "start 1 192", "0 0 0 0 0" }, GOING, { "step 1", "0 1 1 11 1" } } },
+};
+
+static void play_drop(struct lent *on, const struct lent_step steps[DROP_STEPS])
+{
+	for (int n = 0; n < DROP_STEPS && steps[n].call != NULL; n++)
+		lent_expect(on, steps[n].call, steps[n].answer);
+}
+
+/* The calls that are none of the lookup's. */
+static void play_others(struct lent *on, const struct lent_step steps[DROP_STEPS])
+{
+	for (int n = 0; n < DROP_STEPS && steps[n].call != NULL; n++) {
+		enum call_name name = lent_call(steps[n].call).name;
+
+		if (name != CALL_START && name != CALL_STEP)
+			lent_expect(on, steps[n].call, steps[n].answer);
+	}
+}
+
+/* An online lane outside every section: its flags, and its lookup's three words at rest. */
+static void check_lane_at_rest(uint32_t lane)
+{
+	const uint32_t *words = lent_lane(lent.memory, lane);
+
+	CHECK(words[LANE_FLAGS] == FLAG_ONLINE);
+	CHECK(words[LANE_CODE + CODE_LOW] == 0 && words[LANE_CODE + CODE_HIGH] == 0);
+	CHECK(words[LANE_POSITION] == PT_NONE);
+}
+
+/* After the end every word is as if there had been no lookup, and the lane begins anew. */
+static void test_drop(const struct drop *drop)
+{
+	static const struct lent_step begun_again[] = {
+		{ "step 1", "10 0 0 0 0" }, { "end 1", "8 0 0 0 0" },
+		{ "start 1 24", "8 0 0 0 0" }, { "begin 1", "0 0 0 0 0" },
+		{ "step 1", "10 0 0 0 0" },
+	};
+
+	lent_start(&lent);
+	lent_start(&plain);
+	LENT_PLAY(&lent, chain_of_three);
+	LENT_PLAY(&plain, chain_of_three);
+	lent_expect(&lent, "begin 1", "0 0 0 0 0");
+	lent_expect(&plain, "begin 1", "0 0 0 0 0");
+	play_drop(&lent, drop->lookup);
+	play_others(&plain, drop->lookup);
+	CHECK(lent_lane(lent.memory, 1)[LANE_POSITION] == drop->position);
+	lent_expect(&lent, "start 1 24", "9 0 0 0 0");
+	lent_expect(&lent, "end 1", "0 0 0 0 0");
+	lent_expect(&plain, "end 1", "0 0 0 0 0");
+	check_lane_at_rest(1);
+	CHECK(memcmp(lent.memory, plain.memory, sizeof lent.memory) == 0);
+	LENT_PLAY(&lent, begun_again);
+	play_drop(&lent, drop->next);
+}
+
+/*
+ * A slot is removed in lane 1's section, while its lookup stands before it, on it, behind
+ * it or at none, or while there is no lookup. The lane ends its section, and the slot comes
+ * back after the same calls.
+ */
+static void test_drop_holds_nothing(void)
+{
+	static const struct lent_step lookups[][DROP_STEPS] = {
+		{ { NULL, NULL } },
+		{ { "start 1 0", "0 0 0 0 0" } },
+		{ { "start 1 0", "0 0 0 0 0" }, GOING },
+		{ { "start 1 0", "0 0 0 0 0" }, GOING, GOING },
+		{ { "start 1 1472", "0 0 0 0 0" }, GOING, GOING, GOING },
+		{ { "start 1 17", "0 0 0 0 0" } },
+	};
+	static const struct lent_step reclaimed[] = {
+		{ "del 0 192", "0 1 0 0 0" }, { "clock 0", "0 1 1 1 0" }, { "clock 1", "0 1 1 1 0" },
+		{ "pass 0 0", "0 0 0 0 0" }, { "clock 0", "0 1 1 1 0" }, { "pass 1 0", "7 0 0 0 0" },
+		{ "awaited", "0 1 1 3 1" }, { "end 1", "0 0 0 0 0" }, { "awaited", "0 1 1 3 1" },
+		{ "clock 1", "0 1 1 1 0" }, { "back 0", "16 0 0 0 0" }, { "pass 1 0", "0 0 0 0 0" },
+		{ "clock 1", "0 2 1 0 0" }, { "back 0", "16 0 0 0 0" }, { "clock 0", "0 2 1 0 0" },
+		{ "back 0", "0 1 0 0 0" }, { "awaited", "0 0 4294967295 4 0" },
+	};
+
+	for (size_t n = 0; n < sizeof lookups / sizeof lookups[0]; n++) {
+		lent_start(&lent);
+		LENT_PLAY(&lent, chain_of_three);
+		lent_expect(&lent, "begin 1", "0 0 0 0 0");
+		play_drop(&lent, lookups[n]);
+		LENT_PLAY(&lent, reclaimed);
+		check_lane_at_rest(1);
+	}
+}
+
+/* Off after a dropped lookup; the slot on which it stood was the lane's own, and comes back. */
+static void test_drop_and_off(void)
+{
+	static const struct lent_step steps[] = {
+		{ "begin 1", "0 0 0 0 0" }, { "start 1 0", "0 0 0 0 0" }, GOING,
+		{ "off 1", "7 0 0 0 0" }, { "end 1", "0 0 0 0 0" }, { "off 1", "0 0 0 0 0" },
+		{ "step 1", "5 0 0 0 0" }, { "on 1", "0 0 0 0 0" }, { "begin 1", "0 0 0 0 0" },
+		{ "step 1", "10 0 0 0 0" }, { "start 1 512", "0 0 0 0 0" },
+		{ "step 1", "0 1 2 12 2" },
+		/* The same beside a running grace period. */
+		{ "start 1 0", "0 0 0 0 0" }, GOING, { "del 1 192", "0 1 0 0 0" },
+		{ "clock 1", "0 1 1 1 0" }, { "clock 0", "0 1 1 1 0" }, { "pass 0 0", "0 0 0 0 0" },
+		{ "clock 0", "0 1 1 1 0" }, { "awaited", "0 1 1 3 1" }, { "end 1", "0 0 0 0 0" },
+		{ "off 1", "0 0 0 0 0" }, { "back 0", "16 0 0 0 0" }, { "clock 0", "0 2 2 1 0" },
+		{ "pass 0 0", "0 0 0 0 0" }, { "clock 0", "0 3 2 0 0" }, { "back 0", "0 1 0 0 0" },
+		{ "on 1", "0 0 0 0 0" }, { "step 1", "10 0 0 0 0" },
+	};
+
+	lent_start(&lent);
+	LENT_PLAY(&lent, chain_of_three);
+	LENT_PLAY(&lent, steps);
+	check_lane_at_rest(1);
+}
+
+/* The lookup of another lane goes on; both words of a code go to rest, in any cabinet. */
+static void test_drop_of_one_lane(void)
+{
+	static const struct lent_step steps[] = {
+		{ "setup 2 2 4", "0 190 0 0 0" }, { "add 0 64424509457 25 1", "0 0 0 0 0" },
+		{ "add 0 17 26 2", "0 1 0 0 0" }, { "begin 2", "0 0 0 0 0" },
+		{ "begin 3", "0 0 0 0 0" }, { "start 2 64424509457", "0 0 0 0 0" },
+		{ "start 3 64424509457", "0 0 0 0 0" }, { "step 2", "0 0 0 0 0" },
+		{ "step 3", "0 0 0 0 0" }, { "end 3", "0 0 0 0 0" },
+		{ "step 3", "10 0 0 0 0" }, { "step 2", "0 1 0 25 1" },
+	};
+
+	lent_start(&lent);
+	LENT_PLAY(&lent, steps);
+	check_lane_at_rest(3);
+}
+
+static void test_dropped_lookups(void)
+{
+	for (size_t n = 0; n < sizeof drops / sizeof drops[0]; n++)
+		test_drop(&drops[n]);
+	test_drop_holds_nothing();
+	test_drop_and_off();
+	test_drop_of_one_lane();
+}
+
+/* ---- */
 
 /* Codes are compared in both their words. */
 static void test_high_words(void)
@@ -790,6 +987,7 @@ int main(void)
 	test_check_digits();
 	test_older_record();
 	test_chains();
+	test_dropped_lookups();
 	test_high_words();
 	test_free_queue();
 	for (uint32_t kind = 0; kind < KINDS; kind++)

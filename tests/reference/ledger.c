@@ -147,11 +147,22 @@ static const char *feed_delete(struct ledger *ledger, const struct call *call,
 	return fault != NULL ? fault : note_change(ledger, call->argument[1]);
 }
 
+/* The lane has no lookup from here on: it was answered, or dropped. */
+static void strike_lookup(struct ledger_lane *lane)
+{
+	memset(lane->search, 0, lane->searches * sizeof lane->search[0]);
+	lane->searches = 0;
+	lane->lookup = 0;
+	lane->code = 0;
+}
+
+/* Ends the lane's section and strikes its lookup, if it has one: nothing more is asked of it. */
 static void feed_end(struct ledger *ledger, uint32_t l)
 {
 	struct ledger_lane *lane = &ledger->lane[l];
 
 	lane->reading = 0;
+	strike_lookup(lane);
 	memset(lane->find, 0, lane->finds * sizeof lane->find[0]);
 	lane->finds = 0;
 	for (uint32_t slot = 0; slot < LEDGER_SLOTS; slot++)
@@ -172,12 +183,9 @@ static const char *feed_step(struct ledger_lane *lane, const uint32_t *answer)
 
 	if (search.outcome == PT_GOING)
 		return NULL;
-	if (!lane->lookup || !explained)
+	if (!explained)
 		return "no instant of the lookup explains its answer";
-	memset(lane->search, 0, lane->searches * sizeof lane->search[0]);
-	lane->searches = 0;
-	lane->lookup = 0;
-	lane->code = 0;
+	strike_lookup(lane);
 	if (search.outcome != PT_FOUND || search_listed(lane->find, lane->finds, &search))
 		return NULL;
 	if (lane->finds == LEDGER_SLOTS)
@@ -198,9 +206,25 @@ static const char *feed_hand_back(struct ledger *ledger, uint32_t slot)
 	return NULL;
 }
 
+/* What an accepted call contradicts of the lane's section and lookup, or NULL. */
+static const char *misplaced(const struct ledger_lane *lane, enum call_name name)
+{
+	switch (name) {
+	case CALL_BEGIN: return lane->reading ? "a section began inside a section" : NULL;
+	case CALL_END: return lane->reading ? NULL : "a section ended that is not open";
+	case CALL_START:
+		if (!lane->reading)
+			return "a lookup started outside a section";
+		return lane->lookup ? "a lookup started while another runs" : NULL;
+	case CALL_STEP: return lane->lookup ? NULL : "a step was taken with no lookup running";
+	default: return NULL;
+	}
+}
+
 const char *ledger_feed(struct ledger *ledger, const struct call *call, const uint32_t *answer)
 {
 	uint32_t lane = (uint32_t)call->argument[0];
+	const char *fault;
 
 	if (answer[0] != PT_OK)
 		return NULL;
@@ -210,6 +234,9 @@ const char *ledger_feed(struct ledger *ledger, const struct call *call, const ui
 	}
 	if (lane >= LEDGER_LANES)
 		return BEYOND;
+	fault = misplaced(&ledger->lane[lane], call->name);
+	if (fault != NULL)
+		return fault;
 	switch (call->name) {
 	case CALL_ADD: return feed_add(ledger, call, answer);
 	case CALL_REPLACE: return feed_replace(ledger, call, answer);

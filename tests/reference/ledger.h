@@ -1,14 +1,18 @@
 /*
- * ledger.h - the ledger of demand 3 (document 01), kept beside a list of calls. It is
- * fed each call with its answer and sees nothing of the memory. It finds fault when
+ * ledger.h - the ledger of demand 3 (documents 01 and 02), kept beside a list of calls.
+ * It is fed each call with its answer and sees nothing of the memory. It finds fault when
  *   a lookup's answer is that of a whole search at no instant from the lookup's start
  *     to the one before the answering step;
+ *   a section begins inside another, or one ends that is not open; a lookup starts outside
+ *     a section, or while another of its lane runs; a lane takes a step whose lookup was
+ *     answered, or dropped by the end of its section;
  *   a slot is handed back that is not out, or while a section that was open when it
  *     was removed has not ended;
  *   a found slot does not hold what was found while the finder's section is open.
- * The last is asked of the memory, by ledger_kept(). A ledger is a plain value with
- * no pointers, no padding and 0 in its unused parts: assign it to copy it, compare
- * its bytes. Its capacity may be set where it is compiled.
+ * The last is asked of the memory, by ledger_kept(). Nothing is asked of a lookup that was
+ * dropped. A ledger is a plain value with no pointers, no padding and 0 in its unused
+ * parts: assign it to copy it, compare its bytes. Its capacity may be set where it is
+ * compiled.
  */
 #ifndef REFERENCE_LEDGER_H
 #define REFERENCE_LEDGER_H

@@ -163,6 +163,14 @@ static void lane_at_rest(struct lane *lane)
 	lane->position = PT_NONE;
 }
 
+/* A lookup that is over, answered or dropped: its flag is cleared, its words go to rest. */
+static void lookup_at_rest(struct lane *lane)
+{
+	lane->flags &= ~(uint32_t)FLAG_LOOKUP;
+	lane->code = 0;
+	lane->position = PT_NONE;
+}
+
 static void slot_at_rest(struct slot *slot)
 {
 	memset(slot, 0, sizeof *slot);
@@ -386,10 +394,10 @@ uint32_t ref_end(uint32_t *memory, size_t words, uint32_t *answer, size_t answer
 		return refuse(answer, cause);
 	if (!(t.lane[lane].flags & FLAG_READING))
 		return refuse(answer, PT_NO_SECTION);
-	if (t.lane[lane].flags & FLAG_LOOKUP)
-		return refuse(answer, PT_IN_LOOKUP);
 
+	/* A lookup unfinished is dropped, and gives no answer. */
 	t.lane[lane].flags &= ~(uint32_t)FLAG_READING;
+	lookup_at_rest(&t.lane[lane]);
 	return finish(&t, memory, answer, 0, 0, 0);
 }
 
@@ -444,11 +452,8 @@ uint32_t ref_step(uint32_t *memory, size_t words, uint32_t *answer, size_t answe
 
 	outcome = lookup_step(&t, &t.lane[lane]);
 	slot = t.lane[lane].position;
-	if (outcome != PT_GOING) {
-		t.lane[lane].flags &= ~(uint32_t)FLAG_LOOKUP;
-		t.lane[lane].code = 0;
-		t.lane[lane].position = PT_NONE;
-	}
+	if (outcome != PT_GOING)
+		lookup_at_rest(&t.lane[lane]);
 	table_write(&t, memory);
 	if (outcome != PT_FOUND)
 		return reply(answer, PT_OK, outcome, 0, 0, 0);

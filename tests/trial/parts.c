@@ -41,10 +41,21 @@ static const char *const stars[][CASE_STEPS] = {
 		"add 0 9501234123457 1 1", "add 0 4006831333931 1 1" },
 	{ "setup 1 1 2", "add 0 338 1 1", "poke 108 18", "begin 0", "start 0 18", "step 0", "rep 0 18 1 1",
 		"add 0 18 1 1", "del 0 18", "awaited" }, /* an older record in slot 0 */
+	/* a lookup is dropped at the head, further on, at none, on a deleted slot, on a replaced one */
+	{ "setup 1 1 4", "add 0 0 1 1", "add 0 192 2 2", "begin 0", "start 0 0", "end 0", "step 0", "begin 0",
+		"step 0", "start 0 192", "start 0 0", "step 0", "end 0" },
+	{ "setup 1 2 4", "add 0 0 1 1", "add 0 192 2 2", "begin 1", "start 1 0", "step 1", "end 1", "off 1",
+		"on 1", "begin 1", "start 1 192", "step 1" },
+	{ "setup 1 1 4", "begin 0", "start 0 64424509457", "end 0", "add 0 64424509457 1 1", "begin 0",
+		"start 0 64424509457", "end 0", "begin 0", "start 0 17", "step 0", "end 0", "begin 0", "step 0" },
+	{ "setup 1 2 4", "add 0 0 1 1", "add 0 192 2 2", "begin 1", "start 1 0", "del 0 192", "clock 0", "clock 1",
+		"pass 0 0", "clock 0", "end 1", "pass 1 0", "clock 1", "clock 0", "back 0", "step 1", "awaited" },
+	{ "setup 1 2 4", "add 0 0 1 1", "add 0 192 2 2", "begin 1", "start 1 0", "step 1", "rep 1 0 3 3", "clock 1",
+		"clock 0", "end 1", "off 1", "pass 0 0", "clock 0", "pass 0 0", "clock 0", "back 0", "on 1", "step 1" },
 };
 
 /* The files of tests/listing that are lists of calls. */
-static const char *const listings[] = { "document-01", "causes" };
+static const char *const listings[] = { "document-01", "causes", "dropped-lookups" };
 
 static void play_listing(const char *name)
 {

@@ -268,6 +268,8 @@ static void print_calls(void)
 		shared->tally.labels[0][PT_WRONG_LABEL]);
 	printf("  %-8s %9" PRIu64 "   11: %" PRIu64 "  18: %" PRIu64 "\n", "write", shared->tally.labels[1][PT_OK],
 		shared->tally.labels[1][PT_OUT_OF_RANGE], shared->tally.labels[1][PT_WRONG_LABEL]);
+	printf("  ");
+	print_dropped(&shared->tally);
 }
 
 /* How many pairs of a call's causes were met at once, of those that do not exclude each other. */
