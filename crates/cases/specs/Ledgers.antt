@@ -1,14 +1,15 @@
--- The ledger of demand 3, computed: what it holds at instants of document 01's listing, and of a list with an absent code, a replace and a refused call.
--- The ledger in C holds the same at these instants of the listing (tests/programs/listing-ledger.c).
+-- The ledger of demand 3, computed: what it holds at instants of document 01's listing, of a list with an absent code, a replace and a refused call, and
+-- of lists with a dropped lookup. The ledger in C holds the same at these instants of the listing and of one of these (tests/programs/listing-ledger.c).
 use Prim.Native.Nat.{ℕ}
 use mathlib.Core.Path.{_≡_, refl}
+use mathlib.Core.Bool.{Bool, true, false}
 use mathlib.Core.List.{List, [], _∷_, map}
 use lib.ListN.{take}
-use Rattle.model.specs.Lists.{drops, tail}
+use Rattle.model.specs.Lists.{drops, tail, same}
 use Rattle.model.specs.Rules.{add, replace, delete, begin, end, start, step}
 use Rattle.model.specs.Calls.{set-up, left}
 use Rattle.model.specs.Ledger.{Section, Entry, Search, Out, Ledger, fed, fedCall, ledgerFrom, ledger, events, searchIn}
-use Rattle.scripts.specs.Scripts.{Line, op, setUp123, listing, callOf, answered, lentWords}
+use Rattle.scripts.specs.Scripts.{Line, op, setUp123, listing, callOf, fiveWords, answered, lentWords}
 
 -- what the ledger holds at an instant
 pub data Book : Type 0 where
@@ -25,9 +26,13 @@ unfoldable pub owed : Account → List Ledger
 owed (account ls bs) = map owedAt bs
 
 -- the ledger fed with the first calls of the list, up to that instant
+unfoldable pub ledgerAt : List Line → ℕ → Ledger
+unfolding answered events fed fedCall ledgerFrom drops tail
+ledgerAt ls k = ledger (take k (events (left (lentWords 200) (set-up 1 2 3)) (tail (map callOf ls))))
+
 unfoldable pub heldAt : List Line → Book → Ledger
-unfolding answered events fed fedCall ledgerFrom drops searchIn tail
-heldAt ls (book k es ss qs os) = ledger (take k (events (left (lentWords 200) (set-up 1 2 3)) (tail (map callOf ls))))
+unfolding ledgerAt
+heldAt ls (book k es ss qs os) = ledgerAt ls k
 
 unfoldable pub held : Account → List Ledger
 unfolding heldAt
@@ -103,10 +108,105 @@ edged =
     ∷ book 8 (new ∷ []) (second ∷ []) [] (replaced ∷ [])
     ∷ []
 
+-- ---- an end strikes its lane's lookup, and the lane's next one is noted anew
+
+abbrev pub takenBack : List Line
+takenBack =
+    setUp123
+    ∷ op (add 0 17 25 1) 0 0 0 0 0
+    ∷ op (begin 1) 0 0 0 0 0
+    ∷ op (start 1 17) 0 0 0 0 0
+    ∷ op (delete 0 17) 0 0 0 0 0
+    ∷ op (end 1) 0 0 0 0 0
+    ∷ op (step 1) 10 0 0 0 0
+    ∷ op (begin 1) 0 0 0 0 0
+    ∷ op (start 1 17) 0 0 0 0 0
+    ∷ op (step 1) 0 2 0 0 0
+    ∷ op (end 1) 0 0 0 0 0
+    ∷ []
+
+abbrev pub readerAgain : Section
+readerAgain = record { lane = 1; opened = 7 }
+
+abbrev pub searchAgain : Search
+searchAgain = record { lane = 1; code = 17; started = 8 }
+
+abbrev pub taken : List Book
+taken =
+    book 3 (entry ∷ []) (reader ∷ []) (search ∷ []) []
+    ∷ book 4 [] (reader ∷ []) (search ∷ []) (removed ∷ [])
+    ∷ book 5 [] [] [] (removed ∷ [])
+    ∷ book 6 [] [] [] (removed ∷ [])
+    ∷ book 7 [] (readerAgain ∷ []) [] (removed ∷ [])
+    ∷ book 8 [] (readerAgain ∷ []) (searchAgain ∷ []) (removed ∷ [])
+    ∷ book 9 [] (readerAgain ∷ []) [] (removed ∷ [])
+    ∷ book 10 [] [] [] (removed ∷ [])
+    ∷ []
+
+-- ---- the same for another code, beside the lookup of another lane, which stays
+
+abbrev pub anotherCode : List Line
+anotherCode =
+    setUp123
+    ∷ op (add 0 17 25 1) 0 0 0 0 0
+    ∷ op (begin 0) 0 0 0 0 0
+    ∷ op (begin 1) 0 0 0 0 0
+    ∷ op (start 0 17) 0 0 0 0 0
+    ∷ op (start 1 17) 0 0 0 0 0
+    ∷ op (end 0) 0 0 0 0 0
+    ∷ op (begin 0) 0 0 0 0 0
+    ∷ op (start 0 24) 0 0 0 0 0
+    ∷ op (step 0) 0 2 0 0 0
+    ∷ []
+
+abbrev pub stays : Section
+stays = record { lane = 1; opened = 3 }
+
+abbrev pub begun : Section
+begun = record { lane = 0; opened = 7 }
+
+abbrev pub dropped : Search
+dropped = record { lane = 0; code = 17; started = 4 }
+
+abbrev pub runsOn : Search
+runsOn = record { lane = 1; code = 17; started = 5 }
+
+abbrev pub another : Search
+another = record { lane = 0; code = 24; started = 8 }
+
+abbrev pub anothered : List Book
+anothered =
+    book 5 (entry ∷ []) (stays ∷ first ∷ []) (runsOn ∷ dropped ∷ []) []
+    ∷ book 6 (entry ∷ []) (stays ∷ []) (runsOn ∷ []) []
+    ∷ book 8 (entry ∷ []) (begun ∷ stays ∷ []) (another ∷ runsOn ∷ []) []
+    ∷ book 9 (entry ∷ []) (begun ∷ stays ∷ []) (runsOn ∷ []) []
+    ∷ []
+
 abbrev pub accounts : List Account
-accounts = account listing listed ∷ account edges edged ∷ []
+accounts = account listing listed ∷ account edges edged ∷ account takenBack taken ∷ account anotherCode anothered ∷ []
 
 -- the ledger holds each
 pub ledgers-hold : map held accounts ≡ map owed accounts
 unfolding held owed
 ledgers-hold = refl
+
+-- ---- a ledger that kept the dropped lookup would owe what is false
+
+-- the whole search for a code at an instant of `anotherCode`, and whether it is what the lane was answered for code 24
+pub data Asked : Type 0 where
+  searchAt : (code instant : ℕ) (isAnswer : Bool) → Asked
+
+unfoldable pub isOwed : Asked → Bool
+isOwed (searchAt c k b) = b
+
+unfoldable pub isHeld : Asked → Bool
+unfolding ledgerAt searchIn
+isHeld (searchAt c k b) = same (fiveWords (searchIn c (ledgerAt anotherCode k .entries))) (0 ∷ 2 ∷ 0 ∷ 0 ∷ 0 ∷ [])
+
+-- of the dropped lookup, from its start to the answer, none is; of the lookup that was answered its start's is
+abbrev pub searches : List Asked
+searches = searchAt 17 4 false ∷ searchAt 17 5 false ∷ searchAt 17 6 false ∷ searchAt 17 7 false ∷ searchAt 17 8 false ∷ searchAt 24 8 true ∷ []
+
+pub dropped-differs : map isHeld searches ≡ map isOwed searches
+unfolding isHeld isOwed
+dropped-differs = refl

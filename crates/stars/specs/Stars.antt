@@ -4,10 +4,10 @@ use Prim.Native.Nat.{ℕ, _+_, _-_}
 use mathlib.Core.Path.{_≡_, refl}
 use mathlib.Core.Bool.{true, false}
 use mathlib.Core.List.{List, [], _∷_, _++_, map}
-use Rattle.model.specs.Rules.{add, replace, delete, begin, start, step, awaited}
+use Rattle.model.specs.Rules.{add, replace, delete, begin, end, start, step, pass, clock, on, off, hand-back, awaited}
 use Rattle.model.specs.Layout.{codeAt, slotAddress, lookupAt, laneAddress}
 use Rattle.model.specs.Calls.{set-up, sized}
-use Rattle.scripts.specs.Scripts.{Line, line, op, setUp111, setUp112, setUp123, largestTotal, listing}
+use Rattle.scripts.specs.Scripts.{Line, line, op, setUp111, setUp112, setUp123, setUp124, largestTotal, listing}
 use Rattle.scripts.specs.Scripts.{Row, script, poked, order, digit, reads, writes, expected, run}
 
 -- replace with code missing and no free slot
@@ -169,6 +169,96 @@ labelsWritten =
     ∷ writes "" 100000000000000 11 0 ""
     ∷ []
 
+-- ---- request 3: a section may end while its lookup runs
+
+-- the step after it finds no lookup
+abbrev pub droppedAtNone : List Line
+droppedAtNone =
+    setUp111
+    ∷ op (begin 0) 0 0 0 0 0
+    ∷ op (start 0 17) 0 0 0 0 0
+    ∷ op (end 0) 0 0 0 0 0
+    ∷ op (step 0) 10 0 0 0 0
+    ∷ op (end 0) 8 0 0 0 0
+    ∷ []
+
+-- Chain 0 has the slots 2, 1, 0. A lookup is dropped at the head, in the middle, on a removed slot, and at the end of the chain; after each the lane looks
+-- for another code. Start alone is refused while one runs
+abbrev pub droppedOnChain : List Line
+droppedOnChain =
+    setUp124
+    ∷ op (add 0 192 25 1) 0 0 0 0 0
+    ∷ op (add 0 0 30 2) 0 1 0 0 0
+    ∷ op (add 0 512 35 3) 0 2 0 0 0
+    ∷ op (begin 1) 0 0 0 0 0
+    ∷ op (start 1 192) 0 0 0 0 0
+    ∷ op (start 1 0) 9 0 0 0 0
+    ∷ op (end 1) 0 0 0 0 0
+    ∷ op (step 1) 10 0 0 0 0
+    ∷ op (begin 1) 0 0 0 0 0
+    ∷ op (step 1) 10 0 0 0 0
+    ∷ op (start 1 0) 0 0 0 0 0
+    ∷ op (step 1) 0 0 0 0 0
+    ∷ op (end 1) 0 0 0 0 0
+    ∷ op (begin 1) 0 0 0 0 0
+    ∷ op (start 1 192) 0 0 0 0 0
+    ∷ op (step 1) 0 0 0 0 0
+    ∷ op (delete 0 0) 0 1 0 0 0
+    ∷ op (end 1) 0 0 0 0 0
+    ∷ op (step 1) 10 0 0 0 0
+    ∷ op (begin 1) 0 0 0 0 0
+    ∷ op (start 1 1472) 0 0 0 0 0
+    ∷ op (step 1) 0 0 0 0 0
+    ∷ op (step 1) 0 0 0 0 0
+    ∷ op (end 1) 0 0 0 0 0
+    ∷ op (begin 1) 0 0 0 0 0
+    ∷ op (start 1 512) 0 0 0 0 0
+    ∷ op (step 1) 0 1 2 35 3
+    ∷ []
+
+-- the listing of document 01, but for its step: the lookup is dropped on the deleted slot, which comes back no later
+abbrev pub droppedInPeriod : List Line
+droppedInPeriod =
+    setUp123
+    ∷ op (add 0 17 25 1) 0 0 0 0 0
+    ∷ op (begin 1) 0 0 0 0 0
+    ∷ op (start 1 17) 0 0 0 0 0
+    ∷ op (delete 0 17) 0 0 0 0 0
+    ∷ op (clock 0) 0 1 1 1 0
+    ∷ op (clock 1) 0 1 1 1 0
+    ∷ op (pass 0 0) 0 0 0 0 0
+    ∷ op (clock 0) 0 1 1 1 0
+    ∷ op (pass 1 0) 7 0 0 0 0
+    ∷ op (end 1) 0 0 0 0 0
+    ∷ op (pass 1 0) 0 0 0 0 0
+    ∷ op (clock 1) 0 2 1 0 0
+    ∷ op (hand-back 0) 16 0 0 0 0
+    ∷ op (clock 0) 0 2 1 0 0
+    ∷ op (hand-back 0) 0 0 0 0 0
+    ∷ op awaited 0 0 4294967295 3 0
+    ∷ []
+
+-- a lane goes off after a dropped lookup, while a period waits for it; on again it has none
+abbrev pub droppedThenOff : List Line
+droppedThenOff =
+    setUp123
+    ∷ op (add 0 17 25 1) 0 0 0 0 0
+    ∷ op (begin 1) 0 0 0 0 0
+    ∷ op (start 1 17) 0 0 0 0 0
+    ∷ op (off 1) 7 0 0 0 0
+    ∷ op (delete 0 17) 0 0 0 0 0
+    ∷ op (clock 0) 0 1 1 1 0
+    ∷ op (pass 0 0) 0 0 0 0 0
+    ∷ op (clock 0) 0 1 1 1 0
+    ∷ op (end 1) 0 0 0 0 0
+    ∷ op (off 1) 0 0 0 0 0
+    ∷ op (step 1) 5 0 0 0 0
+    ∷ op (clock 0) 0 2 1 0 0
+    ∷ op (hand-back 0) 0 0 0 0 0
+    ∷ op (on 1) 0 0 0 0 0
+    ∷ op (step 1) 10 0 0 0 0
+    ∷ []
+
 -- ---- all of them
 
 abbrev pub stars : List Row
@@ -192,6 +282,10 @@ stars =
     ∷ poked 200 beforeLimit (slotAddress (sized 1 1 1) 0 + codeAt) pastLow notLegal
     ∷ poked 200 beforeLimit (laneAddress (sized 1 1 1) 0 + lookupAt) lastLow stillLegal
     ∷ poked 200 beforeLimit (laneAddress (sized 1 1 1) 0 + lookupAt) pastLow notLegal
+    ∷ script 200 droppedAtNone
+    ∷ script 200 droppedOnChain
+    ∷ script 200 droppedInPeriod
+    ∷ script 200 droppedThenOff
     ∷ (labelDigits ++ labelsRead ++ labelsWritten)
 
 -- each row comes out. That no generation at all is later than itself is a law (`laws` Generations `later-self`)
