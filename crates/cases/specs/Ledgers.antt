@@ -193,20 +193,20 @@ ledgers-hold = refl
 -- ---- a ledger that kept the dropped lookup would owe what is false
 
 -- the whole search for a code at an instant of `anotherCode`, and whether it is what the lane was answered for code 24
-pub data Asked : Type 0 where
-  searchAt : (code instant : ℕ) (isAnswer : Bool) → Asked
+pub data Sought : Type 0 where
+  sought : (code instant : ℕ) (isAnswer : Bool) → Sought
 
-unfoldable pub isOwed : Asked → Bool
-isOwed (searchAt c k b) = b
+unfoldable pub expectedOf : Sought → Bool
+expectedOf (sought c k b) = b
 
-unfoldable pub isHeld : Asked → Bool
+unfoldable pub answersIt : Sought → Bool
 unfolding ledgerAt searchIn
-isHeld (searchAt c k b) = same (fiveWords (searchIn c (ledgerAt anotherCode k .entries))) (0 ∷ 2 ∷ 0 ∷ 0 ∷ 0 ∷ [])
+answersIt (sought c k b) = same (fiveWords (searchIn c (ledgerAt anotherCode k .entries))) (0 ∷ 2 ∷ 0 ∷ 0 ∷ 0 ∷ [])
 
 -- of the dropped lookup, from its start to the answer, none is; of the lookup that was answered its start's is
-abbrev pub searches : List Asked
-searches = searchAt 17 4 false ∷ searchAt 17 5 false ∷ searchAt 17 6 false ∷ searchAt 17 7 false ∷ searchAt 17 8 false ∷ searchAt 24 8 true ∷ []
+abbrev pub soughts : List Sought
+soughts = sought 17 4 false ∷ sought 17 5 false ∷ sought 17 6 false ∷ sought 17 7 false ∷ sought 17 8 false ∷ sought 24 8 true ∷ []
 
-pub dropped-differs : map isHeld searches ≡ map isOwed searches
-unfolding isHeld isOwed
+pub dropped-differs : map answersIt soughts ≡ map expectedOf soughts
+unfolding answersIt expectedOf
 dropped-differs = refl

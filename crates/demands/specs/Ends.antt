@@ -10,13 +10,13 @@ use Rattle.model.specs.Engine.{setLookup, withLanes}
 use Rattle.model.specs.Rules.{Op, end, Answer, withEngine, withLane, leaving, answer, next, performed}
 use Rattle.model.specs.Memory.{state}
 use Rattle.model.specs.Calls.{set-up, on-state, reply, left}
-use Rattle.model.specs.Ledger.{Event, Leaves}
+use Rattle.model.specs.Ledger.{Event, AfterEnds}
 use Rattle.laws.specs.ListLaws.{update-update}
 use Rattle.representation.specs.Sound.{Sound}
 use Rattle.representation.proofs.Causes.Passed.{call-cases}
-use Rattle.history.proofs.Leaves.{leaves}
+use Rattle.history.proofs.AfterEnds.{after-ends}
 use Rattle.product_table.specs.Called.{answerLength, Called}
-use Rattle.demands.specs.Demands.{Run, Ran, lastMemory, NoSetUps, eventsOf}
+use Rattle.demands.specs.Demands.{Run, Ran, NoSetUps, eventsOf}
 use Rattle.demands.specs.Runs.{made-long}
 use Rattle.demands.specs.Proved.{demand2, on-lists}
 
@@ -24,7 +24,7 @@ use Rattle.demands.specs.Proved.{demand2, on-lists}
 
 pub record Ends : Type 0 where
   -- over every list: after an accepted end the ledger has neither section nor lookup of the lane, and no step of it is accepted before a new start
-  pub list : (c p x : ℕ) (m a m₀ b : List ℕ) → Called (set-up c p x) m a m₀ b 0 → (xs : List Run) → Ran m₀ xs → NoSetUps xs → Leaves (eventsOf xs)
+  pub list : (c p x : ℕ) (m a m₀ b : List ℕ) → Called (set-up c p x) m a m₀ b 0 → (xs : List Run) → Ran m₀ xs → NoSetUps xs → AfterEnds (eventsOf xs)
   -- a dropped lookup leaves no trace, and holds up no slot: whatever the lane's lookup was, an accepted end leaves the same state
   pub noTrace : (i : ℕ) (k : Lookup) (m a n b m′ a′ n′ b′ : List ℕ) → Sound m → Sound m′ → state m′ ≡ withLane (state m) i (setLookup k)
       → Called (on-state (end i)) m a n b 0 → Called (on-state (end i)) m′ a′ n′ b′ 0 → state n′ ≡ state n
@@ -50,7 +50,7 @@ leaving-alike s i k =
 
 pub ends-hold : Ends
 ends-hold = record {
-  list = on-lists (λ (h : List Event) (m : List ℕ). Leaves h) leaves;
+  list = on-lists (λ (h : List Event) (m : List ℕ). AfterEnds h) after-ends;
   noTrace = λ i k m a n b m′ a′ n′ b′ v v′ e h h′. end-state i m′ a′ n′ b′ v′ h′
       ∙ ap (λ (s : State). withLane s i leaving) e ∙ leaving-alike (state m) i k ∙ sym (end-state i m a n b v h);
 }

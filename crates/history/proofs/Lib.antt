@@ -1,4 +1,4 @@
--- Demand 3 (docs/PROOF.md says why it holds). Demand3, NewSlots, Corollaries, Leaves: the theorems; the folders: what they rest on.
+-- Demand 3 (docs/PROOF.md says why it holds). Demand3, NewSlots, Corollaries, AfterEnds: the theorems; the folders: what they rest on.
 pub mod Ties
 pub mod EngineHalf
 pub mod ChainHalf
@@ -7,4 +7,4 @@ pub mod OverLists
 pub mod Demand3
 pub mod NewSlots
 pub mod Corollaries
-pub mod Leaves
+pub mod AfterEnds

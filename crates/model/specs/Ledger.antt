@@ -231,7 +231,7 @@ abbrev pub NoStart : ℕ → List Event → Type 0
 NoStart i es = (c : ℕ) (a : Answer) → a .status ≡ 0 → List·Memᴰ (record { call = on-state (start i c); answer = a }) es → ⊥
 
 -- the events `es` end with an accepted end of lane i and those `since`; the events `rest` come after them
-pub record Left (i : ℕ) (es since rest : List Event) : Type 0 where
+pub record AfterEnd (i : ℕ) (es since rest : List Event) : Type 0 where
   -- till the lane begins a section the ledger has none of it
   pub noSection : NoBegin i since → (x : Section) → List·Memᴰ x (ledger es .sections) → x .lane ≡ i → ⊥
   -- till it starts a lookup the ledger has none of it, and a step of it is not accepted, let alone answered
@@ -239,7 +239,7 @@ pub record Left (i : ℕ) (es since rest : List Event) : Type 0 where
   pub noStep : NoStart i since → (a : Answer) (later : List Event) → rest ≡ stepEvent i a ∷ later → a .status ≡ 0 → ⊥
 
 -- after each accepted end of the list, at any instant
-abbrev pub Leaves : List Event → Type 0
-Leaves h =
+abbrev pub AfterEnds : List Event → Type 0
+AfterEnds h =
     (i : ℕ) (r : Answer) (before since rest : List Event) → r .status ≡ 0 → h ≡ (before ++ endEvent i r ∷ since) ++ rest
-    → Left i (before ++ endEvent i r ∷ since) since rest
+    → AfterEnd i (before ++ endEvent i r ∷ since) since rest

@@ -8,7 +8,7 @@ use Rattle.model.specs.State.{idle, isRunning, Lane, State}
 use Rattle.model.specs.Layout.{readingBit}
 use Rattle.model.specs.Engine.{setReading, setLookup, withLanes}
 use Rattle.model.specs.Rules.{end, zeros, causes, refusal, withEngine, withLane, leaving, performed, result}
-use Rattle.model.specs.Memory.{Words, lookupCode, lookupPosition, state}
+use Rattle.model.specs.Memory.{lookupCode, lookupPosition, state}
 use Rattle.model.specs.Legal.{legal}
 use Rattle.model.specs.Calls.{on-state, stored}
 use Rattle.laws.specs.ListLaws.{update-update}

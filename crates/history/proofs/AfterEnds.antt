@@ -1,21 +1,17 @@
 -- What an accepted end leaves of its lane, over every list: no section till the lane begins one; till it starts one no lookup, and no step that is accepted.
-use Prim.Native.Nat.{ℕ, suc, _+_}
+use Prim.Native.Nat.{ℕ, suc}
 use mathlib.Core.Path.{_≡_, refl, sym, ap, subst, _∙_}
 use mathlib.Core.Logic.{⊎-elim}
 use mathlib.Core.List.{List, [], _∷_, _++_, List·Memᴰ, List·Memᴰ·head, List·Memᴰ·tail, List·Memᴰ·cases-cons}
-use native.Mathlib.Omega.{arith}
-use lib.ListN.{length}
 use borrow.Author.Tests.{eq-eqb}
-use Rattle.model.specs.Lists.{drops}
 use Rattle.model.specs.Rules.{Op, begin, end, start, Answer, fresh}
 use Rattle.model.specs.Calls.{Call, set-up, on-state, sized, left}
-use Rattle.model.specs.Ledger.{Section, Search, Ledger, sectionOf, searchOf, searchNoted, sectionEnded, searchStruck, fed, fedCall, Event, ledgerFrom, ledger}
-use Rattle.model.specs.Ledger.{events, Came, stepEvent, endEvent, NoBegin, NoStart, Left, Leaves}
+use Rattle.model.specs.Ledger.{Section, Search, Ledger, sectionOf, searchOf, sectionEnded, searchStruck, fed, fedCall, Event, ledgerFrom, ledger}
+use Rattle.model.specs.Ledger.{events, Came, stepEvent, endEvent, NoBegin, NoStart, AfterEnds}
 use Rattle.laws.specs.Tests.{clash}
 use Rattle.laws.specs.Elements.{of-drops}
-use Rattle.history.proofs.CallsKeep.EveryCall.{Changed, fedCall-cases, fedCall-accepted}
+use Rattle.history.proofs.CallsKeep.EveryCall.{fedCall-cases, fedCall-accepted}
 use Rattle.history.proofs.OverLists.Answers.{Noted}
-use Rattle.history.proofs.OverLists.Instants.{ledger-snoc}
 use Rattle.history.proofs.OverLists.OneList.{noted-list}
 use Rattle.history.proofs.Demand3.{at-set-up}
 use Rattle.history.proofs.Corollaries.{EveryList}
@@ -107,8 +103,8 @@ module _ (i : ℕ) where
 
 -- ---- the theorem
 
-pub leaves : EveryList (λ (h : List Event) (m : List ℕ). Leaves h)
-leaves m c p n ok ks s i r before since rest z all = record {
+pub after-ends : EveryList (λ (h : List Event) (m : List ℕ). AfterEnds h)
+after-ends m c p n ok ks s i r before since rest z all = record {
   noSection = no-section i before r z since;
   noSearch = no-search i before r z since;
   noStep = step-refused;
