@@ -25,7 +25,7 @@ NoSectionOf i g = (x : Section) → List·Memᴰ x (g .sections) → x .lane ≡
 abbrev NoSearchOf : ℕ → Ledger → Type 0
 NoSearchOf i g = (q : Search) → List·Memᴰ q (g .searches) → q .lane ≡ i → ⊥
 
--- what holds of the ledger after the events xs holds after ys more, if each of these keeps it
+-- what holds of the ledger after an event, whatever came before it, holds after the events that follow, if each of these keeps it
 module _ (P : Ledger → Type 0) where
   abbrev Keeping : List Event → Type 0
   Keeping es = (e : Event) → List·Memᴰ e es → (k : ℕ) (g : Ledger) → P g → P (fedCall k (e .call) (e .answer) g)

@@ -1,9 +1,10 @@
 -- The cases that document 01 marks with a star ("A listing, and edges", last paragraph), in its order and as document 02 changes them, and then
 -- those of document 02's requests.
-use Prim.Native.Nat.{ℕ, _+_, _-_}
+use Prim.Native.Nat.{ℕ, suc, _+_, _-_}
 use mathlib.Core.Path.{_≡_, refl}
 use mathlib.Core.Bool.{true, false}
 use mathlib.Core.List.{List, [], _∷_, _++_, map}
+use lib.ListN.{take, drop}
 use Rattle.model.specs.Rules.{add, replace, delete, begin, end, start, step, pass, clock, on, off, hand-back, awaited}
 use Rattle.model.specs.Layout.{codeAt, slotAddress, lookupAt, laneAddress}
 use Rattle.model.specs.Calls.{set-up, sized}
@@ -216,27 +217,12 @@ droppedOnChain =
     ∷ op (step 1) 0 1 2 35 3
     ∷ []
 
--- the listing of document 01, but for its step: the lookup is dropped on the deleted slot, which comes back no later
+-- the listing of document 01, but for its step: the lookup is dropped on the deleted slot, which comes back no later, and all answers are as they were
+abbrev pub stepLine : ℕ
+stepLine = 5
+
 abbrev pub droppedInPeriod : List Line
-droppedInPeriod =
-    setUp123
-    ∷ op (add 0 17 25 1) 0 0 0 0 0
-    ∷ op (begin 1) 0 0 0 0 0
-    ∷ op (start 1 17) 0 0 0 0 0
-    ∷ op (delete 0 17) 0 0 0 0 0
-    ∷ op (clock 0) 0 1 1 1 0
-    ∷ op (clock 1) 0 1 1 1 0
-    ∷ op (pass 0 0) 0 0 0 0 0
-    ∷ op (clock 0) 0 1 1 1 0
-    ∷ op (pass 1 0) 7 0 0 0 0
-    ∷ op (end 1) 0 0 0 0 0
-    ∷ op (pass 1 0) 0 0 0 0 0
-    ∷ op (clock 1) 0 2 1 0 0
-    ∷ op (hand-back 0) 16 0 0 0 0
-    ∷ op (clock 0) 0 2 1 0 0
-    ∷ op (hand-back 0) 0 0 0 0 0
-    ∷ op awaited 0 0 4294967295 3 0
-    ∷ []
+droppedInPeriod = take stepLine listing ++ drop (suc stepLine) listing
 
 -- a lane goes off after a dropped lookup, while a period waits for it; on again it has none
 abbrev pub droppedThenOff : List Line
