@@ -1,6 +1,6 @@
 -- A lane of a legal memory: what the code's tests of its number say, and where it stands in its cabinet.
 use Prim.Native.Nat.{ℕ, _+_, _*_, _/_, _%_, _≤_, _<_}
-use native.Mathlib.Nat.{div-add-mod', mod-lt, div-lt-iff-lt-mul}
+use native.Mathlib.Nat.{div-add-mod', mod-lt, div-lt-iff-lt-mul, mul-le-mul-right}
 use mathlib.Core.Path.{_≡_, refl, ap, sym, subst, _∙_}
 use mathlib.Core.Bool.{Bool, true, false, cond}
 use mathlib.Core.List.{List, [], _∷_}
@@ -13,16 +13,18 @@ use Rattle.model.specs.Memory.{at, sizes, state}
 use Rattle.model.specs.Layout.{headsAt, laneAddress}
 use Rattle.model.specs.Lists.{first}
 use Rattle.model.specs.Table.{chainNumber, chainOf}
+use Rattle.laws.specs.Subtractions.{Split as Subtracted, split, subtracted, subtracted-few, subtracted-divides}
 use Rattle.representation.proofs.Causes.Accepted.{lane-accepted}
 use Rattle.representation.specs.Sound.{Sound}
 use Rattle.words.specs.declared.Sizes as code-sizes
 use Rattle.words.specs.Lent.{sizesOf, sizesIn, Few, Lent}
 use Rattle.lanes.specs.declared.Place.{Place}
-use Rattle.lanes.specs.Cabinet.{LaneLent}
+use Rattle.lanes.specs.Cabinet.{stand, LaneLent}
 use Rattle.lanes.proofs.CabinetLaws.{cabinetAt-lane, lane-lent}
 use Rattle.changes.proofs.OfChains.ChainChanges.{head-shown}
 use Rattle.access.specs.declared.Lane.{Lane}
-use Rattle.access.specs.Lanes.{laneNamed, Named, LaneIn, placeOf, Standing}
+use Rattle.access.specs.declared.Split.{Split}
+use Rattle.access.specs.Lanes.{laneNamed, Named, LaneIn, placeOf, Standing, mostSubtractions, splitOf, Placed}
 use Rattle.access.proofs.Ways.{shown, inRange, long}
 
 -- ---- a legal memory
@@ -115,6 +117,29 @@ module _ (m : List ℕ) (l : Lane) (k : LaneIn m l) where
 -- the cabinet is one of the table's
 pub cabinet-of : (l : Lane) → Standing l → l .number / l .sizes .places < l .sizes .cabinets
 cabinet-of l k = div-lt-iff-lt-mul {k = l .sizes .places} {x = l .number} {y = l .sizes .cabinets} (omega (arith, k .some)) .1 (k .known)
+
+-- by the subtractions that were made
+module _ (l : Lane) (k : Standing l) (s : Split) (e : splitOf s ≡ subtracted mostSubtractions (l .sizes .places) (l .number)) where
+  divided : splitOf s ≡ split (l .number / l .sizes .places) (l .number % l .sizes .places)
+  divided =
+      e
+      ∙ subtracted-divides mostSubtractions (l .sizes .places) (l .number) (omega (arith, k .known, mul-le-mul-right (l .sizes .places) (k .few .cabinets)))
+
+  cabinet-is : s .times ≡ l .number / l .sizes .places
+  cabinet-is = ap (λ (x : Subtracted). x .times) divided
+
+  pub split-known : s .times < l .sizes .cabinets
+  split-known = omega (arith, cabinet-is, cabinet-of l k)
+
+  pub placed : (p : Place) → p ≡ stand (sizesOf (l .sizes)) (s .times) (s .left) → Placed l p
+  placed p f =
+      let counted : p .cabinet ≡ subtracted mostSubtractions (l .sizes .places) (l .number) .times =
+      ap (λ (x : Place). x .cabinet) f ∙ ap (λ (x : Subtracted). x .times) e in
+      record {
+        place = f ∙ ap (λ (x : Subtracted). stand (sizesOf (l .sizes)) (x .times) (x .left)) divided;
+        subtractions = counted;
+        few = omega (arith, counted, subtracted-few mostSubtractions (l .sizes .places) (l .number));
+      }
 
 -- cabinet × places + place is the lane's number
 pub lane-of : (z : Sizes) (i : ℕ) → i / z .places * z .places + i % z .places ≡ i

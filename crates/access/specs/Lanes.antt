@@ -6,11 +6,13 @@ use lib.ListN.{length}
 use Rattle.model.specs.State.{Sizes, laneCount}
 use Rattle.model.specs.Layout.{laneLength, laneAddress}
 use Rattle.model.specs.Memory.{sizes}
+use Rattle.laws.specs.Subtractions.{Split as Subtracted, split, subtracted}
 use Rattle.representation.specs.Sound.{Sound}
 use Rattle.words.specs.Lent.{sizesOf, sizesIn, Few, Lent}
 use Rattle.lanes.specs.declared.Place.{Place}
 use Rattle.lanes.specs.Cabinet.{stand}
 use Rattle.access.specs.declared.Lane.{Lane}
+use Rattle.access.specs.declared.Split.{Split}
 
 -- the lane of number i
 abbrev pub laneNamed : List ℕ → ℕ → Lane
@@ -41,3 +43,16 @@ pub record Standing (l : Lane) : Type 0 where
   pub few : Few (sizesOf (l .sizes))
   pub some : 1 ≤ l .sizes .places
   pub known : l .number < laneCount (sizesOf (l .sizes))
+
+-- the cabinet size is subtracted at most so often
+abbrev pub mostSubtractions : ℕ
+mostSubtractions = 7
+
+abbrev pub splitOf : Split → Subtracted
+splitOf s = split (s .times) (s .left)
+
+-- where the lane stands, by quotient and remainder; the cabinet is the number of subtractions
+pub record Placed (l : Lane) (p : Place) : Type 0 where
+  pub place : p ≡ placeOf (sizesOf (l .sizes)) (l .number)
+  pub subtractions : p .cabinet ≡ subtracted mostSubtractions (l .sizes .places) (l .number) .times
+  pub few : p .cabinet ≤ mostSubtractions

@@ -12,12 +12,13 @@ ghost use Rattle.model.specs.Lists.{first};
 ghost use Rattle.model.specs.Table.{chainNumber, chainOf};
 ghost use Rattle.model.specs.Rules.{refused as refusedWords, accepted as acceptedWords, firstOf, ofLane, laneOf, wrongCode};
 ghost use Rattle.model.specs.Memory.{at, flag, state};
+ghost use Rattle.laws.specs.Subtractions.{subtracted};
 ghost use Rattle.representation.specs.Sound.{Sound};
 ghost use Rattle.words.specs.Lent.{sizesOf, Few};
 ghost use Rattle.masks.specs.Bits.{width};
 ghost use Rattle.access.specs.Contract.{five};
 ghost use Rattle.access.specs.Flags.{withFlag, flagPut};
-ghost use Rattle.access.specs.Lanes.{laneNamed, Named, LaneIn, placeOf, Standing};
+ghost use Rattle.access.specs.Lanes.{laneNamed, Named, LaneIn, Standing, mostSubtractions, splitOf, Placed};
 
 // ---- answers
 
@@ -79,14 +80,36 @@ pub fn lane_at(m: &[u32], number: u32) -> Lane
     }
 }
 
-// Where a lane stands: its cabinet and its place there, by quotient and remainder of its number.
+// How often a size was subtracted from a number, and what is left.
+struct Split {
+    times: u32,
+    left: u32,
+}
+
+const MOST_SUBTRACTIONS: u32 = 7;
+
+// Subtracts a size from a number until what is left is below it, at most seven times.
+fn subtract_size(number: u32, size: u32) -> Split
+    ensures { λ r. ⌜ splitOf r ≡ subtracted mostSubtractions size number ⌝ }
+{
+    let mut times: u32 = 0;
+    let mut left = number;
+    while times < MOST_SUBTRACTIONS && left >= size {
+        left = left - size;
+        times = times + 1;
+    }
+    Split { times, left }
+}
+
+// Where a lane stands: its cabinet is as often as the cabinet size can be subtracted from its number, and its place is what
+// is left. Worked out once a call, of a lane that there is, and handed on.
 pub fn place_of(lane: Lane) -> lanes::Place
     requires { ⌜ Standing lane ⌝ }
-    ensures { λ r. ⌜ r ≡ placeOf (sizesOf (lane .sizes)) (lane .number) ⌝ }
+    ensures { λ r. ⌜ Placed lane r ⌝ }
 {
     let z = lane.sizes;
-    let number = lane.number;
-    lanes::cabinet::stand_at(z, number / z.places, number % z.places)
+    let s = subtract_size(lane.number, z.places);
+    lanes::cabinet::stand_at(z, s.times, s.left)
 }
 
 // Bit p of a lane's flags.

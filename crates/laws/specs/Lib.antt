@@ -16,3 +16,4 @@ pub mod Areas
 pub mod Updates
 pub mod Stores
 pub mod Loops
+pub mod Subtractions

@@ -1,20 +1,17 @@
--- The cabinet is one of the table's, since the lane is.
-use Rattle.access.proofs.LaneLaws.{cabinet-of}
+-- The cabinet is one of the table's, since the lane is (`split-known`), and the lane stands there (`placed`).
+use Rattle.access.proofs.LaneLaws.{split-known, placed}
 use borrow.Author.Needs.{needs}
 use Rattle.access.proofs.place_of.Statement.{statement}
 use Rattle.access.proofs.place_of.Tie as tie
 
-div-stand-at : tie.Need-div-stand-at
-div-stand-at c = search needs
-
-rem-stand-at : tie.Need-rem-stand-at
-rem-stand-at c = search needs
+subtract-size-requires : tie.Need-subtract-size-requires
+subtract-size-requires c κs = search needs
 
 stand-at-requires : tie.Need-stand-at-requires
-stand-at-requires c κs = search (needs, cabinet-of)
+stand-at-requires c κs = search (needs, split-known)
 
 returns : tie.Need-returns
-returns c = search needs
+returns c = search (needs, placed)
 
 pub place-of-spec : {M : Type 1} → statement M
-place-of-spec = tie.close (tie.spec div-stand-at rem-stand-at stand-at-requires returns)
+place-of-spec = tie.close (tie.spec subtract-size-requires stand-at-requires returns)
