@@ -8,7 +8,7 @@ use lib.ListN.{take}
 use Rattle.model.specs.Lists.{drops, tail, same}
 use Rattle.model.specs.Rules.{add, replace, delete, begin, end, start, step}
 use Rattle.model.specs.Calls.{set-up, left}
-use Rattle.model.specs.Ledger.{Section, Entry, Search, Out, Ledger, fed, fedCall, ledgerFrom, ledger, events, searchIn}
+use Rattle.model.specs.Ledger.{Section, Entry, Search, Out, Ledger, fed, fedCall, Event, ledgerFrom, ledger, events, searchIn}
 use Rattle.scripts.specs.Scripts.{Line, op, setUp123, listing, callOf, fiveWords, answered, lentWords}
 
 -- what the ledger holds at an instant
@@ -25,18 +25,24 @@ owedAt (book k es ss qs os) = record { entries = es; sections = ss; searches = q
 unfoldable pub owed : Account → List Ledger
 owed (account ls bs) = map owedAt bs
 
--- the ledger fed with the first calls of the list, up to that instant
-unfoldable pub ledgerAt : List Line → ℕ → Ledger
-unfolding answered events fed fedCall ledgerFrom drops tail
-ledgerAt ls k = ledger (take k (events (left (lentWords 200) (set-up 1 2 3)) (tail (map callOf ls))))
+-- the events of the calls after the set-up
+unfoldable pub eventsOf : List Line → List Event
+unfolding answered events drops tail
+eventsOf ls = events (left (lentWords 200) (set-up 1 2 3)) (tail (map callOf ls))
 
-unfoldable pub heldAt : List Line → Book → Ledger
+-- the ledger fed with the first events, up to that instant
+unfoldable pub ledgerAt : List Event → ℕ → Ledger
+unfolding fed fedCall ledgerFrom
+ledgerAt es k = ledger (take k es)
+
+unfoldable pub heldAt : List Event → Book → Ledger
 unfolding ledgerAt
-heldAt ls (book k es ss qs os) = ledgerAt ls k
+heldAt es (book k ns ss qs os) = ledgerAt es k
 
+-- the events are computed once for all instants
 unfoldable pub held : Account → List Ledger
-unfolding heldAt
-held (account ls bs) = map (heldAt ls) bs
+unfolding eventsOf heldAt
+held (account ls bs) = map (heldAt (eventsOf ls)) bs
 
 -- ---- the listing
 
@@ -199,14 +205,14 @@ pub data Sought : Type 0 where
 unfoldable pub expectedOf : Sought → Bool
 expectedOf (sought c k b) = b
 
-unfoldable pub answersIt : Sought → Bool
+unfoldable pub answersIt : List Event → Sought → Bool
 unfolding ledgerAt searchIn
-answersIt (sought c k b) = same (fiveWords (searchIn c (ledgerAt anotherCode k .entries))) (0 ∷ 2 ∷ 0 ∷ 0 ∷ 0 ∷ [])
+answersIt es (sought c k b) = same (fiveWords (searchIn c (ledgerAt es k .entries))) (0 ∷ 2 ∷ 0 ∷ 0 ∷ 0 ∷ [])
 
 -- of the dropped lookup, from its start to the answer, none is; of the lookup that was answered its start's is
 abbrev pub soughts : List Sought
 soughts = sought 17 4 false ∷ sought 17 5 false ∷ sought 17 6 false ∷ sought 17 7 false ∷ sought 17 8 false ∷ sought 24 8 true ∷ []
 
-pub dropped-differs : map answersIt soughts ≡ map expectedOf soughts
-unfolding answersIt expectedOf
+pub dropped-differs : map (answersIt (eventsOf anotherCode)) soughts ≡ map expectedOf soughts
+unfolding eventsOf answersIt expectedOf
 dropped-differs = refl
