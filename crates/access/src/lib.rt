@@ -94,7 +94,10 @@ fn subtract_size(number: u32, size: u32) -> Split
 {
     let mut times: u32 = 0;
     let mut left = number;
-    while times < MOST_SUBTRACTIONS && left >= size {
+    while times < MOST_SUBTRACTIONS {
+        if left < size {
+            return Split { times, left };
+        }
         left = left - size;
         times = times + 1;
     }

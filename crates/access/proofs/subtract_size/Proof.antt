@@ -16,23 +16,31 @@ abbrev μ-loop : tie.MeasureT-loop
 loop-holds : tie.Need-loop-holds Inv-loop μ-loop
 loop-holds c = subtracting-start _ _ _
 
-sub-left : tie.Need-sub-left Inv-loop μ-loop
-sub-left c = search needs
+returns : tie.Need-returns Inv-loop μ-loop
+returns c =
+    let at-loop : tie.At-loop Inv-loop μ-loop = search in
+    subtracting-below _ _ _ _ _ (at-loop .loop .inv) (omega (arith, c .if1 .taken))
 
 add-times : tie.Need-add-times Inv-loop μ-loop
-add-times c = search needs
+add-times c =
+    let at-loop-test : tie.In-loop Inv-loop μ-loop = search in
+    omega (arith, at-loop-test .loop-test .taken)
 
 loop-less : tie.Need-loop-less Inv-loop μ-loop
-loop-less c = search needs
+loop-less c =
+    let at-loop-test : tie.In-loop Inv-loop μ-loop = search in
+    omega (arith, at-loop-test .loop-test .taken)
 
 loop-again : tie.Need-loop-again Inv-loop μ-loop
-loop-again c = search (needs, subtracting-on)
-
-returns : tie.Need-returns Inv-loop μ-loop
-returns c = search (needs, subtracting-below)
+loop-again c =
+    let at-loop-test : tie.In-loop Inv-loop μ-loop = search in
+    let at-loop : tie.At-loop Inv-loop μ-loop = search in
+    subtracting-on _ _ _ _ _ (at-loop .loop .inv) (omega (arith, at-loop-test .loop-test .taken)) (omega (arith, c .if1 .left))
 
 returns-2 : tie.Need-returns-2 Inv-loop μ-loop
-returns-2 c = search (needs, subtracting-most)
+returns-2 c =
+    let at-loop : tie.At-loop Inv-loop μ-loop = search in
+    subtracting-most _ _ _ _ _ (at-loop .loop .inv) (omega (arith, c .loop-test .left))
 
 pub subtract-size-spec : {M : Type 1} → statement M
-subtract-size-spec = tie.close (tie.spec Inv-loop μ-loop loop-holds sub-left add-times loop-less loop-again returns returns-2)
+subtract-size-spec = tie.close (tie.spec Inv-loop μ-loop loop-holds returns add-times loop-less loop-again returns-2)
