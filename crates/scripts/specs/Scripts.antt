@@ -70,6 +70,9 @@ setUp123 = line (set-up 1 2 3) 0 145 0 0 0
 abbrev pub setUp124 : Line
 setUp124 = line (set-up 1 2 4) 0 151 0 0 0
 
+abbrev pub setUp811 : Line
+setUp811 = line (set-up 8 1 1) 0 254 0 0 0
+
 -- the largest table's
 abbrev pub largestTotal : ℕ
 largestTotal = 7456

@@ -8,7 +8,7 @@ use lib.ListN.{take, drop}
 use Rattle.model.specs.Rules.{add, replace, delete, begin, end, start, step, pass, clock, on, off, hand-back, awaited}
 use Rattle.model.specs.Layout.{codeAt, slotAddress, lookupAt, laneAddress}
 use Rattle.model.specs.Calls.{set-up, sized}
-use Rattle.scripts.specs.Scripts.{Line, line, op, setUp111, setUp112, setUp123, setUp124, largestTotal, listing}
+use Rattle.scripts.specs.Scripts.{Line, line, op, setUp111, setUp112, setUp123, setUp124, setUp811, largestTotal, listing}
 use Rattle.scripts.specs.Scripts.{Row, script, poked, order, digit, reads, writes, expected, run}
 
 -- replace with code missing and no free slot
@@ -245,6 +245,20 @@ droppedThenOff =
     ∷ op (step 1) 10 0 0 0 0
     ∷ []
 
+-- ---- request 4: cabinet and place of a lane
+
+-- lane 0 begins a period, and all lanes are awaited
+abbrev pub allAwaited : List Line
+allAwaited = op (add 0 17 25 1) 0 0 0 0 0 ∷ op (delete 0 17) 0 0 0 0 0 ∷ op (clock 0) 0 1 1 1 0 ∷ []
+
+-- lane i is through, and n are awaited still, lane 0 among them
+abbrev pub through : ℕ → ℕ → List Line
+through i n = op (clock i) 0 1 1 1 0 ∷ op (pass i 0) 0 0 0 0 0 ∷ op (clock i) 0 1 1 1 0 ∷ op awaited 0 n 0 0 1 ∷ []
+
+-- the eighth cabinet, by seven subtractions, of which nothing is left, and the seventh; there is no ninth. Two cabinets of four lanes: `cases` Replay
+abbrev pub lastCabinets : List Line
+lastCabinets = setUp811 ∷ (allAwaited ++ through 7 7 ++ through 6 6) ++ (op (clock 8) 4 0 0 0 0 ∷ [])
+
 -- ---- all of them
 
 abbrev pub stars : List Row
@@ -272,6 +286,7 @@ stars =
     ∷ script 200 droppedOnChain
     ∷ script 200 droppedInPeriod
     ∷ script 200 droppedThenOff
+    ∷ script 300 lastCabinets
     ∷ (labelDigits ++ labelsRead ++ labelsWritten)
 
 -- each row comes out. That no generation at all is later than itself is a law (`laws` Generations `later-self`)
