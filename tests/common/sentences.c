@@ -65,6 +65,13 @@ static enum sentence cause_sentence(uint32_t cause)
 	return cause == PT_NOT_LEGAL ? SENTENCE_CAUSE_NOT_LEGAL : SENTENCE_CAUSE_OTHERS;
 }
 
+/* Whether the call's lane is the first number that is none. */
+static bool first_past(const struct beside *beside)
+{
+	return call_argument(&beside->call, KIND_LANE, 0) ==
+		beside->before[CONTENTS_CABINETS] * beside->before[CONTENTS_LANES];
+}
+
 static void refused_tries(struct tally *tally, struct tries *tries, const struct beside *beside)
 {
 	uint32_t cause = beside->expected.status;
@@ -80,6 +87,8 @@ static void refused_tries(struct tally *tally, struct tries *tries, const struct
 		tries->of[broken < LEGAL_SENTENCES ? legal_sentences[broken] : SENTENCE_LEGAL] = true;
 	}
 	tally->refused[beside->call.name][cause]++;
+	if (cause == PT_NO_LANE && first_past(beside))
+		tally->placed[PLACED_PAST]++;
 	for (uint32_t other = 1; other <= LAST_CAUSE; other++)
 		if (other != cause && causes >> other & 1u) {
 			tries->of[SENTENCE_CAUSE_FIRST] = true;
@@ -233,6 +242,21 @@ static void dropped_tries(struct tally *tally, struct tries *tries, const struct
 	tally->dropped[where_dropped(then, &then->lane[lane])]++;
 }
 
+/* What a call tries that names a lane. */
+static void place_tries(struct tally *tally, struct tries *tries, const struct table *then,
+		const struct call *call, uint32_t lane)
+{
+	struct place at = table_place(then, lane);
+
+	tries->of[SENTENCE_SUBTRACTED] = at.cabinet > 0;
+	tries->of[SENTENCE_PLACES_SAME] = true;
+	if (call->name != CALL_PASS && call->name != CALL_CLOCK && call->name != CALL_OFF)
+		return;
+	tally->placed[PLACED_IN_FIRST] += at.cabinet == 0 ? 1u : 0u;
+	tally->placed[PLACED_AT_START] += at.cabinet > 0 && at.place == 0 ? 1u : 0u;
+	tally->placed[PLACED_IN_EIGHTH] += at.cabinet == PT_MAX_CABINETS - 1 ? 1u : 0u;
+}
+
 static void accepted_tries(struct tally *tally, struct tries *tries, const struct beside *beside)
 {
 	static struct table then, now;
@@ -251,6 +275,8 @@ static void accepted_tries(struct tally *tally, struct tries *tries, const struc
 	digit_tries(tries, &beside->call);
 	table_read(&then, beside->before);
 	table_read(&now, beside->memory);
+	if (call_argument(&beside->call, KIND_LANE, PT_NONE) != PT_NONE)
+		place_tries(tally, tries, &then, &beside->call, lane);
 	dropped_tries(tally, tries, &then, &beside->call, lane);
 	table_tries(tries, &then, &beside->call, beside->expected_answer, lane);
 	lane_tries(tries, &then, &now, &beside->call, lane);
@@ -283,8 +309,23 @@ static void call_tries(struct tally *tally, struct tries *tries, const struct be
 
 /* ---- what a difference breaks */
 
-/* The records that hold words which differ. */
-static void blame_records(struct tries *broken, const struct beside *beside)
+/*
+ * Whether a word that differs may do so by a wrong place: a mask, a word of a lane that the
+ * call does not name, or the flags at a clock, since a snapshot goes by the mask.
+ */
+static bool goes_by_place(const struct beside *beside, const struct layout *layout, uint32_t n)
+{
+	uint64_t own = layout->first[BODY_LANES] + LANE_WORDS * call_argument(&beside->call, KIND_LANE, 0);
+
+	if (n < layout->first[BODY_LANES])
+		return n >= layout->first[BODY_CABINETS] || n == layout->first[BODY_GLOBAL] + GLOBAL_PENDING;
+	if (n < own || n >= own + LANE_WORDS)
+		return n < layout->first[BODY_SLOTS];
+	return n == own + LANE_FLAGS && beside->call.name == CALL_CLOCK;
+}
+
+/* The records that hold words which differ, and whether these go by a lane's place. */
+static void blame_records(struct tries *broken, const struct tries *tries, const struct beside *beside)
 {
 	static const enum sentence records[BODIES] = {
 		[BODY_GLOBAL] = SENTENCE_HOUSE,
@@ -303,6 +344,10 @@ static void blame_records(struct tries *broken, const struct beside *beside)
 		while (body >= 0 && n < layout.first[body])
 			body--;
 		broken->of[body < 0 ? SENTENCE_CONTENTS : records[body]] = true;
+		if (!goes_by_place(beside, &layout, n))
+			continue;
+		broken->of[SENTENCE_SUBTRACTED] |= tries->of[SENTENCE_SUBTRACTED];
+		broken->of[SENTENCE_PLACES_SAME] |= tries->of[SENTENCE_PLACES_SAME];
 	}
 }
 
@@ -369,7 +414,7 @@ static void blame(struct tries *broken, const struct tries *tries, const struct 
 		blame_rules(broken, tries, beside);
 		break;
 	case DIFFERS_WORDS:
-		blame_records(broken, beside);
+		blame_records(broken, tries, beside);
 		blame_rules(broken, tries, beside);
 		break;
 	case DIFFERS_NOT_LEGAL: broken->of[SENTENCE_LEGAL] = true; break;
@@ -464,6 +509,14 @@ void print_dropped(const struct tally *tally)
 		" on a slot of no chain, %" PRIu64 " at none\n",
 		tally->dropped[DROPPED_AT_HEAD], tally->dropped[DROPPED_ON_CHAIN],
 		tally->dropped[DROPPED_OFF_CHAINS], tally->dropped[DROPPED_AT_NONE]);
+}
+
+void print_placed(const struct tally *tally)
+{
+	printf("passes, clocks and offs: %" PRIu64 " in cabinet 0, %" PRIu64 " at the first place of another, %" PRIu64
+		" in the eighth; %" PRIu64 " calls of the first number that is no lane\n",
+		tally->placed[PLACED_IN_FIRST], tally->placed[PLACED_AT_START],
+		tally->placed[PLACED_IN_EIGHTH], tally->placed[PLACED_PAST]);
 }
 
 static void print_line(uint64_t tried, uint64_t broken, const char *text)

@@ -22,6 +22,15 @@ enum sentence {
 /* Where a lookup stood that the end of its section dropped. */
 enum dropped { DROPPED_AT_HEAD, DROPPED_ON_CHAIN, DROPPED_OFF_CHAINS, DROPPED_AT_NONE, DROPPED };
 
+/* Where a lane stood that passed, had its clock or went off; and calls refused that named no lane. */
+enum placed {
+	PLACED_IN_FIRST,  /* cabinet 0: nothing is subtracted */
+	PLACED_AT_START,  /* the first place of another cabinet: 0 is left */
+	PLACED_IN_EIGHTH, /* the eighth cabinet: the size is subtracted seven times */
+	PLACED_PAST,	  /* the first number that is no lane */
+	PLACED
+};
+
 /* How often each was tried, and how often it did not hold. */
 struct tally {
 	uint64_t tried[SENTENCES];
@@ -31,6 +40,7 @@ struct tally {
 	uint64_t refused[CALLS][LAST_CAUSE + 1];
 	uint64_t labels[2][PT_WRONG_LABEL + 1]; /* read and written: 0, and by cause */
 	uint64_t dropped[DROPPED]; /* lookups */
+	uint64_t placed[PLACED];
 	/* how often a cause was answered while another of the call's applied as well */
 	uint64_t before[CALLS][LAST_CAUSE + 1][LAST_CAUSE + 1];
 };
@@ -40,6 +50,9 @@ const char *legal_text(enum legal_sentence sentence);
 
 /* How many lookups were dropped, by where they stood: a line. */
 void print_dropped(const struct tally *tally);
+
+/* How many passes, clocks and offs there were, by where the lane stood, and calls of no lane: a line. */
+void print_placed(const struct tally *tally);
 
 /* Adds the last call of a run that has a judge, and its difference. */
 void tally_call(struct tally *tally, const struct beside *beside);

@@ -102,6 +102,17 @@ static void check_dropped(bool often)
 		CHECK(!often || tally.dropped[n] >= OFTEN);
 }
 
+/* How many passes, clocks and offs there were of lanes at the edges, and one past the last. */
+static void check_placed(bool often)
+{
+	enum { OFTEN = 100 };
+
+	printf("compare: ");
+	print_placed(&tally);
+	for (int n = 0; n < PLACED; n++)
+		CHECK(!often || tally.placed[n] >= OFTEN);
+}
+
 /* One list; returns the calls that were made. */
 static uint32_t play(const struct list *list, uint64_t seed, uint32_t calls)
 {
@@ -154,6 +165,7 @@ int main(int argc, char **argv)
 	print_wrong_digits(argc == 1);
 	print_labels(argc == 1);
 	check_dropped(argc == 1);
+	check_placed(argc == 1);
 	printf("compare: seed %" PRIu64 ", %" PRIu64 " calls, %" PRIu64 " slots handed back\n", first,
 		tally.calls, tally.accepted[CALL_HAND_BACK]);
 	return 0;

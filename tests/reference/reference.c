@@ -88,12 +88,15 @@ static bool period_running(const struct table *t)
 /* Begin period: sets the bits of all online lanes and their cabinets. */
 static void period_begin(struct table *t)
 {
-	for (uint32_t l = 0; l < table_lanes(t); l++) {
-		if (!(t->lane[l].flags & FLAG_ONLINE))
-			continue;
-		t->pending_lanes[l / t->lanes] |= 1u << l % t->lanes;
-		t->pending_cabinets |= 1u << l / t->lanes;
-	}
+	uint32_t l = 0; /* counted up, cabinet by cabinet and place by place */
+
+	for (uint32_t c = 0; c < t->cabinets; c++)
+		for (uint32_t p = 0; p < t->lanes; p++, l++) {
+			if (!(t->lane[l].flags & FLAG_ONLINE))
+				continue;
+			t->pending_lanes[c] |= 1u << p;
+			t->pending_cabinets |= 1u << c;
+		}
 }
 
 /* End period: the next generation, and its grace period if one is requested. */
@@ -124,17 +127,16 @@ static void retired_advance(struct table *t, struct retired *retired)
 		period_begin(t);
 }
 
-/* Drops the lane's snapshot and bit, and ends the grace period if none remain. */
-static void lane_passed(struct table *t, uint32_t lane)
+/* Drops the lane's snapshot, and its bit there, and ends the grace period if none remain. */
+static void lane_passed(struct table *t, uint32_t lane, struct place at)
 {
-	uint32_t cabinet = lane / t->lanes;
-	bool pending = table_pending(t, lane);
+	bool pending = place_pending(t, at);
 
 	t->lane[lane].flags &= ~(uint32_t)FLAG_SNAPSHOT;
 	memset(t->lane[lane].snapshot, 0, sizeof t->lane[lane].snapshot);
-	t->pending_lanes[cabinet] &= ~(1u << lane % t->lanes);
-	if (t->pending_lanes[cabinet] == 0)
-		t->pending_cabinets &= ~(1u << cabinet);
+	t->pending_lanes[at.cabinet] &= ~(1u << at.place);
+	if (t->pending_lanes[at.cabinet] == 0)
+		t->pending_cabinets &= ~(1u << at.cabinet);
 	if (pending && !period_running(t))
 		period_end(t);
 }
@@ -485,6 +487,7 @@ uint32_t ref_clock(uint32_t *memory, size_t words, uint32_t *answer, size_t answ
 {
 	struct table t;
 	struct lane *own;
+	struct place at;
 	uint32_t cause;
 
 	if (answer_words < PT_ANSWER_WORDS)
@@ -494,11 +497,12 @@ uint32_t ref_clock(uint32_t *memory, size_t words, uint32_t *answer, size_t answ
 		return refuse(answer, cause);
 
 	own = &t.lane[lane];
+	at = table_place(&t, lane);
 	if (own->flags & FLAG_SNAPSHOT && counts_differ(own))
-		lane_passed(&t, lane);
+		lane_passed(&t, lane, at);
 	retired_advance(&t, &own->retired);
 	retired_advance(&t, &t.global);
-	if (table_pending(&t, lane) && !(own->flags & FLAG_SNAPSHOT)) {
+	if (place_pending(&t, at) && !(own->flags & FLAG_SNAPSHOT)) {
 		own->flags |= FLAG_SNAPSHOT;
 		memcpy(own->snapshot, own->counts, sizeof own->snapshot);
 	}
@@ -548,7 +552,7 @@ uint32_t ref_off(uint32_t *memory, size_t words, uint32_t *answer, size_t answer
 	queue_join(&t, &t.global.next, &own->next);
 	queue_join(&t, &t.global.done, &own->done);
 	own->generation = 0;
-	lane_passed(&t, lane);
+	lane_passed(&t, lane, table_place(&t, lane));
 	retired_advance(&t, &t.global);
 	return finish(&t, memory, answer, 0, 0, 0);
 }

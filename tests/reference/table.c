@@ -1,6 +1,6 @@
 /*
  * table.c - reading a table from the words of its memory, and writing it back
- * (document 01, "The memory").
+ * (document 01, "The memory"); where a lane stands (document 02, request 4).
  */
 #include "table.h"
 
@@ -27,6 +27,20 @@ struct layout layout_of(uint32_t cabinets, uint32_t lanes, uint32_t slots)
 	}
 	layout.total = at;
 	return layout;
+}
+
+enum { SUBTRACTIONS = 7 }; /* at most: a table has at most eight cabinets */
+
+/* The cabinet size is subtracted until what is left is below it, and is the place. */
+struct place table_place(const struct table *table, uint32_t lane)
+{
+	uint32_t size = table->lanes, cabinet = 0, left = lane;
+
+	while (cabinet < SUBTRACTIONS && left >= size) {
+		left -= size;
+		cabinet++;
+	}
+	return (struct place){ .cabinet = cabinet, .place = left };
 }
 
 static uint64_t read_code(const uint32_t *word)
@@ -136,8 +150,8 @@ void table_read(struct table *table, const uint32_t *memory)
 	table->slots = memory[CONTENTS_SLOTS];
 	layout = layout_of(table->cabinets, table->lanes, table->slots);
 	read_global(table, memory + layout.first[BODY_GLOBAL]);
-	for (uint32_t c = 0; c < table->cabinets; c++)
-		table->pending_lanes[c] =
+	for (uint32_t c = 0; c < PT_MAX_CABINETS; c++) /* 0 of a cabinet that there is not */
+		table->pending_lanes[c] = c >= table->cabinets ? 0 :
 			memory[layout.first[BODY_CABINETS] + CABINET_WORDS * c + CABINET_PENDING];
 	for (uint32_t l = 0; l < table_lanes(table); l++)
 		read_lane(&table->lane[l], memory + layout.first[BODY_LANES] + LANE_WORDS * l);

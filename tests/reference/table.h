@@ -58,16 +58,31 @@ struct table {
 	struct slot slot[PT_MAX_SLOTS];
 };
 
+/* Where a lane stands: its cabinet, and its place there. */
+struct place {
+	uint32_t cabinet;
+	uint32_t place;
+};
+
 /* The number of lanes of all cabinets. */
 static inline uint32_t table_lanes(const struct table *table)
 {
 	return table->cabinets * table->lanes;
 }
 
-/* Whether the running grace period waits for the lane. */
+/* Where a lane stands that there is, by its number; nothing is divided. */
+struct place table_place(const struct table *table, uint32_t lane);
+
+/* Whether the running grace period waits for the lane that stands there. */
+static inline bool place_pending(const struct table *table, struct place at)
+{
+	return table->pending_lanes[at.cabinet] >> at.place & 1u;
+}
+
+/* The same of a lane by its number. */
 static inline bool table_pending(const struct table *table, uint32_t lane)
 {
-	return table->pending_lanes[lane / table->lanes] >> lane % table->lanes & 1u;
+	return place_pending(table, table_place(table, lane));
 }
 
 /* Whether generation @a is later than @b: their wrapping difference is 1 to 2^31 - 1. */

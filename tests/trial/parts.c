@@ -52,6 +52,14 @@ static const char *const stars[][CASE_STEPS] = {
 		"pass 0 0", "clock 0", "end 1", "pass 1 0", "clock 1", "clock 0", "back 0", "step 1", "awaited" },
 	{ "setup 1 2 4", "add 0 0 1 1", "add 0 192 2 2", "begin 1", "start 1 0", "step 1", "rep 1 0 3 3", "clock 1",
 		"clock 0", "end 1", "off 1", "pass 0 0", "clock 0", "pass 0 0", "clock 0", "back 0", "on 1", "step 1" },
+	/* first places, last places, the eighth cabinet and no lane, while all are awaited, or all but one */
+	{ "setup 8 1 2", "add 0 17 1 1", "del 0 17", "clock 0", "clock 7", "pass 7 0", "clock 7", "clock 1", "pass 1 0",
+		"clock 1", "off 6", "on 6", "clock 6", "pass 8 0", "clock 8", "off 8", "awaited" },
+	{ "setup 8 8 2", "add 0 17 1 1", "del 0 17", "clock 0", "clock 63", "pass 63 3", "clock 63", "clock 56", "pass 56 0",
+		"clock 56", "off 55", "off 8", "on 8", "pass 64 0", "clock 64", "off 64", "awaited" },
+	{ "setup 2 3 2", "off 3", "add 2 17 1 1", "del 2 17", "clock 2", "pass 2 0", "clock 2", "clock 3", "on 3", "clock 3",
+		"clock 5", "pass 5 0", "clock 5", "off 4", "clock 6", "clock 4294967295", "awaited" },
+	{ "setup 1 8 2", "add 0 17 1 1", "del 0 17", "clock 0", "clock 7", "pass 7 0", "clock 7", "off 6", "clock 8", "awaited" },
 };
 
 /* The files of tests/listing that are lists of calls. */

@@ -270,6 +270,8 @@ static void print_calls(void)
 		shared->tally.labels[1][PT_OUT_OF_RANGE], shared->tally.labels[1][PT_WRONG_LABEL]);
 	printf("  ");
 	print_dropped(&shared->tally);
+	printf("  ");
+	print_placed(&shared->tally);
 }
 
 /* How many pairs of a call's causes were met at once, of those that do not exclude each other. */

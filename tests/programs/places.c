@@ -1,0 +1,286 @@
+/*
+ * places.c - cabinet and place of a lane (document 02, request 4): every lane of every table
+ * of 1 to 8 cabinets of 1 to 8 lanes, and numbers that are no lane. Where a lane stands is
+ * known here by counting: numbers go up place by place and cabinet by cabinet. What each call
+ * leaves is written down so, and compared with every word.
+ */
+#include <inttypes.h>
+#include <stdio.h>
+#include <stdlib.h>
+#include <string.h>
+
+#include "lent.h"
+#include "reference.h"
+#include "words.h"
+
+enum { SLOTS = 2, CODE = 17 };
+
+/* A lane, as it is counted. */
+struct counted {
+	uint32_t number, cabinet, place;
+};
+
+static struct lent lent;
+static uint32_t expected[LENT_WORDS];
+
+/* The table's sizes, and its lanes in the order of their numbers. */
+static uint32_t cabinets, size, count;
+static struct counted counted[PT_MAX_CABINETS * PT_MAX_LANES];
+
+static void count_lanes(void)
+{
+	count = 0;
+	for (uint32_t cabinet = 0; cabinet < cabinets; cabinet++)
+		for (uint32_t place = 0; place < size; place++, count++)
+			counted[count] = (struct counted){ count, cabinet, place };
+}
+
+/* Says which word is not as expected, and ends the program. */
+static void check_words(const struct counted *lane)
+{
+	char name[WORD_TEXT];
+	size_t n = 0;
+
+	while (n < LENT_WORDS && lent.memory[n] == expected[n])
+		n++;
+	if (n == LENT_WORDS)
+		return;
+	word_name(expected + CONTENTS_CABINETS, n, name);
+	fprintf(stderr, "%" PRIu32 " cabinets of %" PRIu32 " lanes, lane %" PRIu32 ": %s: %" PRIu32 ", and not %" PRIu32 "\n",
+		cabinets, size, lane->number, name, lent.memory[n], expected[n]);
+	exit(1);
+}
+
+static uint32_t ask(enum call_name name, uint32_t lane, uint32_t argument)
+{
+	return lent_make(&lent, &(struct call){ name, { lane, argument } });
+}
+
+/* An accepted call, after which the words are those expected. */
+static void make(enum call_name name, const struct counted *lane, uint32_t argument)
+{
+	CHECK(ask(name, lane->number, argument) == PT_OK);
+	check_words(lane);
+}
+
+static void set_up(void)
+{
+	struct call setup = { CALL_SETUP, { cabinets, size, SLOTS } };
+
+	lent_start(&lent);
+	CHECK(lent_make(&lent, &setup) == PT_OK);
+}
+
+/* A grace period that a lane begins; from here on the words are expected. */
+static void begin_period(uint32_t lane)
+{
+	CHECK(ask(CALL_ADD, lane, CODE) == PT_OK);
+	CHECK(ask(CALL_DELETE, lane, CODE) == PT_OK);
+	CHECK(ask(CALL_CLOCK, lane, 0) == PT_OK);
+	memcpy(expected, lent.memory, sizeof expected);
+}
+
+/* ---- the masks, as they are expected */
+
+static uint32_t *lane_mask(const struct counted *lane)
+{
+	return &lent_cabinet(expected, lane->cabinet)[CABINET_PENDING];
+}
+
+static uint32_t *cabinet_mask(void)
+{
+	return &lent_global(expected)[GLOBAL_PENDING];
+}
+
+/* The bits of all lanes, but for one that may be left out. */
+static void set_bits(const struct counted *without)
+{
+	*cabinet_mask() = 0;
+	for (uint32_t n = 0; n < count; n++)
+		*lane_mask(&counted[n]) = 0;
+	for (uint32_t n = 0; n < count; n++)
+		if (&counted[n] != without) {
+			*lane_mask(&counted[n]) |= 1u << counted[n].place;
+			*cabinet_mask() |= 1u << counted[n].cabinet;
+		}
+}
+
+/* The bit goes, and the cabinet's with the last one in it. Whether bits remain. */
+static bool clear_bit(const struct counted *lane)
+{
+	*lane_mask(lane) &= ~(1u << lane->place);
+	if (*lane_mask(lane) == 0)
+		*cabinet_mask() &= ~(1u << lane->cabinet);
+	return *cabinet_mask() != 0;
+}
+
+/* ---- pass and clock */
+
+/* The grace period is over, by the clock of a lane; the slot is done if the lane removed it. */
+static void end_period(const struct counted *lane)
+{
+	uint32_t *words = lent_lane(expected, lane->number);
+
+	lent_global(expected)[GLOBAL_CURRENT_GENERATION]++;
+	if (words[LANE_CURRENT + END_FIRST] == PT_NONE)
+		return;
+	memcpy(words + LANE_DONE, words + LANE_CURRENT, END_WORDS * sizeof *words);
+	words[LANE_CURRENT + END_FIRST] = words[LANE_CURRENT + END_LAST] = PT_NONE;
+	words[LANE_GENERATION] = 0;
+}
+
+/* A lane with its bit takes its snapshot, passes and shows it. */
+static void let_pass(const struct counted *lane, uint32_t kind)
+{
+	uint32_t *words = lent_lane(expected, lane->number);
+
+	words[LANE_FLAGS] |= FLAG_SNAPSHOT;
+	memcpy(words + LANE_SNAPSHOT, words + LANE_COUNTS, KINDS * sizeof *words);
+	make(CALL_CLOCK, lane, 0);
+	words[LANE_COUNTS + kind]++;
+	make(CALL_PASS, lane, kind);
+	words[LANE_FLAGS] &= ~(uint32_t)FLAG_SNAPSHOT;
+	memset(words + LANE_SNAPSHOT, 0, KINDS * sizeof *words);
+	if (!clear_bit(lane))
+		end_period(lane);
+	make(CALL_CLOCK, lane, 0);
+}
+
+/* Each lane alone; then all in order of their numbers, and all from the last to the first. */
+static void test_passes(void)
+{
+	for (uint32_t n = 0; n < count; n++) {
+		set_up();
+		begin_period(0);
+		set_bits(NULL);
+		check_words(&counted[0]);
+		let_pass(&counted[n], n & 3u);
+	}
+	for (uint32_t order = 0; order < 2; order++) {
+		set_up();
+		begin_period(0);
+		for (uint32_t n = 0; n < count; n++)
+			let_pass(&counted[order == 0 ? n : count - 1 - n], order);
+		CHECK(*cabinet_mask() == 0);
+	}
+}
+
+/* ---- off and on */
+
+/* A lane goes off while all are awaited, and comes back; another removed the slot. */
+static void test_off(const struct counted *lane)
+{
+	uint32_t *words = lent_lane(expected, lane->number);
+
+	set_up();
+	begin_period(lane->number == 0 ? 1 : 0);
+	CHECK(clear_bit(lane));
+	words[LANE_FLAGS] = 0;
+	make(CALL_OFF, lane, 0);
+	CHECK(ask(CALL_PASS, lane->number, 0) == PT_OFFLINE && ask(CALL_CLOCK, lane->number, 0) == PT_OFFLINE);
+	words[LANE_FLAGS] = FLAG_ONLINE;
+	make(CALL_ON, lane, 0);
+	make(CALL_CLOCK, lane, 0); /* it has no bit, and takes no snapshot */
+	words[LANE_COUNTS + 3]++;
+	make(CALL_PASS, lane, 3);
+}
+
+/* A grace period begins while a lane is off: the bits are those of all the others. */
+static void test_left_out(const struct counted *lane)
+{
+	set_up();
+	CHECK(ask(CALL_OFF, lane->number, 0) == PT_OK);
+	begin_period(lane->number == 0 ? 1 : 0);
+	set_bits(lane);
+	check_words(lane);
+}
+
+/* ---- what is asked of every memory, and of all lanes */
+
+/* The masks that are expected, in a memory that is lent; the status of a call on it. */
+static uint32_t awaited(void)
+{
+	memcpy(lent.memory, expected, sizeof expected);
+	return ask(CALL_AWAITED, 0, 0);
+}
+
+/* With its bit alone the lane is the lowest one awaited. */
+static void test_awaited(const struct counted *lane)
+{
+	set_up();
+	begin_period(0);
+	for (uint32_t n = 0; n < count; n++)
+		if (n != lane->number)
+			clear_bit(&counted[n]);
+	lent_lane(expected, 0)[LANE_FLAGS] = FLAG_ONLINE; /* lane 0's snapshot goes with its bit */
+	CHECK(awaited() == PT_OK && lent.answer[1] == 1 && lent.answer[2] == lane->number);
+}
+
+/* A snapshot asks for the lane's own bit, and for no other. */
+static void test_snapshot(const struct counted *lane)
+{
+	const struct counted *other = &counted[lane->number + 1 < count ? lane->number + 1 : 0];
+
+	set_up();
+	begin_period(0);
+	lent_lane(expected, 0)[LANE_FLAGS] = FLAG_ONLINE;
+	lent_lane(expected, lane->number)[LANE_FLAGS] = FLAG_ONLINE | FLAG_SNAPSHOT;
+	if (other != lane) {
+		clear_bit(other);
+		CHECK(awaited() == PT_OK);
+		set_bits(NULL);
+	}
+	clear_bit(lane);
+	CHECK(awaited() == PT_NOT_LEGAL && ref_broken(expected, lent.words) == LEGAL_SNAPSHOT_PENDING);
+}
+
+/* ---- numbers that are no lane */
+
+static void test_no_lane(uint32_t number)
+{
+	for (int name = 0; name < CALLS; name++)
+		if (call_forms[name].kind[0] == KIND_LANE) {
+			CHECK(ask((enum call_name)name, number, 0) == PT_NO_LANE);
+			check_words(&(struct counted){ .number = number });
+		}
+}
+
+/* Every call that names a lane, beside a running grace period. */
+static void test_no_lanes(void)
+{
+	set_up();
+	begin_period(0);
+	test_no_lane(count);
+	test_no_lane(count + 1);
+	test_no_lane(count + size);
+	test_no_lane(PT_NONE);
+}
+
+static void test_table(void)
+{
+	count_lanes();
+	CHECK(count == cabinets * size);
+	test_passes();
+	test_no_lanes();
+	for (uint32_t n = 0; n < count; n++) {
+		test_awaited(&counted[n]);
+		test_snapshot(&counted[n]);
+	}
+	for (uint32_t n = 0; n < count && count > 1; n++) { /* the last lane online stays */
+		test_off(&counted[n]);
+		test_left_out(&counted[n]);
+	}
+}
+
+int main(void)
+{
+	uint32_t lanes = 0;
+
+	for (cabinets = 1; cabinets <= PT_MAX_CABINETS; cabinets++)
+		for (size = 1; size <= PT_MAX_LANES; size++) {
+			test_table();
+			lanes += count;
+		}
+	printf("places: %" PRIu32 " lanes of 64 tables, each where counting says\n", lanes);
+	return 0;
+}
