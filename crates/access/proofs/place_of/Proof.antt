@@ -8,7 +8,10 @@ subtract-size-requires : tie.Need-subtract-size-requires
 subtract-size-requires c κs = search needs
 
 stand-at-requires : tie.Need-stand-at-requires
-stand-at-requires c κs = search (needs, split-known)
+stand-at-requires c κs =
+    let at-subtract-size : tie.After-subtract-size = search in
+    let entry : tie.Start = search in
+    (entry .pre .few, split-known _ (entry .pre) _ (at-subtract-size .subtract-size .ensures))
 
 returns : tie.Need-returns
 returns c = search (needs, placed)
