@@ -3,7 +3,6 @@ use Prim.Native.Nat.{_-_}
 use native.Mathlib.Omega.{arith}
 use Rattle.laws.specs.Subtractions.{Subtracting, subtracting-start, subtracting-on, subtracting-most, subtracting-below}
 use Rattle.access.specs.Lanes.{mostSubtractions}
-use borrow.Author.Needs.{needs}
 use Rattle.access.proofs.subtract_size.Statement.{statement}
 use Rattle.access.proofs.subtract_size.Tie as tie
 
