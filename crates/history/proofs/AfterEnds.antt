@@ -70,9 +70,9 @@ module _ (i : ℕ) where
     opened = λ j n u x m w. ⊎-elim
         (λ q. h (e .answer) z (made-of e o c (u ∙ ap (λ (y : ℕ). begin y) (sym (ap (λ (y : Section). y .lane) q) ∙ w)))) (λ d. p x d w)
         (List·Memᴰ·cases-cons m);
-    ended = λ j x m. p x (of-drops (sectionOf j) x (g .sections) m .0);
+    ended = λ j u x m. p x (of-drops (sectionOf j) x (g .sections) m .0);
     noted = λ j x n u. p;
-    dropped = λ j l d. d;
+    dropped = λ j l u d. d;
   })
 
   -- a call that does not start a lookup of the lane
@@ -85,11 +85,11 @@ module _ (i : ℕ) where
     out = λ x l d. d;
     back = λ x. p;
     opened = λ j n u. p;
-    ended = λ j. p;
+    ended = λ j u. p;
     noted = λ j b n u q m w. ⊎-elim
         (λ y. h b (e .answer) z (made-of e o c (u ∙ ap (λ (y : ℕ). start y b) (sym (ap (λ (q : Search). q .lane) y) ∙ w))))
         (λ d. p q (of-drops (searchOf j) q (g .searches) d .0) w) (List·Memᴰ·cases-cons m);
-    dropped = λ j l d q m. d q (of-drops (searchOf j) q (l .searches) m .0);
+    dropped = λ j l u d q m. d q (of-drops (searchOf j) q (l .searches) m .0);
   })
 
   module _ (before : List Event) (r : Answer) (z : r .status ≡ 0) (since : List Event) where

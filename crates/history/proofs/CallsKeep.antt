@@ -12,4 +12,5 @@ pub mod Removed
 pub mod Remove
 pub mod Reclaim
 pub mod EveryCall
+pub mod Lookups
 pub mod Start

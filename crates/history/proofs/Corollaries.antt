@@ -7,9 +7,8 @@ use mathlib.Core.Bool.{true}
 use mathlib.Core.List.{List, [], append-nil, List·Memᴰ, List·Memᴰ·not-nil}
 use native.Mathlib.Omega.{arith}
 use lib.ListN.{length, length-append}
-use Rattle.model.specs.Lists.{first}
 use Rattle.model.specs.State.{State}
-use Rattle.model.specs.Rules.{Op, add, replace, Answer, accepted, answer, fresh}
+use Rattle.model.specs.Rules.{Op, Answer, answer, fresh}
 use Rattle.model.specs.Memory.{state}
 use Rattle.model.specs.Calls.{Call, set-up, on-state, sized, reply, left, leftAll}
 use Rattle.model.specs.Ledger.{Section, Search, Ledger, Event, ledgerFrom, ledger, isAnswer, search, events}
@@ -80,7 +79,7 @@ unused-anchored z x u (retained r) = u .notOut (r .out) (r .isOut) (r .ofSlot)
 reply-unused : {past : ℕ → Ledger} {k : ℕ} {s : State} {g : Ledger} {m : List ℕ} → Invariant past k s g → Stands s m
     → (o : Op) → Enters o → reply m (on-state o) .status ≡ 0 → Unused s g (reply m (on-state o) .a)
 reply-unused {s = s} {g} v t o e =
-    subst (λ (r : Answer). r .status ≡ 0 → Unused s g (r .a)) (sym (reply-on t o)) (enters-unused v o e)
+    subst (λ (r : Answer). r .status ≡ 0 → Unused s g (r .a)) (sym (reply-on t o)) (enters-unused (v .tied) o e)
 
 pub new-slots : EveryList NewSlots
 new-slots m c p n ok ks r = go (to-end h ks [] (fresh (sized c p n)) m₀ (at-set-up m c p n ok ks r))

@@ -19,10 +19,9 @@ use Rattle.representation.proofs.Causes.Passed.{call-cases}
 use Rattle.representation.proofs.Causes.Accepted.{accepts}
 use Rattle.representation.proofs.WellFormed.{chained}
 use Rattle.history.proofs.Ties.Halves.{searched}
-use Rattle.history.proofs.Ties.Invariant.{Invariant}
+use Rattle.history.proofs.Ties.Invariant.{Tied}
 use Rattle.history.proofs.ChainHalf.ChainStretches.{SameOr, chained-at, searched-here, searched-on}
 use Rattle.history.proofs.CallsKeep.SlotFacts.{standing-once}
-use Rattle.history.proofs.OverLists.Instants.{past}
 
 -- ---- a slot that add or replace answers was unused
 
@@ -54,7 +53,7 @@ searched-in ps c x d k (y ∷ xs) e = go (same-or (productAt ps y .code) c) (sea
         rw z (omega (arith, mark-self x))
     go (inr q) ih = omega (arith, ih (sym (searched-on ps c y xs (q .0)) ∙ e))
 
-module _ {past : ℕ → Ledger} {k : ℕ} {s : State} {g : Ledger} (v : Invariant past k s g) where
+module _ {k : ℕ} {s : State} {g : Ledger} (v : Tied k s g) where
   -- the first free slot is unused
   free-unused : isEmpty (s .table .free) ≡ false → Unused s g (first (s .table .free))
   free-unused f = record {

@@ -10,7 +10,7 @@ use lib.Seq.{getD-set-same, getD-set-other}
 use Rattle.model.specs.Lists.{count, isEmpty, first, drops}
 use Rattle.model.specs.State.{Product, Table, State}
 use Rattle.model.specs.Table.{blank, product, productAt, chainNumber, chainOf, added}
-use Rattle.model.specs.Rules.{accepted, with, laneOf}
+use Rattle.model.specs.Rules.{accepted, with}
 use Rattle.model.specs.Ledger.{Ledger, ofCode, entryOf, entryMade, search}
 use Rattle.laws.specs.Tests.{same-or}
 use Rattle.laws.specs.ListLaws.{getD-update-same, getD-update-other}
@@ -19,12 +19,12 @@ use Rattle.representation.proofs.Discipline.Frame.{queued}
 use Rattle.representation.proofs.Causes.SlotCounts.{in-added}
 use Rattle.representation.proofs.WellFormed.{WellFormed, chained}
 use Rattle.history.proofs.Ties.Halves.{something, searched}
-use Rattle.history.proofs.Ties.Invariant.{Invariant, inChain}
+use Rattle.history.proofs.Ties.Invariant.{Tied, inChain}
 use Rattle.history.proofs.ChainHalf.ChainStretches.{SameOr, searched-here}
 use Rattle.history.proofs.ChainHalf.TrailLeaves.{Turn, turn-others}
 use Rattle.history.proofs.CallsKeep.Entries.{search-drops-other, search-made, search-made-other}
 use Rattle.history.proofs.CallsKeep.SlotFacts.{standing-once, retains-queued}
-use Rattle.history.proofs.CallsKeep.Respects.{Respects, looks-kept, trail-kept, looking-kept, sections-same, outs-same, Keeps}
+use Rattle.history.proofs.CallsKeep.Respects.{heads, Respects, sections-same, outs-same, Keeps}
 
 -- ---- the first free slot
 
@@ -57,7 +57,7 @@ module _ (s : State) (w : WellFormed s) (p : Product) (f : isEmpty (s .table .fr
 
 -- ---- add
 
-module _ {past : ℕ → Ledger} {k : ℕ} {s : State} {g : Ledger} (v : Invariant past k s g)
+module _ {k : ℕ} {s : State} {g : Ledger} (v : Tied k s g)
     (c d n : ℕ) (f : isEmpty (s .table .free) ≡ false) (w : WellFormed (with s (s .engine) (added (product c d n) (s .table)))) where
   abbrev fresh : ℕ
   fresh = first (s .table .free)
@@ -105,6 +105,7 @@ module _ {past : ℕ → Ledger} {k : ℕ} {s : State} {g : Ledger} (v : Invaria
     kept = turn-added .kept;
     anchored = λ z x m m′ h. inChain
         (omega (arith, in-added (s .table) (v .wellFormed .table .chains) x (product c d n) f, count-first x (s .table .free) f));
+    chains = heads suffix;
   }
 
   entries-added : (b : ℕ) → search g′ b ≡ searched (u .products) b (chainOf u b)
@@ -122,17 +123,14 @@ module _ {past : ℕ → Ledger} {k : ℕ} {s : State} {g : Ledger} (v : Invaria
           search-made-other b (entryOf c fresh d n) _ (e .0)
           ∙ (search-drops-other b c (g .entries) (e .0) ∙ (v .entries b ∙ sym (turn-others turn-added b (e .0))))
 
-  pub keeps-add : Keeps past k s (with s (s .engine) u) g g′
+  pub keeps-add : Keeps k s (with s (s .engine) u) g g′
   keeps-add = record {
-    invariant = record {
+    tied = record {
       wellFormed = w;
       entries = entries-added;
       sections = sections-same (s .engine) (λ i. refl) (v .sections);
       outs = outs-same (s .engine) (λ x. refl) (v .outs);
       grace = v .grace;
-      looking = λ i. looking-kept i (laneOf s i .lookup)
-          (λ b p l. looks-kept respects-added past i b p (λ z q m. m) (λ q e m. m) (λ q e m. m)
-          (trail-kept respects-added past b (suffix b) p)) (v .looking i);
     };
     respects = respects-added;
   }

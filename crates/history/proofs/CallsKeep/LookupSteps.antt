@@ -1,11 +1,10 @@
 -- What a step does to its lookup, what the trail says of its answer, and one lane's lookup anew.
-use Prim.Native.Nat.{ℕ, suc, _<_}
-use mathlib.Core.Path.{_≡_, refl, sym, ap, _∙_}
+use Prim.Native.Nat.{ℕ, _<_}
+use mathlib.Core.Path.{_≡_, refl, ap, _∙_}
 use mathlib.Core.Logic.{inl, inr, _≢_}
 use mathlib.Core.Bool.{true, false}
-use mathlib.Core.List.{List, List·Memᴰ}
+use mathlib.Core.List.{List}
 use native.Mathlib.Omega.{arith}
-use lib.ListN.{length}
 use lib.Dec.{eqb}
 use borrow.Author.Tests.{eq-eqb}
 use Rattle.model.specs.Word.{none}
@@ -15,15 +14,15 @@ use Rattle.model.specs.Table.{productAt, linkOf}
 use Rattle.model.specs.Rules.{laneOf, withLane, Outcome, going, found, absent, findAt, outcome, outcomeAnswer, continued}
 use Rattle.model.specs.Ledger.{Section, Search, Ledger, isAnswer}
 use Rattle.laws.specs.Tests.{clash, same-or}
-use Rattle.laws.specs.ListLaws.{update-cases, getD-update-same, getD-update-other}
+use Rattle.laws.specs.ListLaws.{update-cases}
 use Rattle.representation.proofs.WellFormed.{WellFormed, chained}
-use Rattle.history.proofs.Ties.Halves.{Window, Looks, Looking, RetainedBy}
-use Rattle.history.proofs.Ties.Invariant.{Invariant}
+use Rattle.history.proofs.Ties.Halves.{Window, Looks, RetainedBy}
+use Rattle.history.proofs.Ties.Invariant.{Tied}
 use Rattle.history.proofs.EngineHalf.Grace.{grace-same}
 use Rattle.history.proofs.ChainHalf.ChainStretches.{SameOr}
 use Rattle.history.proofs.ChainHalf.Trail.{trail-none, trail-found}
 use Rattle.history.proofs.CallsKeep.SlotFacts.{standing-once, standing-some, retains-queued, queued-lane}
-use Rattle.history.proofs.CallsKeep.Respects.{Respects, respects-still, looking-still, sections-same, outs-same, Keeps}
+use Rattle.history.proofs.CallsKeep.Respects.{respects-still, sections-same, outs-same, Keeps}
 
 -- the ledger's lookups become qs
 abbrev withSearches : List Search → Ledger → Ledger
@@ -50,7 +49,7 @@ stepped-cases t c p = at (same-or p none)
     at (inl e) = rw (eq-eqb p none e) (ends e)
     at (inr n) = on n (same-or (productAt (t .products) p .code) c)
 
-module _ {past : ℕ → Ledger} {k : ℕ} {s : State} {g : Ledger} (v : Invariant past k s g) where
+module _ {k : ℕ} {s : State} {g : Ledger} (v : Tied k s g) where
   -- ---- what the trail says of an answer
 
   -- a retained slot is in no chain, and is a slot
@@ -64,23 +63,20 @@ module _ {past : ℕ → Ledger} {k : ℕ} {s : State} {g : Ledger} (v : Invaria
   chained-some x h = standing-some (v .wellFormed) x (omega arith)
 
   -- the answer of a step is one of the lookup's window
-  pub answer-window : (i c p : ℕ) (l : Looks past k (s .table) g i c p) (o : Outcome) {q : Lookup} → Stepped (s .table) c p o q
-      → isAnswer (outcomeAnswer o) ≡ true → Window past (l .noted .started) k c (outcomeAnswer o)
+  pub answer-window : {past : ℕ → Ledger} (q : Search) (i c p : ℕ) → Looks past k (s .table) g q i c p → (o : Outcome) {l : Lookup}
+      → Stepped (s .table) c p o l → isAnswer (outcomeAnswer o) ≡ true → Window past (q .started) k c (outcomeAnswer o)
   unfolding outcomeAnswer
-  answer-window i c p l o (ends e) h = trail-none (s .table) c p e chained-some (retained-some (l .section)) (l .trail)
-  answer-window i c p l o (finds n e) h = trail-found (s .table) c p n e (l .trail)
-  answer-window i c p l o (goes n e) h = clash h refl
+  answer-window q i c p l o (ends e) h = trail-none (s .table) c p e chained-some (retained-some (l .section)) (l .trail)
+  answer-window q i c p l o (finds n e) h = trail-found (s .table) c p n e (l .trail)
+  answer-window q i c p l o (goes n e) h = clash h refl
 
   -- ---- one lane's lookup anew
 
-  -- lane i's lookup becomes l, and the ledger's lookups become qs, which differ in those of lane i alone
-  pub keeps-lookup : (i : ℕ) (f : Lane → Lane) (l : Lookup) (qs : List Search) → i < length (s .engine .lanes)
-      → f (laneOf s i) ≡ setLookup l (laneOf s i) → WellFormed (withLane s i f)
-      → ((q : Search) → q .lane ≢ i → List·Memᴰ q (g .searches) → List·Memᴰ q qs)
-      → ((q : Search) → q .lane ≢ i → List·Memᴰ q qs → List·Memᴰ q (g .searches))
-      → Looking past (suc k) (s .table) (withSearches qs g) i l → Keeps past k s (withLane s i f) g (withSearches qs g)
-  keeps-lookup i f l qs inside is w to of mine = record {
-    invariant = record {
+  -- lane i's lookup becomes l, and the ledger's lookups become qs
+  pub keeps-lookup : (i : ℕ) (f : Lane → Lane) (l : Lookup) (qs : List Search) → f (laneOf s i) ≡ setLookup l (laneOf s i) → WellFormed (withLane s i f)
+      → Keeps k s (withLane s i f) g (withSearches qs g)
+  keeps-lookup i f l qs is w = record {
+    tied = record {
       wellFormed = w;
       entries = v .entries;
       sections = sections-same (atLane i f (s .engine)) reading (v .sections);
@@ -88,22 +84,10 @@ module _ {past : ℕ → Ledger} {k : ℕ} {s : State} {g : Ledger} (v : Invaria
       grace = grace-same i f (s .engine) (ap (λ (l : Lane). l .queues) is) (ap (λ (l : Lane). l .pending) is) (ap (λ (l : Lane). l .snapshot) is)
           (λ x q. let r = v .grace .reads x i q in
           (ap (λ (l : Lane). l .online) is ∙ r .0, ap (λ (l : Lane). l .reading) is ∙ r .1, ap (λ (l : Lane). l .quiescent) is)) (v .grace);
-      looking = λ j. go j (same-or j i);
     };
-    respects = r;
+    respects = respects-still k (s .table) g (withSearches qs g) refl (λ z m o. m);
   }
     where
-      g′ : Ledger
-      g′ = withSearches qs g
-
-      r : Respects k (s .table) (s .table) g g′
-      r = respects-still k (s .table) g g′ refl (λ z m o. m)
-
       reading : (j : ℕ) → laneAt (atLane i f (s .engine)) j .reading ≡ laneOf s j .reading
       reading = update-cases freshLane (λ (j : ℕ) (l : Lane). l .reading ≡ laneOf s j .reading) (s .engine .lanes) i f (λ j. refl)
           (ap (λ (l : Lane). l .reading) is)
-
-      go : (j : ℕ) → SameOr j i → Looking past (suc k) (s .table) g′ j (laneAt (atLane i f (s .engine)) j .lookup)
-      go j (inl e) = rw (e, getD-update-same freshLane (s .engine .lanes) i f inside, is) mine
-      go j (inr e) = rw (getD-update-other freshLane (s .engine .lanes) i f j (e .0)) (looking-still r past j (laneOf s j .lookup) (λ z n m. m)
-          (λ q n m. to q (λ d. e .0 (sym n ∙ d)) m) (λ q n m. of q (λ d. e .0 (sym n ∙ d)) m) (v .looking j))

@@ -22,12 +22,12 @@ use Rattle.representation.proofs.Discipline.Frame.{queued}
 use Rattle.representation.proofs.Causes.SlotCounts.{in-handed}
 use Rattle.representation.proofs.WellFormed.{WellFormed, chained}
 use Rattle.history.proofs.Ties.Halves.{Retains, Waits, SafeIn, Grace, RetainedBy, WaitsFor}
-use Rattle.history.proofs.Ties.Invariant.{OutOf, Outs, Invariant, inChain}
+use Rattle.history.proofs.Ties.Invariant.{OutOf, Outs, Tied, inChain}
 use Rattle.history.proofs.EngineHalf.Grace.{grace-lane, grace-global, grace-wider}
 use Rattle.history.proofs.ChainHalf.ChainStretches.{SameOr, searched-agree}
 use Rattle.history.proofs.ChainHalf.Trail.{Kept, agree-chain}
 use Rattle.history.proofs.CallsKeep.SlotFacts.{standing-once, retains-map, waits-map}
-use Rattle.history.proofs.CallsKeep.Respects.{Respects, looks-kept, trail-kept, looking-kept, sections-same, Keeps}
+use Rattle.history.proofs.CallsKeep.Respects.{heads, Respects, sections-same, Keeps}
 
 -- ---- the first of a done queue is taken
 
@@ -62,7 +62,7 @@ module _ (s : State) (i : ℕ) (some : (isEmpty (laneOf s i .queues .done) && is
       go false t = rw t (h .lanes i .done (first (laneOf s i .queues .done)) j (done (laneOf s i .queues) t))
 
   -- sections and lookups are as they were
-  lanes-same : (j : ℕ) → (laneAt (lessHandedBack s i) j .reading ≡ laneOf s j .reading) × (laneAt (lessHandedBack s i) j .lookup ≡ laneOf s j .lookup)
+  pub lanes-same : (j : ℕ) → (laneAt (lessHandedBack s i) j .reading ≡ laneOf s j .reading) × (laneAt (lessHandedBack s i) j .lookup ≡ laneOf s j .lookup)
   lanes-same = go (fromGlobal s i) refl
     where
       Same : Engine → Type 0
@@ -75,7 +75,7 @@ module _ (s : State) (i : ℕ) (some : (isEmpty (laneOf s i .queues .done) && is
 
 -- ---- the call
 
-module _ {past : ℕ → Ledger} {k : ℕ} {s : State} {g : Ledger} (v : Invariant past k s g) (i : ℕ) (inside : i < length (s .engine .lanes))
+module _ {k : ℕ} {s : State} {g : Ledger} (v : Tied k s g) (i : ℕ) (inside : i < length (s .engine .lanes))
     (some : (isEmpty (laneOf s i .queues .done) && isEmpty (s .engine .global .done)) ≡ false) where
   abbrev x₀ : ℕ
   x₀ = handedBack s i
@@ -125,6 +125,7 @@ module _ {past : ℕ → Ledger} {k : ℕ} {s : State} {g : Ledger} (v : Invaria
     );
     kept = kept-reclaimed;
     anchored = λ z x m m′ c. inChain c;
+    chains = heads (λ c xs ys e. (xs, e));
   }
 
   outs-reclaimed : Outs (suc k) (lessHandedBack s i) (drops (ofSlot x₀) (g .outs))
@@ -141,19 +142,16 @@ module _ {past : ℕ → Ledger} {k : ℕ} {s : State} {g : Ledger} (v : Invaria
           let o = v .outs .out x (omega (arith, counts x)) in
           record { out = o .out; isOut = to-drops (ofSlot x₀) (o .out) (g .outs) (o .isOut) (rw (o .ofSlot) (e .1)); ofSlot = o .ofSlot }
 
-  pub keeps-handBack : WellFormed (with s (lessHandedBack s i) u) → Keeps past k s (with s (lessHandedBack s i) u) g (slotBack x₀ g)
+  pub keeps-handBack : WellFormed (with s (lessHandedBack s i) u) → Keeps k s (with s (lessHandedBack s i) u) g (slotBack x₀ g)
   unfolding reclaimed
   keeps-handBack w = record {
-    invariant = record {
+    tied = record {
       wellFormed = w;
       entries = λ c. v .entries c
           ∙ sym (searched-agree (s .table .products) (u .products) c (chainOf (s .table) c) (agree-chain (s .table) u kept-reclaimed c));
       sections = sections-same (lessHandedBack s i) (λ j. lanes-same s i some j .0) (v .sections);
       outs = outs-reclaimed;
       grace = grace-lessHandedBack s i some (grace-wider (s .engine) (λ x j q. inl (fewer x j q)) (v .grace));
-      looking = λ j. rw (lanes-same s i some j .1) (looking-kept j (laneOf s j .lookup)
-          (λ c p l. looks-kept respects-reclaimed past j c p (λ z q m. m) (λ q e m. m) (λ q e m. m)
-          (trail-kept respects-reclaimed past c (λ xs ys e. (xs, e)) p)) (v .looking j));
     };
     respects = respects-reclaimed;
   }

@@ -1,5 +1,5 @@
 -- Replace and delete, as slots that leave the chain of their code.
-use Prim.Native.Nat.{ℕ, suc, _<_}
+use Prim.Native.Nat.{ℕ, _<_}
 use mathlib.Core.Path.{_≡_, refl}
 use mathlib.Core.Bool.{true, false}
 use mathlib.Core.List.{[], _∷_}
@@ -13,7 +13,7 @@ use Rattle.model.specs.Ledger.{Ledger, ofCode, entryOf, entryMade, entryStruck,
 use Rattle.laws.specs.Counts.{mark-other, count-first}
 use Rattle.representation.proofs.Causes.SlotCounts.{in-replaced, in-deleted}
 use Rattle.representation.proofs.WellFormed.{WellFormed, chained}
-use Rattle.history.proofs.Ties.Invariant.{Invariant}
+use Rattle.history.proofs.Ties.Invariant.{Tied}
 use Rattle.history.proofs.CallsKeep.Respects.{Keeps}
 use Rattle.history.proofs.CallsKeep.Add.{product-other}
 use Rattle.history.proofs.CallsKeep.Retire.{keeps-retire}
@@ -21,15 +21,15 @@ use Rattle.history.proofs.CallsKeep.Removed.{link-other, leaves-deleted
 
 -- ---- the calls
 
-module _ {past : ℕ → Ledger} {k : ℕ} {s : State} {g : Ledger} (v : Invariant past k s g) (i c : ℕ) (inside : i < length (s .engine .lanes))
+module _ {k : ℕ} {s : State} {g : Ledger} (v : Tied k s g) (i c : ℕ) (inside : i < length (s .engine .lanes))
     (here : present (s .table) c ≡ true) where
   abbrev gone : ℕ
   gone = slotOf (s .table) c
 
-  pub keeps-delete : WellFormed (with s (retired s i gone) (deleted c (s .table))) → past (suc k) ≡ slotOut gone (entryStruck c g)
-      → Keeps past k s (with s (retired s i gone) (deleted c (s .table))) g (slotOut gone (entryStruck c g))
+  pub keeps-delete : WellFormed (with s (retired s i gone) (deleted c (s .table)))
+      → Keeps k s (with s (retired s i gone) (deleted c (s .table))) g (slotOut gone (entryStruck c g))
   unfolding deleted
-  keeps-delete w now = keeps-retire v i c gone (deleted c (s .table)) (drops (ofCode c) (g .entries)) (record {
+  keeps-delete w = keeps-retire v i c gone (deleted c (s .table)) (drops (ofCode c) (g .entries)) (record {
     wellFormed = w;
     inside = inside;
     new = [];
@@ -38,16 +38,16 @@ module _ {past : ℕ → Ledger} {k : ℕ} {s : State} {g : Ledger} (v : Invaria
     links = λ x e. link-other s (v .wellFormed) c here x e;
     chained = λ x e q. omega (arith, mark-other x gone e, in-deleted (s .table) (v .wellFormed .table .chains) x c here);
     entries = entries-deleted s (v .wellFormed) c here (g .entries) (v .entries);
-  }) now
+  })
 
   -- the ledger after replace
   abbrev replacing : ℕ → ℕ → Ledger
   replacing d n = slotOut gone (entryMade (entryOf c (first (s .table .free)) d n) g)
 
   pub keeps-replace : (d n : ℕ) → isEmpty (s .table .free) ≡ false → WellFormed (with s (retired s i gone) (replaced (product c d n) (s .table)))
-      → past (suc k) ≡ replacing d n → Keeps past k s (with s (retired s i gone) (replaced (product c d n) (s .table))) g (replacing d n)
+      → Keeps k s (with s (retired s i gone) (replaced (product c d n) (s .table))) g (replacing d n)
   unfolding replaced
-  keeps-replace d n f w now =
+  keeps-replace d n f w =
       keeps-retire v i c gone (replaced (product c d n) (s .table)) (entryOf c (first (s .table .free)) d n ∷ drops (ofCode c) (g .entries)) (record {
         wellFormed = w;
         inside = inside;
@@ -62,4 +62,4 @@ module _ {past : ℕ → Ledger} {k : ℕ} {s : State} {g : Ledger} (v : Invaria
           in-replaced (s .table) (v .wellFormed .table .chains) x (product c d n) f here,
         );
         entries = entries-replaced s (v .wellFormed) c here d n f (g .entries) (v .entries);
-      }) now
+      })

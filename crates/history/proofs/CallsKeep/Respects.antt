@@ -5,15 +5,23 @@ use mathlib.Core.List.{List, List·Memᴰ}
 use native.Mathlib.Omega.{arith}
 use Rattle.model.specs.State.{Lookup, idle, running, Engine, Product, Table, State}
 use Rattle.model.specs.Engine.{laneAt}
-use Rattle.model.specs.Table.{productAt}
+use Rattle.model.specs.Table.{productAt, chainOf}
 use Rattle.model.specs.Rules.{Answer}
-use Rattle.model.specs.Ledger.{Section, Search, Out, Ledger}
+use Rattle.model.specs.Ledger.{Section, Search, Out, Ledger, search}
 use Rattle.representation.proofs.Discipline.Frame.{queued}
 use Rattle.representation.proofs.WellFormed.{chained}
-use Rattle.history.proofs.Ties.Halves.{Window, Trail, Looks, Looking, RetainedBy}
-use Rattle.history.proofs.Ties.Invariant.{Sections, Outs, Invariant, Anchored, inChain, retained, Held}
+use Rattle.history.proofs.Ties.Halves.{searched, Window, Trail, Looks, Looking, RetainedBy}
+use Rattle.history.proofs.Ties.Invariant.{Sections, Outs, Tied, Anchored, inChain, retained, Held}
 use Rattle.history.proofs.CallsKeep.SlotFacts.{retains-map}
 use Rattle.history.proofs.ChainHalf.Trail.{Stay, Kept, Suffixes, trail-suffix}
+use Rattle.history.proofs.ChainHalf.TrailLeaves.{Leaves, trail-leaves}
+
+-- What a call makes of the chains of table t. `heads`: no slot leaves them, and slots come at heads alone. `place`: slot o leaves its chain, and every
+-- section that stays open retains it
+pub data Chains (t u : Table) (g g′ : Ledger) : Type 0 where
+  heads : ((c : ℕ) → Suffixes t u c) → Chains t u g g′
+  place : {d o : ℕ} {new : List ℕ} → Leaves t u d o new
+      → ((z : Section) → List·Memᴰ z (g .sections) → List·Memᴰ z (g′ .sections) → RetainedBy g′ z o) → Chains t u g g′
 
 -- A call takes table t and ledger g of instant k to u and g′.
 -- `was`: a section that is open after it and older was open before it. `stay`: the slots that an open section retains stay as they are.
@@ -23,6 +31,13 @@ pub record Respects (k : ℕ) (t u : Table) (g g′ : Ledger) : Type 0 where
   pub stay : (z : Section) → List·Memᴰ z (g′ .sections) → Stay t u (RetainedBy g z) (RetainedBy g′ z)
   pub kept : Kept t u
   pub anchored : (z : Section) (x : ℕ) → List·Memᴰ z (g .sections) → List·Memᴰ z (g′ .sections) → 0 < chained x t → Anchored u g′ z x
+  pub chains : Chains t u g g′
+
+-- a call leaves the open sections and the noted lookups of lane i
+pub record Spared (g g′ : Ledger) (i : ℕ) : Type 0 where
+  pub sections : (z : Section) → z .lane ≡ i → List·Memᴰ z (g .sections) → List·Memᴰ z (g′ .sections)
+  pub searches : (q : Search) → q .lane ≡ i → List·Memᴰ q (g .searches) → List·Memᴰ q (g′ .searches)
+  pub noOther : (q : Search) → q .lane ≡ i → List·Memᴰ q (g′ .searches) → List·Memᴰ q (g .searches)
 
 -- an answer of the window at instant k is one of the window a call later
 pub window-later : {past : ℕ → Ledger} {t k c : ℕ} (r : Answer) → Window past t k c r → Window past t (suc k) c r
@@ -37,47 +52,45 @@ module _ {k : ℕ} {t u : Table} {g g′ : Ledger} (r : Respects k t u g g′) w
       go m (e, inChain c) = (r .kept x c ∙ e, r .anchored z x (r .was z m (h .opened)) m c)
       go m (e, retained w) = let a = r .stay z m x w in (a .1 ∙ e, retained (a .0))
 
-  -- a running lookup stays on its trail, if the call leaves its section and its note, and its chain as `trail` says
-  pub looks-kept : (past : ℕ → Ledger) (i c p : ℕ)
-      → ((z : Section) → z .lane ≡ i → List·Memᴰ z (g .sections) → List·Memᴰ z (g′ .sections))
-      → ((q : Search) → q .lane ≡ i → List·Memᴰ q (g .searches) → List·Memᴰ q (g′ .searches))
-      → ((q : Search) → q .lane ≡ i → List·Memᴰ q (g′ .searches) → List·Memᴰ q (g .searches))
-      → ((z : Section) (n : ℕ) → List·Memᴰ z (g .sections) → List·Memᴰ z (g′ .sections) → n ≤ k
-      → Trail t (RetainedBy g z) (Window past n k c) c p → Trail u (RetainedBy g′ z) (Window past n (suc k) c) c p)
-      → Looks past k t g i c p → Looks past (suc k) u g′ i c p
-  looks-kept past i c p opens notes only trail l = record {
+  -- a trail of a section that stays open; R has what a whole search gives from now on
+  trail-kept : (c : ℕ) {S R : Answer → Type 0} → ((a : Answer) → S a → R a) → R (searched (u .products) c (chainOf u c))
+      → (z : Section) → List·Memᴰ z (g .sections) → List·Memᴰ z (g′ .sections)
+      → (p : ℕ) → Trail t (RetainedBy g z) S c p → Trail u (RetainedBy g′ z) R c p
+  trail-kept c {S} {R} sr whole z m m′ = go (r .chains)
+    where
+      go : Chains t u g g′ → (p : ℕ) → Trail t (RetainedBy g z) S c p → Trail u (RetainedBy g′ z) R c p
+      go (heads h) = trail-suffix t u c sr (r .stay z m′) (r .kept) (h c)
+      go (place l mine) = trail-leaves l c sr (r .stay z m′) (mine z m m′) whole
+
+  -- a running lookup stays on its trail, if the call leaves its lane
+  pub looks-kept : (past : ℕ → Ledger) (q : Search) (i c p : ℕ) → search (past (suc k)) c ≡ searched (u .products) c (chainOf u c) → Spared g g′ i
+      → Looks past k t g q i c p → Looks past (suc k) u g′ q i c p
+  looks-kept past q i c p now h l = record {
     section = l .section;
-    isOpen = opens (l .section) (l .ofLane) (l .isOpen);
+    isOpen = open′;
     ofLane = l .ofLane;
-    noted = l .noted;
-    isNoted = notes (l .noted) (l .notedLane) (l .isNoted);
+    isNoted = h .searches q (l .notedLane) (l .isNoted);
     notedLane = l .notedLane;
     notedCode = l .notedCode;
-    only = λ q m e. l .only q (only q e m) e;
+    only = λ x m e. l .only x (h .noOther x e m) e;
     since = omega (arith, l .since);
-    trail = trail (l .section) (l .noted .started) (l .isOpen) (opens (l .section) (l .ofLane) (l .isOpen)) (l .since) (l .trail);
+    trail = trail-kept c window-later whole (l .section) (l .isOpen) open′ p (l .trail);
   }
+    where
+      open′ : List·Memᴰ (l .section) (g′ .sections)
+      open′ = h .sections (l .section) (l .ofLane) (l .isOpen)
 
-  -- where no chain changes but by a slot put before its head
-  pub trail-kept : (past : ℕ → Ledger) (c : ℕ) → Suffixes t u c
-      → (p : ℕ) (z : Section) (n : ℕ) → List·Memᴰ z (g .sections) → List·Memᴰ z (g′ .sections) → n ≤ k
-      → Trail t (RetainedBy g z) (Window past n k c) c p → Trail u (RetainedBy g′ z) (Window past n (suc k) c) c p
-  trail-kept past c h p z n m m′ b = trail-suffix t u c window-later (r .stay z m′) (r .kept) h p
+      -- what a whole search gives from now on is in the window
+      whole : Window past (q .started) (suc k) c (searched (u .products) c (chainOf u c))
+      whole = record { instant = suc k; notBefore = omega (arith, l .since); notAfter = omega arith; whole = now }
 
--- the lookups of all lanes: those that run, by the law that is given for each
-pub looking-kept : {past : ℕ → Ledger} {k : ℕ} {t u : Table} {g g′ : Ledger} (i : ℕ) (l : Lookup)
-    → ((c p : ℕ) → l ≡ running c p → Looks past k t g i c p → Looks past (suc k) u g′ i c p) → Looking past k t g i l → Looking past (suc k) u g′ i l
-looking-kept i idle f h = tt
-looking-kept i (running c p) f h = f c p refl h
+  pub looking-kept : (past : ℕ → Ledger) (i : ℕ) → ((c : ℕ) → search (past (suc k)) c ≡ searched (u .products) c (chainOf u c)) → Spared g g′ i
+      → (l : Lookup) → Looking past k t g i l → Looking past (suc k) u g′ i l
+  looking-kept past i now h idle l = tt
+  looking-kept past i now h (running c p) (q, l) = (q, looks-kept past q i c p (now c) h l)
 
--- of a call that leaves the table: a lookup whose section and note it leaves
-pub looking-still : {k : ℕ} {t : Table} {g g′ : Ledger} (r : Respects k t t g g′) (past : ℕ → Ledger) (i : ℕ) (l : Lookup)
-    → ((z : Section) → z .lane ≡ i → List·Memᴰ z (g .sections) → List·Memᴰ z (g′ .sections))
-    → ((q : Search) → q .lane ≡ i → List·Memᴰ q (g .searches) → List·Memᴰ q (g′ .searches))
-    → ((q : Search) → q .lane ≡ i → List·Memᴰ q (g′ .searches) → List·Memᴰ q (g .searches))
-    → Looking past k t g i l → Looking past (suc k) t g′ i l
-looking-still r past i l opens notes only =
-    looking-kept i l (λ c p e. looks-kept r past i c p opens notes only (trail-kept r past c (λ xs ys z. (xs, z)) p))
+pub spared-same : (g : Ledger) (i : ℕ) → Spared g g i
+spared-same g i = record { sections = λ z e m. m; searches = λ q e m. m; noOther = λ q e m. m }
 
 -- a call that changes neither table nor slots out
 pub respects-still : (k : ℕ) (t : Table) (g g′ : Ledger) → g′ .outs ≡ g .outs
@@ -87,6 +100,7 @@ respects-still k t g g′ e f = record {
   stay = λ z m x w. (retains-map z x (λ o q l. rw e l) (λ l. m) w, refl, refl);
   kept = λ x c. refl;
   anchored = λ z x m m′ c. inChain c;
+  chains = heads (λ c xs ys z. (xs, z));
 }
 
 -- ---- the frame: what a call does not touch
@@ -108,7 +122,7 @@ outs-same f h s = record {
 
 -- ---- what is shown of each call
 
--- the invariant a call later, and what the call leaves to readers
-pub record Keeps (past : ℕ → Ledger) (k : ℕ) (s s′ : State) (g g′ : Ledger) : Type 0 where
-  pub invariant : Invariant past (suc k) s′ g′
+-- state and ledger are tied a call later, and what the call leaves to readers
+pub record Keeps (k : ℕ) (s s′ : State) (g g′ : Ledger) : Type 0 where
+  pub tied : Tied (suc k) s′ g′
   pub respects : Respects k (s .table) (s′ .table) g g′

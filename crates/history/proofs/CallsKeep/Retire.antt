@@ -1,5 +1,5 @@
 -- A slot leaves its chain and is retired, as replace and delete have it: every open section retains it, and lookups that stand on it go on.
-use Prim.Native.Nat.{ℕ, suc, _<_, _≤_}
+use Prim.Native.Nat.{ℕ, suc, _<_}
 use mathlib.Core.Path.{_≡_, refl, sym, ap, _∙_}
 use mathlib.Core.Logic.{_⊎_, inl, inr, ⊎-elim, _≢_}
 use mathlib.Core.Bool.{true}
@@ -21,16 +21,16 @@ use Rattle.laws.specs.Counts.{mark-self, mark-other, count-append}
 use Rattle.representation.proofs.Discipline.Frame.{queued}
 use Rattle.representation.proofs.Causes.SlotCounts.{in-retired}
 use Rattle.representation.proofs.WellFormed.{WellFormed, chained}
-use Rattle.history.proofs.Ties.Halves.{Retains, RetainedBy, Waits, WaitsFor, searched, Window, Trail, Grace}
-use Rattle.history.proofs.Ties.Invariant.{OutOf, Outs, Invariant}
+use Rattle.history.proofs.Ties.Halves.{Retains, RetainedBy, Waits, WaitsFor, searched, Grace}
+use Rattle.history.proofs.Ties.Invariant.{OutOf, Outs, Tied}
 use Rattle.history.proofs.Ties.Invariant.{inChain, retained}
 use Rattle.history.proofs.EngineHalf.Grace.{grace-lane, Newly, grace-wider}
 use Rattle.history.proofs.ChainHalf.ChainStretches.{SameOr, chained-at}
-use Rattle.history.proofs.ChainHalf.TrailLeaves.{Leaves, trail-leaves}
+use Rattle.history.proofs.ChainHalf.TrailLeaves.{Leaves}
 use Rattle.history.proofs.CallsKeep.SlotFacts.{standing-once, reading-online, retains-queued, retains-map}
-use Rattle.history.proofs.CallsKeep.Respects.{Respects, window-later, looks-kept, looking-kept, sections-same, Keeps}
+use Rattle.history.proofs.CallsKeep.Respects.{place, Respects, sections-same, Keeps}
 
-module _ {past : ℕ → Ledger} {k : ℕ} {s : State} {g : Ledger} (v : Invariant past k s g) where
+module _ {k : ℕ} {s : State} {g : Ledger} (v : Tied k s g) where
   -- Lane i retires slot o of code d: the table becomes u, the entries become es. Other queued slots keep product and link, other chained slots stay
   -- chained
   pub record Retires (i d o : ℕ) (u : Table) (es : List Entry) : Type 0 where
@@ -79,6 +79,7 @@ module _ {past : ℕ → Ledger} {k : ℕ} {s : State} {g : Ledger} (v : Invaria
       stay = λ z m x r. let q = retains-queued (v .outs) z x r in (still z x r, h .products x q, h .links x (other x q));
       kept = h .leaves .turn .kept;
       anchored = λ z x m m′ c. ⊎-elim (λ e. retained (rw e (mine z m))) (λ e. inChain (h .chained x (e .0) c)) (same-or x o);
+      chains = place (h .leaves) (λ z m m′. mine z m);
     }
 
     outs-retired : Outs (suc k) (retired s i o) (after .outs)
@@ -135,30 +136,17 @@ module _ {past : ℕ → Ledger} {k : ℕ} {s : State} {g : Ledger} (v : Invaria
         wider : Grace (Waits (after .outs) (g .sections)) (s .engine)
         wider = grace-wider (s .engine) newly (v .grace)
 
-    pub keeps-retire : past (suc k) ≡ after → Keeps past k s (with s (retired s i o) u) g after
-    keeps-retire now = record {
-      invariant = record {
+    pub keeps-retire : Keeps k s (with s (retired s i o) u) g after
+    keeps-retire = record {
+      tied = record {
         wellFormed = h .wellFormed;
         entries = h .entries;
-        sections = sections-same (retired s i o) (λ j. lane j .0) (v .sections);
+        sections = sections-same (retired s i o) reading (v .sections);
         outs = outs-retired;
         grace = grace-retired;
-        looking = λ j. rw (lane j .1) (looking-kept j (laneOf s j .lookup)
-            (λ c p l. looks-kept respects-retired past j c p (λ z q m. m) (λ q e m. m) (λ q e m. m) (trail c p)) (v .looking j));
       };
       respects = respects-retired;
     }
       where
-        lane : (j : ℕ) → (laneAt (retired s i o) j .reading ≡ laneOf s j .reading) × (laneAt (retired s i o) j .lookup ≡ laneOf s j .lookup)
-        lane = update-cases freshLane
-            (λ (j : ℕ) (l : Lane). (l .reading ≡ laneOf s j .reading) × (l .lookup ≡ laneOf s j .lookup))
-            (s .engine .lanes) i (retiring o) (λ j. (refl, refl)) (refl, refl)
-
-        -- what a whole search gives from now on is in every window
-        whole : (n c : ℕ) → n ≤ k → Window past n (suc k) c (searched (u .products) c (chainOf u c))
-        whole n c b = record { instant = suc k; notBefore = omega arith; notAfter = omega arith; whole = rw now (h .entries c) }
-
-        trail : (c p : ℕ) (z : Section) (n : ℕ) → List·Memᴰ z (g .sections) → List·Memᴰ z (g .sections) → n ≤ k
-            → Trail (s .table) (RetainedBy g z) (Window past n k c) c p
-            → Trail u (Retains (after .outs) (g .sections) z) (Window past n (suc k) c) c p
-        trail c p z n m m′ b = trail-leaves (h .leaves) c window-later (respects-retired .stay z m) (mine z m) (whole n c b) p
+        reading : (j : ℕ) → laneAt (retired s i o) j .reading ≡ laneOf s j .reading
+        reading = update-cases freshLane (λ (j : ℕ) (l : Lane). l .reading ≡ laneOf s j .reading) (s .engine .lanes) i (retiring o) (λ j. refl) refl

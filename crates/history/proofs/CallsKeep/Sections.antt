@@ -13,35 +13,33 @@ use Rattle.model.specs.Lists.{drops}
 use Rattle.model.specs.State.{Lane, State}
 use Rattle.model.specs.Engine.{freshLane, laneAt, setReading, atLane}
 use Rattle.model.specs.Rules.{laneOf, withLane, leaving}
-use Rattle.model.specs.Ledger.{Section, Ledger, sectionOf, searchOf, sectionOpened, sectionEnded, searchStruck}
+use Rattle.model.specs.Ledger.{Section, Ledger, sectionOf, sectionOpened, sectionEnded, searchStruck}
 use Rattle.laws.specs.Tests.{clash, same-or}
 use Rattle.laws.specs.ListLaws.{update-cases, getD-update-same, getD-update-other}
 use Rattle.laws.specs.Elements.{of-drops, to-drops}
 use Rattle.representation.proofs.WellFormed.{WellFormed}
-use Rattle.history.proofs.Ties.Halves.{Waits, Grace, WaitsFor, Looking}
-use Rattle.history.proofs.Ties.Invariant.{OpenOn, Sections, Invariant}
+use Rattle.history.proofs.Ties.Halves.{Waits, Grace, WaitsFor}
+use Rattle.history.proofs.Ties.Invariant.{OpenOn, Sections, Tied}
 use Rattle.history.proofs.EngineHalf.Grace.{grace-same, grace-wider}
 use Rattle.history.proofs.ChainHalf.ChainStretches.{SameOr}
 use Rattle.history.proofs.CallsKeep.SlotFacts.{queued-lane, retains-map, waits-map}
-use Rattle.history.proofs.CallsKeep.Respects.{Respects, respects-still, looking-still, outs-same, Keeps}
+use Rattle.history.proofs.CallsKeep.Respects.{respects-still, outs-same, Keeps}
 
-module _ {past : ℕ → Ledger} {k : ℕ} {s : State} {g : Ledger} (v : Invariant past k s g) where
+module _ {k : ℕ} {s : State} {g : Ledger} (v : Tied k s g) where
   -- lane i's section is opened or ended by f, and the ledger becomes g′: what both calls share
   keeps-reading : (i : ℕ) (f : Lane → Lane) (g′ : Ledger) → f (laneOf s i) .queues ≡ laneOf s i .queues → WellFormed (withLane s i f)
       → g′ .entries ≡ g .entries → g′ .outs ≡ g .outs
       → Sections (suc k) (atLane i f (s .engine)) (g′ .sections) → Grace (WaitsFor g′) (atLane i f (s .engine))
-      → (r : Respects k (s .table) (s .table) g g′)
-      → ((j : ℕ) → Looking past (suc k) (s .table) g′ j (laneAt (atLane i f (s .engine)) j .lookup)) → Keeps past k s (withLane s i f) g g′
-  keeps-reading i f g′ q w ee eo zs gr r looks = record {
-    invariant = record {
+      → ((z : Section) → List·Memᴰ z (g′ .sections) → z .opened ≤ k → List·Memᴰ z (g .sections)) → Keeps k s (withLane s i f) g g′
+  keeps-reading i f g′ q w ee eo zs gr was = record {
+    tied = record {
       wellFormed = w;
       entries = rw ee (v .entries);
       sections = zs;
       outs = rw eo (outs-same (atLane i f (s .engine)) (queued-lane i f (s .engine) q) (v .outs));
       grace = gr;
-      looking = looks;
     };
-    respects = r;
+    respects = respects-still k (s .table) g g′ eo was;
   }
 
   -- a lane other than i reads as before
@@ -86,19 +84,12 @@ module _ {past : ℕ → Ledger} {k : ℕ} {s : State} {g : Ledger} (v : Invaria
             let u = v .sections .section j (sym (reading-other i (setReading true) j (e .0)) ∙ r) in
             record { section = u .section; isOpen = List·Memᴰ·tail (u .isOpen); ofLane = u .ofLane }
 
-    pub keeps-begin : Keeps past k s (withLane s i (setReading true)) g (sectionOpened i (suc k) g)
+    pub keeps-begin : Keeps k s (withLane s i (setReading true)) g (sectionOpened i (suc k) g)
     keeps-begin = keeps-reading i (setReading true) (sectionOpened i (suc k) g) refl w refl refl sections-begin
-        (grace-same i (setReading true) (s .engine) refl refl refl (λ x q. (before .reads x i q .0, refl, refl)) before) r
-        (λ j. rw (lookup j) (looking-still r past j (laneOf s j .lookup) (λ z n m. List·Memᴰ·tail m) (λ q n m. m) (λ q n m. m) (v .looking j)))
+        (grace-same i (setReading true) (s .engine) refl refl refl (λ x q. (before .reads x i q .0, refl, refl)) before) (λ z m o. older z o m)
       where
         before : Grace (Waits (g .outs) (new ∷ g .sections)) (s .engine)
         before = grace-wider (s .engine) (λ x j q. inl (fewer x j q)) (v .grace)
-
-        r : Respects k (s .table) (s .table) g (sectionOpened i (suc k) g)
-        r = respects-still k (s .table) g (sectionOpened i (suc k) g) refl (λ z m o. older z o m)
-
-        lookup : (j : ℕ) → laneAt (atLane i (setReading true) (s .engine)) j .lookup ≡ laneOf s j .lookup
-        lookup = update-cases freshLane (λ (j : ℕ) (l : Lane). l .lookup ≡ laneOf s j .lookup) (s .engine .lanes) i (setReading true) (λ j. refl) refl
 
   -- ---- end: the lane has no section then, and no lookup
 
@@ -133,21 +124,10 @@ module _ {past : ℕ → Ledger} {k : ℕ} {s : State} {g : Ledger} (v : Invaria
               ofLane = u .ofLane;
             }
 
-    pub keeps-end : Keeps past k s (withLane s i leaving) g (searchStruck i (sectionEnded i g))
+    pub keeps-end : Keeps k s (withLane s i leaving) g (searchStruck i (sectionEnded i g))
     keeps-end = keeps-reading i leaving (searchStruck i (sectionEnded i g)) refl w refl refl sections-end
-        (grace-same i leaving (s .engine) refl refl refl (λ x q. absurd (others (q .section) (q .retains .isOpen) (q .ofLane))) before) r
-        (λ j. looks j (same-or j i))
+        (grace-same i leaving (s .engine) refl refl refl (λ x q. absurd (others (q .section) (q .retains .isOpen) (q .ofLane))) before)
+        (λ z m o. left z m .0)
       where
         before : Grace (Waits (g .outs) rest) (s .engine)
         before = grace-wider (s .engine) (λ x j q. inl (fewer-end x j q)) (v .grace)
-
-        r : Respects k (s .table) (s .table) g (searchStruck i (sectionEnded i g))
-        r = respects-still k (s .table) g (searchStruck i (sectionEnded i g)) refl (λ z m o. left z m .0)
-
-        -- the lane's own lookup, if one ran, is at rest; of another lane both section and note stay
-        looks : (j : ℕ) → SameOr j i → Looking past (suc k) (s .table) (searchStruck i (sectionEnded i g)) j (laneAt (atLane i leaving (s .engine)) j .lookup)
-        looks j (inl e) = rw (e, getD-update-same freshLane (s .engine .lanes) i leaving inside) tt
-        looks j (inr e) =
-            rw (getD-update-other freshLane (s .engine .lanes) i leaving j (e .0)) (looking-still r past j (laneOf s j .lookup)
-            (λ z n m. to-drops (sectionOf i) z (g .sections) m (rw n (e .1))) (λ q n m. to-drops (searchOf i) q (g .searches) m (rw n (e .1)))
-            (λ q n m. of-drops (searchOf i) q (g .searches) m .0) (v .looking j))

@@ -33,25 +33,27 @@ module _ {A : Type 0} where
 pub invariant-fresh : (past : ℕ → Ledger) (z : Sizes) → WellFormed (fresh z) → Invariant past 0 (fresh z) empty
 unfolding fresh searched searchIn count later
 invariant-fresh past z w = record {
-  wellFormed = w;
-  entries = λ c. sym (ap (searched _ c) (getD-replicate {A = List ℕ} chainCount (chainNumber c) []));
-  sections = record {
-    reading = λ s m. absurd (List·Memᴰ·not-nil m);
-    section = λ i r. clash r (ap (λ l. l .reading) (lane i));
-    opened = λ s m. absurd (List·Memᴰ·not-nil m);
-  };
-  outs = record {
-    out = λ x p. absurd (omega (arith, sum-replicate (inLane x) (laneCount z) freshLane refl));
-    isQueued = λ o m. absurd (List·Memᴰ·not-nil m);
-    before = λ o s m n. absurd (List·Memᴰ·not-nil m);
-  };
-  grace = record {
-    word = omega arith;
-    asked = quiet (record { none = λ i. ap (λ l. l .pending) (lane i); behind = refl });
-    snapshots = λ i h. ap (λ l. l .snapshot) (lane i);
-    reads = λ x i q. absurd (List·Memᴰ·not-nil (q .retains .isOut));
-    global = nobody _;
-    lanes = λ j. nobody _;
+  tied = record {
+    wellFormed = w;
+    entries = λ c. sym (ap (searched _ c) (getD-replicate {A = List ℕ} chainCount (chainNumber c) []));
+    sections = record {
+      reading = λ s m. absurd (List·Memᴰ·not-nil m);
+      section = λ i r. clash r (ap (λ l. l .reading) (lane i));
+      opened = λ s m. absurd (List·Memᴰ·not-nil m);
+    };
+    outs = record {
+      out = λ x p. absurd (omega (arith, sum-replicate (inLane x) (laneCount z) freshLane refl));
+      isQueued = λ o m. absurd (List·Memᴰ·not-nil m);
+      before = λ o s m n. absurd (List·Memᴰ·not-nil m);
+    };
+    grace = record {
+      word = omega arith;
+      asked = quiet (record { none = λ i. ap (λ l. l .pending) (lane i); behind = refl });
+      snapshots = λ i h. ap (λ l. l .snapshot) (lane i);
+      reads = λ x i q. absurd (List·Memᴰ·not-nil (q .retains .isOut));
+      global = nobody _;
+      lanes = λ j. nobody _;
+    };
   };
   looking = λ i. rw (lane i) tt;
 }

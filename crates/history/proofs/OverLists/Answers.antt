@@ -62,7 +62,7 @@ module _ {past : ℕ → Ledger} {k : ℕ} {s : State} {g : Ledger} (v : Invaria
     where
       go : (l : Lookup) → isRunning l ≡ true → Looking past k (s .table) g i l → Noted g i
       go idle e l = clash e refl
-      go (running c p) e l = record { noted = l .noted; isNoted = l .isNoted; ofLane = l .notedLane }
+      go (running c p) e (q, l) = record { noted = q; isNoted = l .isNoted; ofLane = l .notedLane }
 
   pub step-answered : (i : ℕ) → isAnswer (answer s (step i)) ≡ true → Answered past k g i (answer s (step i))
   unfolding result outcome outcomeAnswer
@@ -75,19 +75,19 @@ module _ {past : ℕ → Ledger} {k : ℕ} {s : State} {g : Ledger} (v : Invaria
       go : (l : Lookup) → Looking past k (s .table) g i l → isAnswer (outcomeAnswer (outcome (s .table) l)) ≡ true
           → Answered past k g i (outcomeAnswer (outcome (s .table) l))
       go idle l h = clash h refl
-      go (running c p) l h = record {
-        noted = l .noted;
+      go (running c p) (q, l) h = record {
+        noted = q;
         isNoted = l .isNoted;
         ofLane = l .notedLane;
-        window = rw (l .notedCode) (answer-window v i c p l (outcome (s .table) (running c p)) (stepped-cases (s .table) c p) h);
+        window = rw (l .notedCode) (answer-window (v .tied) q i c p l (outcome (s .table) (running c p)) (stepped-cases (s .table) c p) h);
       }
 
   -- ---- finds
 
   -- a slot that is chained or retained is one of the table's
   pub anchored-inside : (z : Section) (x : ℕ) → Anchored (s .table) g z x → x < s .sizes .slots
-  anchored-inside z x (inChain c) = v .wellFormed .range x (omega arith)
-  anchored-inside z x (retained r) = v .wellFormed .range x (omega (arith, retains-queued (v .outs) z x r))
+  anchored-inside z x (inChain c) = v .tied .wellFormed .range x (omega arith)
+  anchored-inside z x (retained r) = v .tied .wellFormed .range x (omega (arith, retains-queued (v .tied .outs) z x r))
 
   pub step-found : (i : ℕ) → answer s (step i) .status ≡ 0 → answer s (step i) .a ≡ 1 → Found k s g i (answer s (step i))
   unfolding result outcomeAnswer outcome
@@ -95,18 +95,18 @@ module _ {past : ℕ → Ledger} {k : ℕ} {s : State} {g : Ledger} (v : Invaria
       (λ z e. go (laneOf s i .lookup) (v .looking i)) (λ m e. absurd (omega arith))
     where
       -- the slot found is chained, or the finder's section retains it
-      at : (c p : ℕ) (l : Looks past k (s .table) g i c p) (o : Outcome) (n : Lookup) → Stepped (s .table) c p o n → outcomeAnswer o .a ≡ 1
+      at : (q : Search) (c p : ℕ) (l : Looks past k (s .table) g q i c p) (o : Outcome) (n : Lookup) → Stepped (s .table) c p o n → outcomeAnswer o .a ≡ 1
           → Found k s g i (outcomeAnswer o)
-      at c p l o n (ends e) h = absurd (omega arith)
-      at c p l o n (goes m e) h = absurd (omega arith)
-      at c p l o n (finds m e) h = record {
+      at q c p l o n (ends e) h = absurd (omega arith)
+      at q c p l o n (goes m e) h = absurd (omega arith)
+      at q c p l o n (finds m e) h = record {
         finder = l .section;
         isOpen = l .isOpen;
         ofLane = l .ofLane;
         code = c;
         only = l .only;
         held = record {
-          opened = v .sections .opened (l .section) (l .isOpen);
+          opened = v .tied .sections .opened (l .section) (l .isOpen);
           holds = λ b. (ap (λ (b : ℕ). product b (r .deposit) (r .material)) e, ⊎-elim (λ q. inChain q) (λ q. retained q) anchor);
         };
       }
@@ -120,7 +120,7 @@ module _ {past : ℕ → Ledger} {k : ℕ} {s : State} {g : Ledger} (v : Invaria
       go : (l : Lookup) → Looking past k (s .table) g i l → outcomeAnswer (outcome (s .table) l) .a ≡ 1
           → Found k s g i (outcomeAnswer (outcome (s .table) l))
       go idle l h = absurd (omega arith)
-      go (running c p) l h = at c p l _ _ (stepped-cases (s .table) c p) h
+      go (running c p) (q, l) h = at q c p l _ _ (stepped-cases (s .table) c p) h
 
   -- ---- hand-backs
 
@@ -131,11 +131,11 @@ module _ {past : ℕ → Ledger} {k : ℕ} {s : State} {g : Ledger} (v : Invaria
       now : firstOf (causes s (hand-back i)) ≡ 0 → result s (hand-back i) .status ≡ 0 → Ended g (handedBack s i)
       now z h =
           let k = accepts s (hand-back i) z in
-          let o = was-out v i (inside v i (k .lane .known)) (k .done) in
+          let o = was-out (v .tied) i (inside (v .tied) i (k .lane .known)) (k .done) in
           record {
             out = o .out;
             isOut = o .isOut;
             ofSlot = o .ofSlot;
-            over = λ z m n. none-retains v i (inside v i (k .lane .known)) (k .done) z
+            over = λ z m n. none-retains (v .tied) i (inside (v .tied) i (k .lane .known)) (k .done) z
                 (record { out = o .out; isOut = o .isOut; ofSlot = o .ofSlot; isIn = m; isOpen = n });
           }

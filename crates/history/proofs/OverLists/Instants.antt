@@ -52,9 +52,9 @@ search-changed c o g h = record {
   out = λ x l e. e;
   back = λ x. refl;
   opened = λ i k u. refl;
-  ended = λ i. refl;
+  ended = λ i u. refl;
   noted = λ i b k u. refl;
-  dropped = λ i l e. e;
+  dropped = λ i l u e. e;
 }
   where
     other : (b : ℕ) → changesCode b (on-state o) ≡ true → c ≢ b

@@ -15,6 +15,7 @@ use Rattle.history.proofs.Ties.Invariant.{Invariant, Held}
 use Rattle.history.proofs.CallsKeep.Respects.{Respects, held-kept, Keeps}
 use Rattle.history.proofs.CallsKeep.Unseen.{keeps-same}
 use Rattle.history.proofs.CallsKeep.EveryCall.{keeps-next}
+use Rattle.history.proofs.CallsKeep.Lookups.{invariant-same, looking-next}
 use Rattle.history.proofs.OverLists.Instants.{past, past-seam, ledger-snoc, length-snoc}
 use Rattle.history.proofs.OverLists.Stands.{Stands, reply-on, stands-next}
 
@@ -52,20 +53,23 @@ module _ (h : List Event) where
 
     -- from what is shown of the call
     later-of : (s′ : State) (g′ : Ledger) → ledger done′ ≡ g′ → Stands s′ (left m k) → RefusesSetUps (left m k) ks
-        → Keeps (past h) (length done) s s′ (ledger done) g′ → Later done s m k ks
-    later-of s′ g′ e v r p = record {
+        → Invariant (past h) (suc (length done)) s′ g′ → Respects (length done) (s .table) (s′ .table) (ledger done) g′ → Later done s m k ks
+    later-of s′ g′ e v r p q = record {
       state = s′;
-      at = record { all = all′; stands = v; refuses = r; invariant = rw (length-snoc done (event m k), e) (p .invariant) };
-      respects = rw e (p .respects);
+      at = record { all = all′; stands = v; refuses = r; invariant = rw (length-snoc done (event m k), e) p };
+      respects = rw e q;
     }
 
   pub later : (done : List Event) (s : State) (m : List ℕ) (k : Call) (ks : List Call) → At h done s m (k ∷ ks) → Later done s m k ks
   unfolding RefusesSetUps fedCall
-  later done s m (set-up c p n) ks a = later-of done s m (set-up c p n) ks a s (ledger done) (ledger-snoc done (event m (set-up c p n)))
-      (rw (refused-keeps m (set-up c p n) (a .refuses .0)) (a .stands)) (a .refuses .1) (keeps-same (a .invariant))
+  later done s m (set-up c p n) ks a = later-of done s m (set-up c p n) ks a s (ledger done) same
+      (rw (refused-keeps m (set-up c p n) (a .refuses .0)) (a .stands)) (a .refuses .1) (invariant-same (a .invariant) (past-next done s m (set-up c p n) ks a ∙ same)) (keeps-same (a .invariant .tied) .respects)
+    where
+      same : ledger (done ++ (event m (set-up c p n) ∷ [])) ≡ ledger done
+      same = ledger-snoc done (event m (set-up c p n))
   later done s m (on-state o) ks a = later-of done s m (on-state o) ks a (next s o) g′ same
       (stands-next (a .stands) o) (a .refuses)
-      (keeps-next (a .invariant) o (next-wellFormed s o (a .stands .wellFormed)) (past-next done s m (on-state o) ks a ∙ same))
+      (record { tied = k .tied; looking = looking-next (a .invariant) o k (past-next done s m (on-state o) ks a ∙ same) }) (k .respects)
     where
       g′ : Ledger
       g′ = fedCall (suc (length done)) (on-state o) (answer s o) (ledger done)
@@ -73,6 +77,9 @@ module _ (h : List Event) where
       same : ledger (done ++ (event m (on-state o) ∷ [])) ≡ g′
       same = ledger-snoc done (event m (on-state o))
           ∙ ap (λ (r : Answer). fedCall (suc (length done)) (on-state o) r (ledger done)) (reply-on (a .stands) o)
+
+      k : Keeps (length done) s (next s o) (ledger done) g′
+      k = keeps-next (a .invariant .tied) o (next-wellFormed s o (a .stands .wellFormed))
 
   -- ---- to an event, and to the end
 

@@ -65,13 +65,13 @@ one-changed o g h = record {
   };
   back = λ x. record { entries = h .entries; searches = h .searches; outs = one-drops outSlot (ofSlot x) (g .outs) (h .outs) };
   opened = λ i k u. record { entries = h .entries; searches = h .searches; outs = h .outs };
-  ended = λ i. record { entries = h .entries; searches = h .searches; outs = h .outs };
+  ended = λ i u. record { entries = h .entries; searches = h .searches; outs = h .outs };
   noted = λ i c k u. record {
     entries = h .entries;
     searches = one-new searchLane (record { lane = i; code = c; started = k }) (g .searches) (h .searches);
     outs = h .outs;
   };
-  dropped = λ i l d. record { entries = d .entries; searches = one-drops searchLane (searchOf i) (l .searches) (d .searches); outs = d .outs };
+  dropped = λ i l u d. record { entries = d .entries; searches = one-drops searchLane (searchOf i) (l .searches) (d .searches); outs = d .outs };
 }
 
 one-fedCall : (k : ℕ) (x : Call) (r : Answer) (g : Ledger) → OneEach g → OneEach (fedCall k x r g)

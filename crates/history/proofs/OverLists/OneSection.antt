@@ -36,16 +36,16 @@ module _ {past : ℕ → Ledger} {k : ℕ} {s : State} {g : Ledger} (v : Invaria
     out = λ x l d. d;
     back = λ x. h;
     opened = new;
-    ended = λ i. one-drops sectionLane (sectionOf i) (g .sections) h;
+    ended = λ i u. one-drops sectionLane (sectionOf i) (g .sections) h;
     noted = λ i c k u. h;
-    dropped = λ i l d. d;
+    dropped = λ i l u d. d;
   }
     where
       new : (i k : ℕ) → o ≡ begin i → OneSection (sectionOpened i k g)
       new i k u a b m n e = go (List·Memᴰ·cases-cons m) (List·Memᴰ·cases-cons n)
         where
           older : (x : Section) → List·Memᴰ x (g .sections) → x .lane ≡ i → ⊥
-          older x l d = clash (rw d at (v .sections .reading x l)) (accepts s (begin i) (rw u at z) .closed)
+          older x l d = clash (rw d at (v .tied .sections .reading x l)) (accepts s (begin i) (rw u at z) .closed)
 
           In : Section → Type 0
           In x = (x ≡ record { lane = i; opened = k }) ⊎ List·Memᴰ x (g .sections)

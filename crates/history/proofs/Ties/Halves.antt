@@ -131,24 +131,23 @@ pub data Trail (t : Table) (W : ℕ → Type 0) (S : Answer → Type 0) (c : ℕ
   -- p is a retired slot of another code, and the link that it kept leads on
   beyond : {p : ℕ} → W p → productAt (t .products) p .code ≢ c → Trail t W S c (getD (t .links) p none) → Trail t W S c p
 
--- lane i looks for code c and stands at p
-pub record Looks (past : ℕ → Ledger) (k : ℕ) (t : Table) (g : Ledger) (i c p : ℕ) : Type 0 where
+-- lane i looks for code c and stands at p; the ledger has noted it as q
+pub record Looks (past : ℕ → Ledger) (k : ℕ) (t : Table) (g : Ledger) (q : Search) (i c p : ℕ) : Type 0 where
   -- the open section that it runs in: every slot removed since is retained by it
   pub section : Section
   pub isOpen : List·Memᴰ section (g .sections)
   pub ofLane : section .lane ≡ i
   -- the ledger has noted it: needed to name it where it is answered, and its start begins the window
-  pub noted : Search
-  pub isNoted : List·Memᴰ noted (g .searches)
-  pub notedLane : noted .lane ≡ i
-  pub notedCode : noted .code ≡ c
+  pub isNoted : List·Memᴰ q (g .searches)
+  pub notedLane : q .lane ≡ i
+  pub notedCode : q .code ≡ c
   -- and has noted no other code of the lane: what is found is of the code that was looked for
-  pub only : (q : Search) → List·Memᴰ q (g .searches) → q .lane ≡ i → q .code ≡ c
-  pub since : noted .started ≤ k
+  pub only : (x : Search) → List·Memᴰ x (g .searches) → x .lane ≡ i → x .code ≡ c
+  pub since : q .started ≤ k
   -- its answer will be a whole search's, at an instant since its start
-  pub trail : Trail t (RetainedBy g section) (Window past (noted .started) k c) c p
+  pub trail : Trail t (RetainedBy g section) (Window past (q .started) k c) c p
 
 -- a lookup that runs is on its trail
 abbrev pub Looking : (past : ℕ → Ledger) (k : ℕ) (t : Table) (g : Ledger) (i : ℕ) → Lookup → Type 0
 Looking past k t g i idle = Unit {0}
-Looking past k t g i (running c p) = Looks past k t g i c p
+Looking past k t g i (running c p) = (q : Search) × Looks past k t g q i c p

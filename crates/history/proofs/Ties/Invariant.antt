@@ -4,8 +4,7 @@ use Prim.Native.Nat.{ℕ, _<_, _≤_}
 use mathlib.Core.Path.{_≡_}
 use mathlib.Core.Bool.{true}
 use mathlib.Core.List.{List, List·Memᴰ}
-use Rattle.model.specs.Word.{none}
-use Rattle.model.specs.State.{running, Engine, Product, Table, State}
+use Rattle.model.specs.State.{Engine, Product, Table, State}
 use Rattle.model.specs.Engine.{laneAt}
 use Rattle.model.specs.Table.{productAt, chainOf}
 use Rattle.model.specs.Rules.{laneOf}
@@ -44,8 +43,8 @@ pub record Outs (k : ℕ) (e : Engine) (outs : List Out) : Type 0 where
   -- the sections that a slot is out with are of the past: so none of them is one that is opened now
   pub before : (o : Out) (z : Section) → List·Memᴰ o outs → List·Memᴰ z (o .sections) → z .opened ≤ k
 
--- the invariant at instant k
-pub record Invariant (past : ℕ → Ledger) (k : ℕ) (s : State) (g : Ledger) : Type 0 where
+-- state and ledger are tied at instant k; of the lookups it says nothing
+pub record Tied (k : ℕ) (s : State) (g : Ledger) : Type 0 where
   -- the state is one that a legal memory stands for: each slot once, no code twice on the chains, off lanes do not read
   pub wellFormed : WellFormed s
   -- the entries are the chained slots: a whole search of the ledger gives what a search of the whole chain gives
@@ -56,6 +55,10 @@ pub record Invariant (past : ℕ → Ledger) (k : ℕ) (s : State) (g : Ledger) 
   pub outs : Outs k (s .engine) (g .outs)
   -- no slot that waits for a lane is done
   pub grace : Grace (WaitsFor g) (s .engine)
+
+-- the invariant at instant k
+pub record Invariant (past : ℕ → Ledger) (k : ℕ) (s : State) (g : Ledger) : Type 0 where
+  pub tied : Tied k s g
   -- each running lookup is on its trail
   pub looking : (i : ℕ) → Looking past k (s .table) g i (laneOf s i .lookup)
 
