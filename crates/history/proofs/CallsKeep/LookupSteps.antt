@@ -63,12 +63,12 @@ module _ {k : ℕ} {s : State} {g : Ledger} (v : Tied k s g) where
   chained-some x h = standing-some (v .wellFormed) x (omega arith)
 
   -- the answer of a step is one of the lookup's window
-  pub answer-window : {past : ℕ → Ledger} (q : Search) (i c p : ℕ) → Looks past k (s .table) g q i c p → (o : Outcome) {l : Lookup}
+  pub answer-window : {past : ℕ → Ledger} (q : Search) (i c n p : ℕ) → Looks past k (s .table) g q i c n p → (o : Outcome) {l : Lookup}
       → Stepped (s .table) c p o l → isAnswer (outcomeAnswer o) ≡ true → Window past (q .started) k c (outcomeAnswer o)
   unfolding outcomeAnswer
-  answer-window q i c p l o (ends e) h = trail-none (s .table) c p e chained-some (retained-some (l .section)) (l .trail)
-  answer-window q i c p l o (finds n e) h = trail-found (s .table) c p n e (l .trail)
-  answer-window q i c p l o (goes n e) h = clash h refl
+  answer-window q i c n p l o (ends e) h = trail-none (s .table) c n p e chained-some (retained-some (l .section)) (l .trail)
+  answer-window q i c n p l o (finds d e) h = trail-found (s .table) c n p d e (l .trail)
+  answer-window q i c n p l o (goes d e) h = clash h refl
 
   -- ---- one lane's lookup anew
 

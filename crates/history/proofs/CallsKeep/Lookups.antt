@@ -5,10 +5,11 @@ use mathlib.Core.Logic.{⊎-elim, _≢_}
 use mathlib.Core.Bool.{Bool, true, false}
 use mathlib.Core.List.{List·Memᴰ·tail, List·Memᴰ·cases-cons}
 use native.Mathlib.Omega.{arith}
+use lib.ListN.{length}
 use borrow.Author.Tests.{ne-eqb}
 use Rattle.model.specs.State.{Lookup, idle, running, isRunning, Lane, State, laneCount}
 use Rattle.model.specs.Engine.{freshLane, laneAt, atLane}
-use Rattle.model.specs.Table.{linkOf}
+use Rattle.model.specs.Table.{chainOf, linkOf}
 use Rattle.model.specs.Rules.{Op, start, step, end, Answer, refused, zeros, laneOf, refusal, Outcome, outcome, outcomeAnswer, continued, stepped, leaving}
 use Rattle.model.specs.Rules.{performed, result, answer, next}
 use Rattle.model.specs.Calls.{on-state}
@@ -77,9 +78,9 @@ module _ {k : ℕ} {s : State} {g : Ledger} (past : ℕ → Ledger) where
         (λ z m. rw (fedCall-accepted (suc k) o (result s o) g (status s o)) (spared i (suc k) o (result s o) g (m (status s o))))
         (λ n m. rw (fedCall-refused (suc k) o n g) (spared-same g i)) f
 
-    pub looks-stays : (q : Search) (c p : ℕ) → Looks past k (s .table) g q i c p
-        → Looks past (suc k) (next s o .table) (fedCall (suc k) (on-state o) (answer s o) g) q i c p
-    looks-stays q c p = looks-kept (h .respects) past q i c p (rw now (h .tied .entries c)) looks-spared
+    pub looks-stays : (q : Search) (c n p : ℕ) → Looks past k (s .table) g q i c n p
+        → Looks past (suc k) (next s o .table) (fedCall (suc k) (on-state o) (answer s o) g) q i c n p
+    looks-stays q c n p = looks-kept (h .respects) past q i c n p (rw now (h .tied .entries c)) looks-spared
 
     looking-stays : Looking past k (s .table) g i (laneOf s i .lookup)
         → Looking past (suc k) (next s o .table) (fedCall (suc k) (on-state o) (answer s o) g) i (laneOf (next s o) i .lookup)
@@ -100,18 +101,18 @@ module _ {k : ℕ} {s : State} {g : Ledger} (v : Tied k s g) (past : ℕ → Led
   unfolding performed fed
   looking-started i c z now =
       let a = accepts s (start i c) z in
-      rw (lane-after i (starting v c) (a .lane .known)) (new v i c, looks-start v past i c (a .reading) now)
+      rw (lane-after i (starting v c) (a .lane .known)) (new v i c, length (chainOf (s .table) c), looks-start v past i c (a .reading) now)
 
-  -- a step of lane i, whose lookup is q: it answers, or goes on to position p
-  pub data StepOf (q : Search) (i c : ℕ) : Type 0 where
-    answers : isAnswer (result s (step i)) ≡ true → laneOf (performed s (step i)) i .lookup ≡ idle → StepOf q i c
-    goesTo : (p : ℕ) → result s (step i) ≡ zeros → laneOf (performed s (step i)) i .lookup ≡ running c p
-        → Looks past (suc k) (performed s (step i) .table) (fed (suc k) (step i) (result s (step i)) g) q i c p → StepOf q i c
+  -- a step of lane i, whose lookup is q and may go n steps more: it answers, or goes on to position p, with one step less to go
+  pub data StepOf (q : Search) (i c n : ℕ) : Type 0 where
+    answers : isAnswer (result s (step i)) ≡ true → laneOf (performed s (step i)) i .lookup ≡ idle → StepOf q i c n
+    goesTo : (m p : ℕ) → n ≡ suc m → result s (step i) ≡ zeros → laneOf (performed s (step i)) i .lookup ≡ running c p
+        → Looks past (suc k) (performed s (step i) .table) (fed (suc k) (step i) (result s (step i)) g) q i c m p → StepOf q i c n
 
-  pub step-of : (q : Search) (i c p : ℕ) → refusal s (step i) ≡ 0 → past (suc k) ≡ fed (suc k) (step i) (result s (step i)) g
-      → laneOf s i .lookup ≡ running c p → Looks past k (s .table) g q i c p → StepOf q i c
+  pub step-of : (q : Search) (i c n p : ℕ) → refusal s (step i) ≡ 0 → past (suc k) ≡ fed (suc k) (step i) (result s (step i)) g
+      → laneOf s i .lookup ≡ running c p → Looks past k (s .table) g q i c n p → StepOf q i c n
   unfolding performed fed result outcomeAnswer
-  step-of q i c p z now e l = go _ _ (stepped-cases (s .table) c p) refl refl
+  step-of q i c n p z now e l = go _ _ (stepped-cases (s .table) c p) refl refl
     where
       after : laneOf (performed s (step i)) i .lookup ≡ continued (s .table) (running c p) (outcome (s .table) (running c p))
       after = ap (λ (l : Lane). l .lookup) (lane-after i (stepped (s .table)) (accepts s (step i) z .lane .known))
@@ -119,17 +120,17 @@ module _ {k : ℕ} {s : State} {g : Ledger} (v : Tied k s g) (past : ℕ → Led
 
       -- the outcome is a, and the lookup becomes m
       go : (a : Outcome) (m : Lookup) → Stepped (s .table) c p a m → outcome (s .table) (running c p) ≡ a
-          → continued (s .table) (running c p) (outcome (s .table) (running c p)) ≡ m → StepOf q i c
-      go a m (ends n) ea em = answers (ap (λ (a : Outcome). isAnswer (outcomeAnswer a)) (ap (outcome (s .table)) e ∙ ea)) (after ∙ em)
-      go a m (finds n d) ea em = answers (ap (λ (a : Outcome). isAnswer (outcomeAnswer a)) (ap (outcome (s .table)) e ∙ ea)) (after ∙ em)
-      go a m (goes n d) ea em = goesTo (linkOf (s .table) p) going′ (after ∙ em) (rw going′ (on (rw going′ at now)))
+          → continued (s .table) (running c p) (outcome (s .table) (running c p)) ≡ m → StepOf q i c n
+      go a m (ends x) ea em = answers (ap (λ (a : Outcome). isAnswer (outcomeAnswer a)) (ap (outcome (s .table)) e ∙ ea)) (after ∙ em)
+      go a m (finds x d) ea em = answers (ap (λ (a : Outcome). isAnswer (outcomeAnswer a)) (ap (outcome (s .table)) e ∙ ea)) (after ∙ em)
+      go a m (goes x d) ea em =
+          let r = looks-on v q i c n p x d l in goesTo (r .0) (linkOf (s .table) p) (r .1) going′ (after ∙ em) (rw going′ (on (rw going′ at now) (r .0) (r .2)))
         where
           going′ : result s (step i) ≡ zeros
           going′ = ap outcomeAnswer (ap (outcome (s .table)) e ∙ ea)
 
-          on : past (suc k) ≡ g → Looks past (suc k) (s .table) g q i c (linkOf (s .table) p)
-          on u = looks-kept (respects-still k (s .table) g g refl (λ z m o. m)) past q i c (linkOf (s .table) p) (rw u (v .entries c))
-              (spared-same g i) (looks-on v q i c p n d l)
+          on : past (suc k) ≡ g → (m : ℕ) → Looks past k (s .table) g q i c m (linkOf (s .table) p) → Looks past (suc k) (s .table) g q i c m (linkOf (s .table) p)
+          on u m = looks-kept (respects-still k (s .table) g g refl (λ z m o. m)) past q i c m (linkOf (s .table) p) (rw u (v .entries c)) (spared-same g i)
 
   looking-stepped : (i : ℕ) → Looking past k (s .table) g i (laneOf s i .lookup) → refusal s (step i) ≡ 0
       → past (suc k) ≡ fed (suc k) (step i) (result s (step i)) g → LookingAfter i (step i)
@@ -138,11 +139,11 @@ module _ {k : ℕ} {s : State} {g : Ledger} (v : Tied k s g) (past : ℕ → Led
     where
       go : (l : Lookup) → laneOf s i .lookup ≡ l → Looking past k (s .table) g i l → LookingAfter i (step i)
       go idle e l = clash (accepts s (step i) z .running) (ap isRunning e)
-      go (running c p) e (q, l) = at (step-of q i c p z now e l)
+      go (running c p) e (q, n, l) = at (step-of q i c n p z now e l)
         where
-          at : StepOf q i c → LookingAfter i (step i)
+          at : StepOf q i c n → LookingAfter i (step i)
           at (answers a b) = rw b tt
-          at (goesTo p′ a b h) = rw b (q, h)
+          at (goesTo m p′ d a b h) = rw b (q, m, h)
 
   looking-dropped : (i : ℕ) → refusal s (end i) ≡ 0 → LookingAfter i (end i)
   unfolding performed

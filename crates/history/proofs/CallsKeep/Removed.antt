@@ -80,6 +80,7 @@ module _ (s : State) (w : WellFormed s) (c : ℕ) (here : present (s .table) c �
     };
     link = link-kept;
     ahead = front-lacks;
+    few = omega arith;
   }
 
   pub entries-deleted : (es : List Entry) → ((b : ℕ) → searchIn b es ≡ searched (s .table .products) b (chainOf (s .table) b))
@@ -131,6 +132,7 @@ module _ (s : State) (w : WellFormed s) (c : ℕ) (here : present (s .table) c �
       turn = turn-replaced;
       link = link-kept;
       ahead = λ x h. rw (agree-ahead turn-replaced x h) (front-lacks x h);
+      few = omega arith;
     }
 
     pub entries-replaced : (es : List Entry) → ((b : ℕ) → searchIn b es ≡ searched (s .table .products) b (chainOf (s .table) b))

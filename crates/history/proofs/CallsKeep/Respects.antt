@@ -55,17 +55,17 @@ module _ {k : ℕ} {t u : Table} {g g′ : Ledger} (r : Respects k t u g g′) w
   -- a trail of a section that stays open; R has what a whole search gives from now on
   trail-kept : (c : ℕ) {S R : Answer → Type 0} → ((a : Answer) → S a → R a) → R (searched (u .products) c (chainOf u c))
       → (z : Section) → List·Memᴰ z (g .sections) → List·Memᴰ z (g′ .sections)
-      → (p : ℕ) → Trail t (RetainedBy g z) S c p → Trail u (RetainedBy g′ z) R c p
+      → (n p : ℕ) → Trail t (RetainedBy g z) S c n p → Trail u (RetainedBy g′ z) R c n p
   trail-kept c {S} {R} sr whole z m m′ = go (r .chains)
     where
-      go : Chains t u g g′ → (p : ℕ) → Trail t (RetainedBy g z) S c p → Trail u (RetainedBy g′ z) R c p
+      go : Chains t u g g′ → (n p : ℕ) → Trail t (RetainedBy g z) S c n p → Trail u (RetainedBy g′ z) R c n p
       go (heads h) = trail-suffix t u c sr (r .stay z m′) (r .kept) (h c)
       go (place l mine) = trail-leaves l c sr (r .stay z m′) (mine z m m′) whole
 
   -- a running lookup stays on its trail, if the call leaves its lane
-  pub looks-kept : (past : ℕ → Ledger) (q : Search) (i c p : ℕ) → search (past (suc k)) c ≡ searched (u .products) c (chainOf u c) → Spared g g′ i
-      → Looks past k t g q i c p → Looks past (suc k) u g′ q i c p
-  looks-kept past q i c p now h l = record {
+  pub looks-kept : (past : ℕ → Ledger) (q : Search) (i c n p : ℕ) → search (past (suc k)) c ≡ searched (u .products) c (chainOf u c) → Spared g g′ i
+      → Looks past k t g q i c n p → Looks past (suc k) u g′ q i c n p
+  looks-kept past q i c n p now h l = record {
     section = l .section;
     isOpen = open′;
     ofLane = l .ofLane;
@@ -74,7 +74,7 @@ module _ {k : ℕ} {t u : Table} {g g′ : Ledger} (r : Respects k t u g g′) w
     notedCode = l .notedCode;
     only = λ x m e. l .only x (h .noOther x e m) e;
     since = omega (arith, l .since);
-    trail = trail-kept c window-later whole (l .section) (l .isOpen) open′ p (l .trail);
+    trail = trail-kept c window-later whole (l .section) (l .isOpen) open′ n p (l .trail);
   }
     where
       open′ : List·Memᴰ (l .section) (g′ .sections)
@@ -87,7 +87,7 @@ module _ {k : ℕ} {t u : Table} {g g′ : Ledger} (r : Respects k t u g g′) w
   pub looking-kept : (past : ℕ → Ledger) (i : ℕ) → ((c : ℕ) → search (past (suc k)) c ≡ searched (u .products) c (chainOf u c)) → Spared g g′ i
       → (l : Lookup) → Looking past k t g i l → Looking past (suc k) u g′ i l
   looking-kept past i now h idle l = tt
-  looking-kept past i now h (running c p) (q, l) = (q, looks-kept past q i c p (now c) h l)
+  looking-kept past i now h (running c p) (q, n, l) = (q, n, looks-kept past q i c n p (now c) h l)
 
 pub spared-same : (g : Ledger) (i : ℕ) → Spared g g i
 spared-same g i = record { sections = λ z e m. m; searches = λ q e m. m; noOther = λ q e m. m }

@@ -5,6 +5,7 @@ use mathlib.Core.Logic.{⊎-elim, _≢_}
 use mathlib.Core.Bool.{true, cond}
 use mathlib.Core.List.{_∷_, List·Memᴰ·head, List·Memᴰ·cases-cons}
 use native.Mathlib.Omega.{arith}
+use lib.ListN.{length}
 use borrow.Author.Tests.{eq-eqb}
 use Rattle.model.specs.Word.{none}
 use Rattle.model.specs.Lists.{first, drops}
@@ -37,7 +38,7 @@ module _ {k : ℕ} {s : State} {g : Ledger} (v : Tied k s g) where
   keeps-start i c w = keeps-lookup v i (starting c) (running c (first (chainOf (s .table) c))) (new i c ∷ drops (searchOf i) (g .searches)) refl w
 
   pub looks-start : (past : ℕ → Ledger) (i c : ℕ) → laneOf s i .reading ≡ true → past (suc k) ≡ searchNoted (new i c) g
-      → Looks past (suc k) (s .table) (searchNoted (new i c) g) (new i c) i c (first (chainOf (s .table) c))
+      → Looks past (suc k) (s .table) (searchNoted (new i c) g) (new i c) i c (length (chainOf (s .table) c)) (first (chainOf (s .table) c))
   looks-start past i c reads now = record {
     section = z .section;
     isOpen = z .isOpen;
@@ -63,17 +64,22 @@ module _ {k : ℕ} {s : State} {g : Ledger} (v : Tied k s g) where
       (λ t. keeps-lookup v i (stepped (s .table)) _ (drops (searchOf i) (g .searches)) refl w)
       (λ t. keeps-lookup v i (stepped (s .table)) _ (g .searches) refl w)
 
-  -- a step at a slot of another code goes on to its link
-  pub looks-on : {past : ℕ → Ledger} (q : Search) (i c p : ℕ) → p ≢ none → productAt (s .table .products) p .code ≢ c
-      → Looks past k (s .table) g q i c p → Looks past k (s .table) g q i c (linkOf (s .table) p)
-  looks-on q i c p n d h = record {
-    section = h .section;
-    isOpen = h .isOpen;
-    ofLane = h .ofLane;
-    isNoted = h .isNoted;
-    notedLane = h .notedLane;
-    notedCode = h .notedCode;
-    only = h .only;
-    since = h .since;
-    trail = trail-step (s .table) c p n d (λ x. omega (arith, standing-once (v .wellFormed) x)) (retained-unchained v (h .section)) (h .trail);
-  }
+  -- a step at a slot of another code goes on to its link, with a step less to go
+  pub looks-on : {past : ℕ → Ledger} (q : Search) (i c n p : ℕ) → p ≢ none → productAt (s .table .products) p .code ≢ c
+      → Looks past k (s .table) g q i c n p → (m : ℕ) × (n ≡ suc m) × Looks past k (s .table) g q i c m (linkOf (s .table) p)
+  looks-on q i c n p a d h =
+      let r = trail-step (s .table) c n p a d (λ x. omega (arith, standing-once (v .wellFormed) x)) (retained-unchained v (h .section)) (h .trail) in (
+        r .0,
+        r .1,
+        record {
+          section = h .section;
+          isOpen = h .isOpen;
+          ofLane = h .ofLane;
+          isNoted = h .isNoted;
+          notedLane = h .notedLane;
+          notedCode = h .notedCode;
+          only = h .only;
+          since = h .since;
+          trail = r .2;
+        },
+      )

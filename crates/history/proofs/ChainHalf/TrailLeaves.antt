@@ -1,10 +1,10 @@
 -- The chain half: a lookup's trail through a call that takes a slot from its chain, or puts another in its place.
-use Prim.Native.Nat.{ℕ, zero, suc, _+_, _<_}
+use Prim.Native.Nat.{ℕ, zero, suc, _+_, _<_, _≤_}
 use mathlib.Core.Path.{_≡_, refl, sym, ap, _∙_}
 use mathlib.Core.Logic.{inl, inr, _≢_}
 use mathlib.Core.List.{List, [], _∷_, _++_, append-assoc}
 use native.Mathlib.Omega.{arith}
-use lib.ListN.{getD}
+use lib.ListN.{length, getD, length-append}
 use Rattle.model.specs.Word.{none}
 use Rattle.model.specs.Lists.{count, first}
 use Rattle.model.specs.State.{Table}
@@ -75,11 +75,12 @@ module _ {t u : Table} {d : ℕ} {old new : List ℕ} (m : Turn t u d old new) w
 regroup : (as′ bs cs ds : List ℕ) → as′ ++ (bs ++ (cs ++ ds)) ≡ (as′ ++ (bs ++ cs)) ++ ds
 regroup as′ bs cs ds = rw (append-assoc, append-assoc)
 
--- slot o, of code d, leaves its chain and keeps the link to what followed it; new comes in its place
+-- slot o, of code d, leaves its chain and keeps the link to what followed it; new, of at most one slot, comes in its place
 pub record Leaves (t u : Table) (d o : ℕ) (new : List ℕ) : Type 0 where
   pub turn : Turn t u d (o ∷ []) new
   pub link : getD (u .links) o none ≡ first (turn .rest)
   pub ahead : Lacks (u .products) d (turn .front)
+  pub few : length new ≤ 1
 
 module _ {t u : Table} {d o : ℕ} {new : List ℕ} (l : Leaves t u d o new) {W U : ℕ → Type 0} {S R : Answer → Type 0} (c : ℕ)
     (sr : (r : Answer) → S r → R r) (stay : Stay t u W U) (mine : U o) (whole : R (searched (u .products) c (chainOf u c))) where
@@ -95,21 +96,25 @@ module _ {t u : Table} {d o : ℕ} {new : List ℕ} (l : Leaves t u d o new) {W 
   o-kept = m .kept o (omega (arith, chained-at t d o, sizes m o, mark-self o))
 
   -- the lookup stands on the slot that leaves
-  stands-on : chainNumber c ≡ chainNumber d → S (searched (t .products) c (o ∷ m .rest)) → SameOr c d → Trail u U R c o
-  stands-on e s (inl f) = met mine (rw (o-kept, f) o-code) (rw o-kept (sr _ (rw (searched-here (t .products) c o (m .rest) (rw f o-code)) at s)))
-  stands-on e s (inr f) = beyond mine (rw o-kept (λ q. f .0 (sym q ∙ o-code)))
-      (rw (l .link) (live (m .front ++ new) (m .rest) (now-at m c e ∙ sym (append-assoc (m .front) new (m .rest))) refl rest))
+  stands-on : chainNumber c ≡ chainNumber d → (n : ℕ) → length (o ∷ m .rest) ≤ n → S (searched (t .products) c (o ∷ m .rest)) → SameOr c d → Trail u U R c n o
+  stands-on e n b s (inl f) = met mine (rw (o-kept, f) o-code) (rw o-kept (sr _ (rw (searched-here (t .products) c o (m .rest) (rw f o-code)) at s)))
+  stands-on e zero b s (inr f) = absurd (omega arith)
+  stands-on e (suc n) b s (inr f) = beyond {n = n} mine (rw o-kept (λ q. f .0 (sym q ∙ o-code)))
+      (rw (l .link) (live {n = n} (m .front ++ new) (m .rest) (now-at m c e ∙ sym (append-assoc (m .front) new (m .rest))) refl (omega arith) rest))
     where
       rest : R (searched (u .products) c (m .rest))
       rest = rw (searched-agree (t .products) (u .products) c (m .rest) (agree-behind m))
           (sr _ (rw (searched-on (t .products) c o (m .rest) (λ q. f .0 (sym q ∙ o-code))) at s))
 
   -- the slot that leaves lies before the lookup, which will not meet it
-  lies-before : chainNumber c ≡ chainNumber d → (p : ℕ) (xs us : List ℕ) (z : ℕ) → m .front ≡ xs ++ (z ∷ us) → p ≡ z
-      → S (searched (t .products) c ((z ∷ us) ++ (o ∷ m .rest))) → SameOr c d → Trail u U R c p
+  lies-before : chainNumber c ≡ chainNumber d → (n p : ℕ) (xs us : List ℕ) (z : ℕ) → m .front ≡ xs ++ (z ∷ us) → p ≡ z
+      → length ((z ∷ us) ++ (o ∷ m .rest)) ≤ n → S (searched (t .products) c ((z ∷ us) ++ (o ∷ m .rest))) → SameOr c d → Trail u U R c n p
   unfolding first
-  lies-before e p xs us z x f s q = live xs ((z ∷ us) ++ (new ++ m .rest)) (now-at m c e ∙ split-at) f (said q)
+  lies-before e n p xs us z x f b s q = live {n = n} xs ((z ∷ us) ++ (new ++ m .rest)) (now-at m c e ∙ split-at) f shorter (said q)
     where
+      shorter : length ((z ∷ us) ++ (new ++ m .rest)) ≤ n
+      shorter = omega (arith, l .few, length-append (z ∷ us) (new ++ m .rest), length-append new (m .rest), length-append (z ∷ us) (o ∷ m .rest))
+
       split-at : m .front ++ (new ++ m .rest) ≡ xs ++ ((z ∷ us) ++ (new ++ m .rest))
       split-at = ap (λ (l : List ℕ). l ++ (new ++ m .rest)) x ∙ append-assoc xs (z ∷ us) (new ++ m .rest)
 
@@ -124,17 +129,17 @@ module _ {t u : Table} {d o : ℕ} {new : List ℕ} (l : Leaves t u d o new) {W 
       ) at whole
       said (inr q) = rw (turn-gap m c (q .0) (z ∷ us) part) (sr _ s)
 
-  pub trail-leaves : (p : ℕ) → Trail t W S c p → Trail u U R c p
+  pub trail-leaves : (n p : ℕ) → Trail t W S c n p → Trail u U R c n p
   unfolding first
-  trail-leaves = trail-map t u c sr stay (λ p xs ys e f s. chain p xs ys e f s (same-or (chainNumber c) (chainNumber d)))
+  trail-leaves = trail-map t u c sr stay (λ n p xs ys e f b s. chain n p xs ys e f b s (same-or (chainNumber c) (chainNumber d)))
     where
-      chain : (p : ℕ) (xs ys : List ℕ) → chainOf t c ≡ xs ++ ys → p ≡ first ys → S (searched (t .products) c ys)
-          → SameOr (chainNumber c) (chainNumber d) → Trail u U R c p
-      chain p xs ys e f s (inr n) = live-suffix t u c sr stay (m .kept) p xs ys xs e (m .others c (n .0) ∙ e) f s
-      chain p xs ys e f s (inl n) = go (split xs ys (m .front) (m .rest) o (sym e ∙ was-at m c n))
+      chain : (n p : ℕ) (xs ys : List ℕ) → chainOf t c ≡ xs ++ ys → p ≡ first ys → length ys ≤ n → S (searched (t .products) c ys)
+          → SameOr (chainNumber c) (chainNumber d) → Trail u U R c n p
+      chain n p xs ys e f b s (inr a) = live-suffix t u c sr stay (m .kept) n p xs ys xs e (m .others c (a .0) ∙ e) f b s
+      chain n p xs ys e f b s (inl a) = go (split xs ys (m .front) (m .rest) o (sym e ∙ was-at m c a))
         where
-          go : Split xs ys (m .front) (m .rest) o → Trail u U R c p
-          go (ahead us a b) = live-suffix t u c sr stay (m .kept) p xs ys (m .front ++ (new ++ us)) e
-              (now-at m c n ∙ (ap (λ (l : List ℕ). m .front ++ (new ++ l)) b ∙ regroup (m .front) new us ys)) f s
-          go (behind [] a b) = rw (f ∙ ap first b) (stands-on n (rw b at s) (same-or c d))
-          go (behind (z ∷ us) a b) = lies-before n p xs us z a (f ∙ ap first b) (rw b at s) (same-or c d)
+          go : Split xs ys (m .front) (m .rest) o → Trail u U R c n p
+          go (ahead us x y) = live-suffix t u c sr stay (m .kept) n p xs ys (m .front ++ (new ++ us)) e
+              (now-at m c a ∙ (ap (λ (l : List ℕ). m .front ++ (new ++ l)) y ∙ regroup (m .front) new us ys)) f b s
+          go (behind [] x y) = rw (f ∙ ap first y) (stands-on a n (rw y at b) (rw y at s) (same-or c d))
+          go (behind (z ∷ us) x y) = lies-before a n p xs us z x (f ∙ ap first y) (rw y at b) (rw y at s) (same-or c d)

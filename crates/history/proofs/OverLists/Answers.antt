@@ -62,7 +62,7 @@ module _ {past : ℕ → Ledger} {k : ℕ} {s : State} {g : Ledger} (v : Invaria
     where
       go : (l : Lookup) → isRunning l ≡ true → Looking past k (s .table) g i l → Noted g i
       go idle e l = clash e refl
-      go (running c p) e (q, l) = record { noted = q; isNoted = l .isNoted; ofLane = l .notedLane }
+      go (running c p) e (q, n, l) = record { noted = q; isNoted = l .isNoted; ofLane = l .notedLane }
 
   pub step-answered : (i : ℕ) → isAnswer (answer s (step i)) ≡ true → Answered past k g i (answer s (step i))
   unfolding result outcome outcomeAnswer
@@ -75,11 +75,11 @@ module _ {past : ℕ → Ledger} {k : ℕ} {s : State} {g : Ledger} (v : Invaria
       go : (l : Lookup) → Looking past k (s .table) g i l → isAnswer (outcomeAnswer (outcome (s .table) l)) ≡ true
           → Answered past k g i (outcomeAnswer (outcome (s .table) l))
       go idle l h = clash h refl
-      go (running c p) (q, l) h = record {
+      go (running c p) (q, n, l) h = record {
         noted = q;
         isNoted = l .isNoted;
         ofLane = l .notedLane;
-        window = rw (l .notedCode) (answer-window (v .tied) q i c p l (outcome (s .table) (running c p)) (stepped-cases (s .table) c p) h);
+        window = rw (l .notedCode) (answer-window (v .tied) q i c n p l (outcome (s .table) (running c p)) (stepped-cases (s .table) c p) h);
       }
 
   -- ---- finds
@@ -95,11 +95,11 @@ module _ {past : ℕ → Ledger} {k : ℕ} {s : State} {g : Ledger} (v : Invaria
       (λ z e. go (laneOf s i .lookup) (v .looking i)) (λ m e. absurd (omega arith))
     where
       -- the slot found is chained, or the finder's section retains it
-      at : (q : Search) (c p : ℕ) (l : Looks past k (s .table) g q i c p) (o : Outcome) (n : Lookup) → Stepped (s .table) c p o n → outcomeAnswer o .a ≡ 1
+      at : (q : Search) (c n p : ℕ) (l : Looks past k (s .table) g q i c n p) (o : Outcome) (x : Lookup) → Stepped (s .table) c p o x → outcomeAnswer o .a ≡ 1
           → Found k s g i (outcomeAnswer o)
-      at q c p l o n (ends e) h = absurd (omega arith)
-      at q c p l o n (goes m e) h = absurd (omega arith)
-      at q c p l o n (finds m e) h = record {
+      at q c n p l o x (ends e) h = absurd (omega arith)
+      at q c n p l o x (goes m e) h = absurd (omega arith)
+      at q c n p l o x (finds m e) h = record {
         finder = l .section;
         isOpen = l .isOpen;
         ofLane = l .ofLane;
@@ -115,12 +115,12 @@ module _ {past : ℕ → Ledger} {k : ℕ} {s : State} {g : Ledger} (v : Invaria
           r = productAt (s .table .products) p
 
           anchor : (0 < chained p (s .table)) ⊎ RetainedBy g (l .section) p
-          anchor = trail-anchored (s .table) c p m (l .trail)
+          anchor = trail-anchored (s .table) c n p m (l .trail)
 
       go : (l : Lookup) → Looking past k (s .table) g i l → outcomeAnswer (outcome (s .table) l) .a ≡ 1
           → Found k s g i (outcomeAnswer (outcome (s .table) l))
       go idle l h = absurd (omega arith)
-      go (running c p) (q, l) h = at q c p l _ _ (stepped-cases (s .table) c p) h
+      go (running c p) (q, n, l) h = at q c n p l _ _ (stepped-cases (s .table) c p) h
 
   -- ---- hand-backs
 

@@ -1,11 +1,11 @@
 -- The two halves of the invariant: `Grace` of the engine, `Trail` of the chains. They meet only in `Waits`, which lanes a retired slot waits for.
 -- Nothing is proved here.
-use Prim.Native.Nat.{ℕ, _<_, _≤_}
+use Prim.Native.Nat.{ℕ, suc, _<_, _≤_}
 use mathlib.Core.Path.{_≡_}
 use mathlib.Core.Logic.{_≢_}
 use mathlib.Core.Bool.{true, false, cond}
 use mathlib.Core.List.{List, [], _∷_, _++_, List·Memᴰ}
-use lib.ListN.{getD}
+use lib.ListN.{length, getD}
 use lib.Dec.{eqb}
 use Rattle.model.specs.Word.{none, wordLimit, up, later}
 use Rattle.model.specs.Lists.{count, first}
@@ -122,17 +122,18 @@ pub record Window (past : ℕ → Ledger) (t k c : ℕ) (r : Answer) : Type 0 wh
   pub notAfter : instant ≤ k
   pub whole : search (past instant) c ≡ r
 
--- The trail of a lookup of code c from its position p on: whatever it meets, its answer will be one of the window S. W x: its section retains slot x
-pub data Trail (t : Table) (W : ℕ → Type 0) (S : Answer → Type 0) (c : ℕ) : ℕ → Type 0 where
-  -- p is on the chain, or at its end: what the rest of the chain gives is an answer of the window
-  live : {p : ℕ} (xs ys : List ℕ) → chainOf t c ≡ xs ++ ys → p ≡ first ys → S (searched (t .products) c ys) → Trail t W S c p
-  -- p is a retired slot that holds c, and was the answer before it was removed
-  met : {p : ℕ} → W p → productAt (t .products) p .code ≡ c → S (something (t .products) p) → Trail t W S c p
-  -- p is a retired slot of another code, and the link that it kept leads on
-  beyond : {p : ℕ} → W p → productAt (t .products) p .code ≢ c → Trail t W S c (getD (t .links) p none) → Trail t W S c p
+-- The trail of a lookup of code c from its position p on: whatever it meets, its answer will be one of the window S, and at most n steps still go before
+-- it is answered. W x: its section retains slot x
+pub data Trail (t : Table) (W : ℕ → Type 0) (S : Answer → Type 0) (c : ℕ) : ℕ → ℕ → Type 0 where
+  -- p is on the chain, or at its end: what the rest of the chain gives is an answer of the window, and a step for each slot of it may go
+  live : {n p : ℕ} (xs ys : List ℕ) → chainOf t c ≡ xs ++ ys → p ≡ first ys → length ys ≤ n → S (searched (t .products) c ys) → Trail t W S c n p
+  -- p is a retired slot that holds c, and was the answer before it was removed: the next step answers
+  met : {n p : ℕ} → W p → productAt (t .products) p .code ≡ c → S (something (t .products) p) → Trail t W S c n p
+  -- p is a retired slot of another code: the next step goes, and the link that it kept leads on
+  beyond : {n p : ℕ} → W p → productAt (t .products) p .code ≢ c → Trail t W S c n (getD (t .links) p none) → Trail t W S c (suc n) p
 
--- lane i looks for code c and stands at p; the ledger has noted it as q
-pub record Looks (past : ℕ → Ledger) (k : ℕ) (t : Table) (g : Ledger) (q : Search) (i c p : ℕ) : Type 0 where
+-- lane i looks for code c and stands at p, and at most n of its steps still go; the ledger has noted the lookup as q
+pub record Looks (past : ℕ → Ledger) (k : ℕ) (t : Table) (g : Ledger) (q : Search) (i c n p : ℕ) : Type 0 where
   -- the open section that it runs in: every slot removed since is retained by it
   pub section : Section
   pub isOpen : List·Memᴰ section (g .sections)
@@ -144,10 +145,10 @@ pub record Looks (past : ℕ → Ledger) (k : ℕ) (t : Table) (g : Ledger) (q :
   -- and has noted no other code of the lane: what is found is of the code that was looked for
   pub only : (x : Search) → List·Memᴰ x (g .searches) → x .lane ≡ i → x .code ≡ c
   pub since : q .started ≤ k
-  -- its answer will be a whole search's, at an instant since its start
-  pub trail : Trail t (RetainedBy g section) (Window past (q .started) k c) c p
+  -- its answer will be a whole search's, at an instant since its start, and comes after at most n steps more
+  pub trail : Trail t (RetainedBy g section) (Window past (q .started) k c) c n p
 
 -- a lookup that runs is on its trail
 abbrev pub Looking : (past : ℕ → Ledger) (k : ℕ) (t : Table) (g : Ledger) (i : ℕ) → Lookup → Type 0
 Looking past k t g i idle = Unit {0}
-Looking past k t g i (running c p) = (q : Search) × Looks past k t g q i c p
+Looking past k t g i (running c p) = (q : Search) × (n : ℕ) × Looks past k t g q i c n p
