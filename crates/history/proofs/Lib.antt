@@ -8,3 +8,4 @@ pub mod Demand3
 pub mod NewSlots
 pub mod Corollaries
 pub mod AfterEnds
+pub mod Belt

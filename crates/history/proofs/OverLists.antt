@@ -5,4 +5,5 @@ pub mod OneEach
 pub mod Stands
 pub mod ListInvariant
 pub mod OneSection
+pub mod Counted
 pub mod OneList

@@ -1,15 +1,16 @@
 -- Document 01, "The ledger of demand 3", with document 02's request 3: the ledger, fed with calls and their answers and nothing from the memory, and the
--- demand.
-use Prim.Native.Nat.{ℕ, suc, _+_, _≤_}
+-- demand; and document 02's request 5, the figure for the belt.
+use Prim.Native.Nat.{ℕ, zero, suc, _+_, _≤_}
 use mathlib.Core.Path.{_≡_}
-use mathlib.Core.Bool.{Bool, true, cond, _&&_, _||_}
+use mathlib.Core.Bool.{Bool, true, false, cond, _&&_, _||_}
 use mathlib.Core.List.{List, [], _∷_, _++_, List·Memᴰ}
-use lib.ListN.{length, take}
+use lib.ListN.{length, take, replicate}
 use lib.Dec.{eqb}
-use Rattle.model.specs.Lists.{drops}
+use Rattle.model.specs.Lists.{any, drops}
 use Rattle.model.specs.Layout.{codeAt, depositAt, materialAt, slotAddress}
-use Rattle.model.specs.Memory.{at, wide, sizes}
-use Rattle.model.specs.Rules.{Op, add, replace, delete, begin, end, start, step, pass, clock, on, off, hand-back, awaited, Answer, accepted}
+use Rattle.model.specs.Memory.{at, wide, sizes, state}
+use Rattle.model.specs.Table.{chainNumber, chainOf}
+use Rattle.model.specs.Rules.{Op, add, replace, delete, begin, end, start, step, pass, clock, on, off, hand-back, awaited, Answer, accepted, zeros}
 use Rattle.model.specs.Calls.{Call, set-up, on-state, reply, left, leftAll}
 
 -- ---- the ledger
@@ -243,3 +244,82 @@ abbrev pub AfterEnds : List Event → Type 0
 AfterEnds h =
     (i : ℕ) (r : Answer) (before since rest : List Event) → r .status ≡ 0 → h ≡ (before ++ endEvent i r ∷ since) ++ rest
     → AfterEnd i (before ++ endEvent i r ∷ since) since rest
+
+-- ---- document 02, request 5: how long a lookup can take
+
+-- the entry is on the chain of code c
+abbrev pub sameChain : ℕ → Entry → Bool
+sameChain c e = eqb (chainNumber (e .code)) (chainNumber c)
+
+-- the records on the chain of code c
+unfoldable pub recordsOn : ℕ → List Entry → ℕ
+recordsOn c [] = 0
+recordsOn c (e ∷ es) = cond (sameChain c e) 1 0 + recordsOn c es
+
+-- the call is a step of lane i
+unfoldable pub isStepOf : ℕ → Call → Bool
+isStepOf i (set-up c p n) = false
+isStepOf i (on-state (add j c d m)) = false
+isStepOf i (on-state (replace j c d m)) = false
+isStepOf i (on-state (delete j c)) = false
+isStepOf i (on-state (begin j)) = false
+isStepOf i (on-state (end j)) = false
+isStepOf i (on-state (start j c)) = false
+isStepOf i (on-state (step j)) = eqb j i
+isStepOf i (on-state (hand-back j)) = false
+isStepOf i (on-state (pass j n)) = false
+isStepOf i (on-state (clock j)) = false
+isStepOf i (on-state (on j)) = false
+isStepOf i (on-state (off j)) = false
+isStepOf i (on-state awaited) = false
+
+-- the answers of lane i's calls of step, refused ones included
+unfoldable pub stepAnswers : ℕ → List Event → List Answer
+stepAnswers i [] = []
+stepAnswers i (e ∷ es) = cond (isStepOf i (e .call)) (e .answer ∷ stepAnswers i es) (stepAnswers i es)
+
+-- a step that is accepted, with outcome 0
+abbrev pub isGoing : Answer → Bool
+isGoing r = eqb (r .status) 0 && eqb (r .a) 0
+
+-- of a lookup's steps, by their answers: at most n go, and the one after them answers; what comes after the answer is none of the lookup's
+unfoldable pub inTime : ℕ → List Answer → Bool
+inTime n [] = true
+inTime zero (r ∷ rs) = isAnswer r
+inTime (suc n) (r ∷ rs) = isAnswer r || (isGoing r && inTime n rs)
+
+-- the events `es` end with the start of lane i's lookup of code c, and the events `since` follow: with n records on the chain at the start, the lookup has
+-- its answer by step n + 1
+abbrev pub onTime : ℕ → ℕ → List Event → List Event → Bool
+onTime i c es since = inTime (recordsOn c (ledger es .entries)) (stepAnswers i since)
+
+abbrev pub startEvent : ℕ → ℕ → Answer → Event
+startEvent i c r = record { call = on-state (start i c); answer = r }
+
+-- no event of the list is an accepted end of lane i
+abbrev pub NoEnd : ℕ → List Event → Type 0
+NoEnd i es = (a : Answer) → a .status ≡ 0 → List·Memᴰ (endEvent i a) es → ⊥
+
+-- such a lookup
+pub record Timed (i c : ℕ) (es since : List Event) : Type 0 where
+  pub answered : onTime i c es since ≡ true
+  -- and the steps are its own: till one of them answers, the ledger has it noted, by lane, code and instant of the start
+  pub itself : any isAnswer (stepAnswers i since) ≡ false
+      → List·Memᴰ (record { lane = i; code = c; started = length es }) (ledger (es ++ since) .searches)
+
+-- the figure: for each accepted start of the list, as long as no end drops its lookup
+abbrev pub Belt : List Event → Type 0
+Belt h =
+    (i c : ℕ) (r : Answer) (before since rest : List Event) → r .status ≡ 0 → h ≡ (before ++ startEvent i c r ∷ since) ++ rest → NoEnd i since
+    → Timed i c (before ++ startEvent i c r ∷ []) since
+
+-- n is the number of chained slots: after the list h, each chain of the memory m has as many as the ledger has records on it
+abbrev pub ChainsCounted : List Event → List ℕ → Type 0
+ChainsCounted h m = (c : ℕ) → length (chainOf (state m .table) c) ≡ recordsOn c (ledger h .entries)
+
+-- and no figure is less: where a code has no record, a lookup of it that nobody disturbs goes n steps, and step n + 1 answers that it is absent
+abbrev pub Attained : List Event → List ℕ → Type 0
+Attained h m =
+    (i c : ℕ) → reply m (on-state (start i c)) .status ≡ 0 → search (ledger h) c ≡ accepted 2 0 0 0
+    → let n = recordsOn c (ledger h .entries) in
+    stepAnswers i (events (left m (on-state (start i c))) (replicate (suc n) (on-state (step i)))) ≡ replicate n zeros ++ (accepted 2 0 0 0 ∷ [])

@@ -12,7 +12,7 @@ use Rattle.model.specs.Engine.{freshLane, laneAt, setOnline, setReading, atLane
 use Rattle.model.specs.Rules.{Op, add, replace, delete, begin, end, start, step, pass, clock, on, off, hand-back, awaited, refusal}
 use Rattle.model.specs.Rules.{Answer, refused, laneOf, retiring, leaving, stepped, performed, result, answer, next}
 use Rattle.model.specs.Calls.{Call, set-up, on-state}
-use Rattle.model.specs.Ledger.{Entry, Ledger, entryOf, isAnswer, fed, fedCall}
+use Rattle.model.specs.Ledger.{Entry, Ledger, entryOf, isAnswer, fed, fedCall, isStepOf}
 use Rattle.model.specs.Ledger.{entryMade, entryStruck, slotOut, slotBack, sectionOpened, sectionEnded, searchNoted, searchStruck}
 use Rattle.laws.specs.Tests.{clash, cond-cases, eqb-self}
 use Rattle.laws.specs.ListLaws.{update-cases, getD-update-other}
@@ -186,3 +186,20 @@ moves-cases P i f g h (on j) e = clash e refl
 moves-cases P i f g h (off j) e = clash e refl
 moves-cases P i f g h (hand-back j) e = clash e refl
 moves-cases P i f g h awaited e = clash e refl
+
+-- a call of step of the lane is that one
+pub is-step : (i : ℕ) (o : Op) → isStepOf i (on-state o) ≡ true → o ≡ step i
+unfolding isStepOf
+is-step i (step j) e = ap (λ (j : ℕ). step j) (eqb-true j i e)
+is-step i (start j c) e = clash e refl
+is-step i (end j) e = clash e refl
+is-step i (add j c d m) e = clash e refl
+is-step i (replace j c d m) e = clash e refl
+is-step i (delete j c) e = clash e refl
+is-step i (pass j n) e = clash e refl
+is-step i (begin j) e = clash e refl
+is-step i (clock j) e = clash e refl
+is-step i (on j) e = clash e refl
+is-step i (off j) e = clash e refl
+is-step i (hand-back j) e = clash e refl
+is-step i awaited e = clash e refl

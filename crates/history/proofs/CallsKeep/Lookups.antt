@@ -1,32 +1,36 @@
 -- The lookups after a call: one that the call does not move stays where it is and on its trail; the others are started, go on, are answered or dropped.
 use Prim.Native.Nat.{ℕ, zero, suc, _<_}
-use mathlib.Core.Path.{_≡_, refl, sym, ap, _∙_}
+use mathlib.Core.Path.{_≡_, refl, sym, ap, subst, _∙_}
 use mathlib.Core.Logic.{⊎-elim, _≢_}
 use mathlib.Core.Bool.{Bool, true, false}
 use mathlib.Core.List.{List·Memᴰ·tail, List·Memᴰ·cases-cons}
 use native.Mathlib.Omega.{arith}
 use lib.ListN.{length}
-use borrow.Author.Tests.{ne-eqb}
+use lib.Dec.{leb}
+use borrow.Author.Tests.{ne-eqb, lt-leb}
+use Rattle.model.specs.Lists.{first}
 use Rattle.model.specs.State.{Lookup, idle, running, isRunning, Lane, State, laneCount}
 use Rattle.model.specs.Engine.{freshLane, laneAt, atLane}
 use Rattle.model.specs.Table.{chainOf, linkOf}
-use Rattle.model.specs.Rules.{Op, start, step, end, Answer, refused, zeros, laneOf, refusal, Outcome, outcome, outcomeAnswer, continued, stepped, leaving}
+use Rattle.model.specs.Rules.{Op, start, step, end, Answer, refused, zeros, laneOf, causes, firstOf, refusal, Outcome, outcome, outcomeAnswer, continued, stepped, leaving}
 use Rattle.model.specs.Rules.{performed, result, answer, next}
 use Rattle.model.specs.Calls.{on-state}
-use Rattle.model.specs.Ledger.{Search, Ledger, sectionOf, searchOf, isAnswer, fed, fedCall}
+use Rattle.model.specs.Ledger.{Search, Ledger, sectionOf, searchOf, isAnswer, fed, fedCall, isStepOf}
 use Rattle.laws.specs.Tests.{clash, eqb-self}
 use Rattle.laws.specs.ListLaws.{getD-update-same}
-use Rattle.laws.specs.Elements.{of-drops, to-drops}
+use Rattle.laws.specs.Elements.{getD-within, of-drops, to-drops}
 use Rattle.representation.proofs.Causes.Passed.{call-cases}
 use Rattle.representation.proofs.Causes.Accepted.{accepts}
+use Rattle.representation.proofs.WellFormed.{LookupFits, WellFormed}
 use Rattle.representation.proofs.CallsWellFormed.Next.{status}
 use Rattle.history.proofs.Ties.Halves.{Looks, Looking}
 use Rattle.history.proofs.Ties.Invariant.{Tied, Invariant}
+use Rattle.history.proofs.CallsKeep.SlotFacts.{reading-online}
 use Rattle.history.proofs.CallsKeep.Respects.{Spared, spared-same, looks-kept, looking-kept, respects-still, Keeps}
 use Rattle.history.proofs.CallsKeep.Unseen.{keeps-same}
 use Rattle.history.proofs.CallsKeep.LookupSteps.{Stepped, ends, finds, goes, stepped-cases}
 use Rattle.history.proofs.CallsKeep.StartStep.{new, starting, looks-start, looks-on}
-use Rattle.history.proofs.CallsKeep.EveryCall.{movesLookup, fed-cases, fedCall-accepted, fedCall-refused, inside, lookup-other, moves-cases}
+use Rattle.history.proofs.CallsKeep.EveryCall.{movesLookup, fed-cases, fedCall-accepted, fedCall-refused, inside, lookup-other, moves-cases, is-step}
 
 -- ---- a lane whose lookup the call does not move
 
@@ -164,6 +168,10 @@ pub answer-refused : (s : State) (o : Op) (n : ℕ) → refusal s o ≡ suc n �
 unfolding answer
 answer-refused s o n z = rw z
 
+-- and what it does to the ledger
+fed-now : (s : State) (o : Op) (k : ℕ) (g : Ledger) → refusal s o ≡ 0 → fedCall (suc k) (on-state o) (answer s o) g ≡ fed (suc k) o (result s o) g
+fed-now s o k g z = ap (λ (r : Answer). fedCall (suc k) (on-state o) r g) (answer-accepted s o z) ∙ fedCall-accepted (suc k) o (result s o) g (status s o)
+
 -- no call: the next instant has the same state and ledger
 pub invariant-same : {past : ℕ → Ledger} {k : ℕ} {s : State} {g : Ledger} → Invariant past k s g → past (suc k) ≡ g → Invariant past (suc k) s g
 invariant-same {past} {k} {s} {g} v now = record {
@@ -173,10 +181,6 @@ invariant-same {past} {k} {s} {g} v now = record {
 
 module _ {past : ℕ → Ledger} {k : ℕ} {s : State} {g : Ledger} (v : Invariant past k s g) (o : Op)
     (h : Keeps k s (next s o) g (fedCall (suc k) (on-state o) (answer s o) g)) (now : past (suc k) ≡ fedCall (suc k) (on-state o) (answer s o) g) where
-  -- the same of an accepted call
-  fed-now : refusal s o ≡ 0 → fedCall (suc k) (on-state o) (answer s o) g ≡ fed (suc k) o (result s o) g
-  fed-now z = ap (λ (r : Answer). fedCall (suc k) (on-state o) r g) (answer-accepted s o z) ∙ fedCall-accepted (suc k) o (result s o) g (status s o)
-
   pub looking-next : (i : ℕ) → Looking past (suc k) (next s o .table) (fedCall (suc k) (on-state o) (answer s o) g) i (laneOf (next s o) i .lookup)
   looking-next i = go (refusal s o) refl
     where
@@ -184,9 +188,9 @@ module _ {past : ℕ → Ledger} {k : ℕ} {s : State} {g : Ledger} (v : Invaria
       Goal = Looking past (suc k) (next s o .table) (fedCall (suc k) (on-state o) (answer s o) g) i (laneOf (next s o) i .lookup)
 
       moved : refusal s o ≡ 0 → movesLookup i o ≡ true → Goal
-      moved z e = rw (next-accepted s o z, fed-now z) (moves-cases (λ (o : Op). refusal s o ≡ 0 → past (suc k) ≡ fed (suc k) o (result s o) g
+      moved z e = rw (next-accepted s o z, fed-now s o k g z) (moves-cases (λ (o : Op). refusal s o ≡ 0 → past (suc k) ≡ fed (suc k) o (result s o) g
           → LookingAfter (v .tied) past i o) i (looking-started (v .tied) past i) (looking-stepped (v .tied) past i (v .looking i))
-          (λ z n. looking-dropped (v .tied) past i z) o e z (now ∙ fed-now z))
+          (λ z n. looking-dropped (v .tied) past i z) o e z (now ∙ fed-now s o k g z))
 
       at : refusal s o ≡ 0 → (b : Bool) → movesLookup i o ≡ b → Goal
       at z true e = moved z e
@@ -198,3 +202,95 @@ module _ {past : ℕ → Ledger} {k : ℕ} {s : State} {g : Ledger} (v : Invaria
         where
           refuses : answer s o .status ≡ 0 → ⊥
           refuses u = omega (arith, ap (λ (r : Answer). r .status) (answer-refused s o n z))
+
+-- ---- a lane's lookup after a call
+
+-- lane i's lookup of code c is noted as q, and may go n steps more
+pub record Runs (past : ℕ → Ledger) (k : ℕ) (s : State) (g : Ledger) (q : Search) (i c n : ℕ) : Type 0 where
+  pub position : ℕ
+  pub lookup : laneOf s i .lookup ≡ running c position
+  pub looks : Looks past k (s .table) g q i c n position
+
+-- no step of it is refused: the lane is known, is on, and its lookup runs
+step-taken : {s : State} → WellFormed s → (i c p : ℕ) → laneOf s i .lookup ≡ running c p → refusal s (step i) ≡ 0
+unfolding causes firstOf isRunning
+step-taken {s} w i c p e = rw (known, online, ap isRunning e)
+  where
+    known : leb (laneCount (s .sizes)) i ≡ false
+    known = lt-leb (laneCount (s .sizes)) i (omega (arith, w .lanes, getD-within freshLane (λ (l : Lane). isRunning (l .lookup)) (s .engine .lanes) i refl (ap isRunning e)))
+
+    online : laneOf s i .online ≡ true
+    online = reading-online w i (subst (λ (l : Lookup). LookupFits (s .sizes .slots) (laneOf s i .reading) l) e (w .fits i .lookup) .0)
+
+-- an answer of status 0 is that of a call that no cause refuses
+status-accepted : (s : State) (o : Op) → answer s o .status ≡ 0 → refusal s o ≡ 0
+status-accepted s o e = go (refusal s o) refl
+  where
+    go : (n : ℕ) → refusal s o ≡ n → refusal s o ≡ 0
+    go zero z = z
+    go (suc n) z = absurd (omega (arith, e, ap (λ (r : Answer). r .status) (answer-refused s o n z)))
+
+-- it starts with a step for each slot of its chain
+pub runs-start : {k : ℕ} {s : State} {g : Ledger} (v : Tied k s g) (past : ℕ → Ledger) (i c : ℕ) → answer s (start i c) .status ≡ 0
+    → past (suc k) ≡ fedCall (suc k) (on-state (start i c)) (answer s (start i c)) g
+    → Runs past (suc k) (next s (start i c)) (fedCall (suc k) (on-state (start i c)) (answer s (start i c)) g) (new v i c) i c
+    (length (chainOf (next s (start i c) .table) c))
+unfolding performed fed
+runs-start {k} {s} {g} v past i c e now = rw (next-accepted s (start i c) z, fed-now s (start i c) k g z) (record {
+  position = first (chainOf (s .table) c);
+  lookup = ap (λ (l : Lane). l .lookup) (lane-after v past i (starting v c) (accepts s (start i c) z .lane .known));
+  looks = looks-start v past i c (accepts s (start i c) z .reading) (now ∙ fed-now s (start i c) k g z);
+})
+  where
+    z : refusal s (start i c) ≡ 0
+    z = status-accepted s (start i c) e
+
+-- the lookup that may go n steps more, after the call o: if that is no step of the lane, as before; a step answers it, or goes and leaves one less
+pub data Onward (past : ℕ → Ledger) (k : ℕ) (s : State) (g : Ledger) (o : Op) (q : Search) (i c n : ℕ) : Type 0 where
+  stays : isStepOf i (on-state o) ≡ false → Runs past (suc k) (next s o) (fedCall (suc k) (on-state o) (answer s o) g) q i c n
+      → Onward past k s g o q i c n
+  goesOn : (m : ℕ) → isStepOf i (on-state o) ≡ true → answer s o ≡ zeros → n ≡ suc m
+      → Runs past (suc k) (next s o) (fedCall (suc k) (on-state o) (answer s o) g) q i c m → Onward past k s g o q i c n
+  isAnswered : isStepOf i (on-state o) ≡ true → isAnswer (answer s o) ≡ true → Onward past k s g o q i c n
+
+module _ {past : ℕ → Ledger} {k : ℕ} {s : State} {g : Ledger} (v : Tied k s g) (q : Search) (i c n : ℕ) (r : Runs past k s g q i c n) where
+  -- its own step
+  onward-step : past (suc k) ≡ fedCall (suc k) (on-state (step i)) (answer s (step i)) g → Onward past k s g (step i) q i c n
+  unfolding isStepOf
+  onward-step now = go (step-of v past q i c n (r .position) z (now ∙ fed-now s (step i) k g z) (r .lookup) (r .looks))
+    where
+      z : refusal s (step i) ≡ 0
+      z = step-taken (v .wellFormed) i c (r .position) (r .lookup)
+
+      go : StepOf v past q i c n → Onward past k s g (step i) q i c n
+      go (answers a b) = isAnswered (eqb-self i) (rw (answer-accepted s (step i) z) a)
+      go (goesTo m p e a b l) = goesOn m (eqb-self i) (answer-accepted s (step i) z ∙ a) e
+          (rw (next-accepted s (step i) z, fed-now s (step i) k g z) (record { position = p; lookup = b; looks = l }))
+
+  module _ (o : Op) (f : answer s o .status ≡ 0 → o ≡ end i → ⊥) where
+    -- a call that is no step of the lane, and drops its lookup not, moves it not: while it runs, a start is refused
+    unmoved : isStepOf i (on-state o) ≡ false → answer s o .status ≡ 0 → movesLookup i o ≡ false
+    unfolding isRunning isStepOf
+    unmoved t u = go (movesLookup i o) refl
+      where
+        go : (b : Bool) → movesLookup i o ≡ b → movesLookup i o ≡ false
+        go false m = m
+        go true m = absurd (moves-cases (λ (o : Op). refusal s o ≡ 0 → isStepOf i (on-state o) ≡ false → (o ≡ end i → ⊥) → ⊥) i
+            (λ b z t f. clash (ap isRunning (r .lookup)) (accepts s (start i b) z .idle)) (λ z t f. clash (eqb-self i) t) (λ z t f. f refl) o m
+            (status-accepted s o u) t (f u))
+
+    pub onward : Keeps k s (next s o) g (fedCall (suc k) (on-state o) (answer s o) g) → past (suc k) ≡ fedCall (suc k) (on-state o) (answer s o) g
+        → Onward past k s g o q i c n
+    onward h now = go (isStepOf i (on-state o)) refl
+      where
+        own : o ≡ step i → Onward past k s g o q i c n
+        own e = subst (λ (o : Op). Onward past k s g o q i c n) (sym e)
+            (onward-step (subst (λ (o : Op). past (suc k) ≡ fedCall (suc k) (on-state o) (answer s o) g) e now))
+
+        go : (b : Bool) → isStepOf i (on-state o) ≡ b → Onward past k s g o q i c n
+        go true t = own (is-step i o t)
+        go false t = stays t (record {
+          position = r .position;
+          lookup = lookup-stays past o h now i (unmoved t) ∙ r .lookup;
+          looks = looks-stays past o h now i (unmoved t) q c n (r .position) (r .looks);
+        })

@@ -5,7 +5,7 @@ use mathlib.Core.List.{List, [], _∷_, _++_, append-nil, nil≢cons, head-eq-of
 use lib.ListN.{length}
 use lib.Seq.{append-snoc}
 use Rattle.model.specs.State.{Product, State}
-use Rattle.model.specs.Rules.{Answer, answer, next}
+use Rattle.model.specs.Rules.{Op, Answer, answer, next}
 use Rattle.model.specs.Memory.{state}
 use Rattle.model.specs.Calls.{Call, set-up, on-state, reply, left, leftAll}
 use Rattle.model.specs.Ledger.{Section, Ledger, Event, fedCall, ledger, events, RefusesSetUps}
@@ -32,13 +32,12 @@ pub record At (h done : List Event) (s : State) (m : List ℕ) (ks : List Call) 
   pub refuses : RefusesSetUps m ks
   pub invariant : Invariant (past h) (length done) s (ledger done)
 
-module _ (h : List Event) where
-  -- a call later
-  pub record Later (done : List Event) (s : State) (m : List ℕ) (k : Call) (ks : List Call) : Type 0 where
-    pub state : State
-    pub at : At h (done ++ (event m k ∷ [])) state (left m k) ks
-    pub respects : Respects (length done) (s .table) (state .table) (ledger done) (ledger (done ++ (event m k ∷ [])))
+-- the state after a call; a set-up of the list is refused
+abbrev pub after : State → Call → State
+after s (set-up c p n) = s
+after s (on-state o) = next s o
 
+module _ (h : List Event) where
   module _ (done : List Event) (s : State) (m : List ℕ) (k : Call) (ks : List Call) (a : At h done s m (k ∷ ks)) where
     abbrev done′ : List Event
     done′ = done ++ (event m k ∷ [])
@@ -48,38 +47,51 @@ module _ (h : List Event) where
     all′ = rw append-snoc (a .all)
 
     -- the ledger of the next instant is the one fed with this call
-    past-next : past h (suc (length done)) ≡ ledger done′
+    pub past-next : past h (suc (length done)) ≡ ledger done′
     past-next = ap (past h) (sym (length-snoc done (event m k))) ∙ past-seam h done′ (events (left m k) ks) all′
 
     -- from what is shown of the call
     later-of : (s′ : State) (g′ : Ledger) → ledger done′ ≡ g′ → Stands s′ (left m k) → RefusesSetUps (left m k) ks
-        → Invariant (past h) (suc (length done)) s′ g′ → Respects (length done) (s .table) (s′ .table) (ledger done) g′ → Later done s m k ks
-    later-of s′ g′ e v r p q = record {
-      state = s′;
-      at = record { all = all′; stands = v; refuses = r; invariant = rw (length-snoc done (event m k), e) p };
-      respects = rw e q;
-    }
+        → Invariant (past h) (suc (length done)) s′ g′ → At h done′ s′ (left m k) ks
+    later-of s′ g′ e v r p = record { all = all′; stands = v; refuses = r; invariant = rw (length-snoc done (event m k), e) p }
 
-  pub later : (done : List Event) (s : State) (m : List ℕ) (k : Call) (ks : List Call) → At h done s m (k ∷ ks) → Later done s m k ks
-  unfolding RefusesSetUps fedCall
-  later done s m (set-up c p n) ks a = later-of done s m (set-up c p n) ks a s (ledger done) same
-      (rw (refused-keeps m (set-up c p n) (a .refuses .0)) (a .stands)) (a .refuses .1) (invariant-same (a .invariant) (past-next done s m (set-up c p n) ks a ∙ same)) (keeps-same (a .invariant .tied) .respects)
-    where
-      same : ledger (done ++ (event m (set-up c p n) ∷ [])) ≡ ledger done
-      same = ledger-snoc done (event m (set-up c p n))
-  later done s m (on-state o) ks a = later-of done s m (on-state o) ks a (next s o) g′ same
-      (stands-next (a .stands) o) (a .refuses)
-      (record { tied = k .tied; looking = looking-next (a .invariant) o k (past-next done s m (on-state o) ks a ∙ same) }) (k .respects)
-    where
-      g′ : Ledger
-      g′ = fedCall (suc (length done)) (on-state o) (answer s o) (ledger done)
+  module _ (done : List Event) (s : State) (m : List ℕ) where
+    -- a refused set-up is not seen
+    pub ledger-setUp : (c p n : ℕ) → ledger (done ++ (event m (set-up c p n) ∷ [])) ≡ ledger done
+    unfolding fedCall
+    ledger-setUp c p n = ledger-snoc done (event m (set-up c p n))
 
-      same : ledger (done ++ (event m (on-state o) ∷ [])) ≡ g′
-      same = ledger-snoc done (event m (on-state o))
-          ∙ ap (λ (r : Answer). fedCall (suc (length done)) (on-state o) r (ledger done)) (reply-on (a .stands) o)
+    -- a call, with its state's answer
+    pub ledger-call : (o : Op) → Stands s m
+        → ledger (done ++ (event m (on-state o) ∷ [])) ≡ fedCall (suc (length done)) (on-state o) (answer s o) (ledger done)
+    ledger-call o v = ledger-snoc done (event m (on-state o))
+        ∙ ap (λ (r : Answer). fedCall (suc (length done)) (on-state o) r (ledger done)) (reply-on v o)
 
-      k : Keeps (length done) s (next s o) (ledger done) g′
-      k = keeps-next (a .invariant .tied) o (next-wellFormed s o (a .stands .wellFormed))
+    module _ (o : Op) (ks : List Call) (a : At h done s m (on-state o ∷ ks)) where
+      pub keeps-at : Keeps (length done) s (next s o) (ledger done) (fedCall (suc (length done)) (on-state o) (answer s o) (ledger done))
+      keeps-at = keeps-next (a .invariant .tied) o (next-wellFormed s o (a .stands .wellFormed))
+
+      pub past-at : past h (suc (length done)) ≡ fedCall (suc (length done)) (on-state o) (answer s o) (ledger done)
+      past-at = past-next done s m (on-state o) ks a ∙ ledger-call o (a .stands)
+
+  -- a call later
+  pub later : (done : List Event) (s : State) (m : List ℕ) (k : Call) (ks : List Call) → At h done s m (k ∷ ks)
+      → At h (done ++ (event m k ∷ [])) (after s k) (left m k) ks
+  unfolding RefusesSetUps
+  later done s m (set-up c p n) ks a =
+      let same = ledger-setUp done s m c p n in
+      later-of done s m (set-up c p n) ks a s (ledger done) same (rw (refused-keeps m (set-up c p n) (a .refuses .0)) (a .stands)) (a .refuses .1)
+      (invariant-same (a .invariant) (past-next done s m (set-up c p n) ks a ∙ same))
+  later done s m (on-state o) ks a =
+      let k = keeps-at done s m o ks a in
+      later-of done s m (on-state o) ks a (next s o) _ (ledger-call done s m o (a .stands)) (stands-next (a .stands) o) (a .refuses)
+      (record { tied = k .tied; looking = looking-next (a .invariant) o k (past-at done s m o ks a) })
+
+  -- and what it leaves to readers
+  respects-later : (done : List Event) (s : State) (m : List ℕ) (k : Call) (ks : List Call) → At h done s m (k ∷ ks)
+      → Respects (length done) (s .table) (after s k .table) (ledger done) (ledger (done ++ (event m k ∷ [])))
+  respects-later done s m (set-up c p n) ks a = rw (ledger-setUp done s m c p n) (keeps-same (a .invariant .tied) .respects)
+  respects-later done s m (on-state o) ks a = rw (ledger-call done s m o (a .stands)) (keeps-at done s m o ks a .respects)
 
   -- ---- to an event, and to the end
 
@@ -101,8 +113,8 @@ module _ (h : List Event) where
   point (k ∷ ks) done s m a [] rest e p =
       rw append-nil (record { state = s; memory = m; call = k; calls = ks; at = a; is = head-eq-of-cons-eq p; ends = refl })
   point (k ∷ ks) done s m a (b ∷ before) rest e p =
-      let l = later done s m k ks a in
-      regroup (head-eq-of-cons-eq p) (point ks (done ++ (event m k ∷ [])) (l .state) (left m k) (l .at) before rest e (tail-eq-of-cons-eq p))
+      regroup (head-eq-of-cons-eq p)
+      (point ks (done ++ (event m k ∷ [])) (after s k) (left m k) (later done s m k ks a) before rest e (tail-eq-of-cons-eq p))
     where
       regroup : {x : Event} → x ≡ b → Point ((done ++ (x ∷ [])) ++ before) e (leftAll (left m k) ks)
           → Point (done ++ (b ∷ before)) e (leftAll (left m k) ks)
@@ -127,14 +139,12 @@ module _ (h : List Event) where
     where
       whole : done ≡ h
       whole = sym (a .all ∙ append-nil done)
-  to-end (k ∷ ks) done s m a =
-      let l = later done s m k ks a in
-      onward l (to-end ks (done ++ (event m k ∷ [])) (l .state) (left m k) (l .at))
+  to-end (k ∷ ks) done s m a = onward (to-end ks (done ++ (event m k ∷ [])) (after s k) (left m k) (later done s m k ks a))
     where
-      onward : (l : Later done s m k ks) → End (done ++ (event m k ∷ [])) (l .state) (leftAll (left m k) ks) → End done s (leftAll (left m k) ks)
-      onward l e = record {
+      onward : End (done ++ (event m k ∷ [])) (after s k) (leftAll (left m k) ks) → End done s (leftAll (left m k) ks)
+      onward e = record {
         state = e .state;
         stands = e .stands;
         invariant = e .invariant;
-        kept = λ z x p v. e .kept z x p (rw (length-snoc done (event m k)) (held-kept (l .respects) z x p v));
+        kept = λ z x p v. e .kept z x p (rw (length-snoc done (event m k)) (held-kept (respects-later done s m k ks a) z x p v));
       }

@@ -51,7 +51,7 @@ module _ (m : List ℕ) (ks : List Call) (s : State) where
     pub is : answer state o ≡ r
     pub ends : leftAll memory (on-state o ∷ calls) ≡ leftAll m ks
 
-  moment : At h [] s m ks → (o : Op) (r : Answer) (c : Came h (record { call = on-state o; answer = r })) → Moment o r (c .before)
+  pub moment : At h [] s m ks → (o : Op) (r : Answer) (c : Came h (record { call = on-state o; answer = r })) → Moment o r (c .before)
   moment a o r c = go (point h ks [] s m a (c .before) (c .rest) _ (c .all))
     where
       go : Point h (c .before) (record { call = on-state o; answer = r }) (leftAll m ks) → Moment o r (c .before)

@@ -17,7 +17,7 @@ use Rattle.history.proofs.CallsKeep.EveryCall.{Changed, fed-cases, fedC
 use Rattle.history.proofs.OverLists.Instants.{ledger-snoc}
 use Rattle.history.proofs.OverLists.OneEach.{One, one-drops}
 use Rattle.history.proofs.OverLists.Stands.{reply-on}
-use Rattle.history.proofs.OverLists.ListInvariant.{event, At, later}
+use Rattle.history.proofs.OverLists.ListInvariant.{event, At, after, later}
 
 abbrev pub sectionLane : Section → ℕ
 sectionLane z = z .lane
@@ -76,9 +76,8 @@ module _ (h : List Event) where
   one-section ks done s m a v [] rest p = rw append-nil v
   one-section [] done s m a v (b ∷ before) rest p = absurd (nil≢cons p)
   one-section (k ∷ ks) done s m a v (b ∷ before) rest p =
-      let l = later h done s m k ks a in
       regroup (head-eq-of-cons-eq p)
-      (one-section ks (done ++ (event m k ∷ [])) (l .state) (left m k) (l .at) (one-later done s m k ks a v) before rest (tail-eq-of-cons-eq p))
+      (one-section ks (done ++ (event m k ∷ [])) (after s k) (left m k) (later h done s m k ks a) (one-later done s m k ks a v) before rest (tail-eq-of-cons-eq p))
     where
       regroup : {x : Event} → x ≡ b → OneSection (ledger ((done ++ (x ∷ [])) ++ before)) → OneSection (ledger (done ++ (b ∷ before)))
       regroup q o = rw (← q, ← append-snoc) o
