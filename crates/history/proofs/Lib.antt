@@ -9,3 +9,4 @@ pub mod NewSlots
 pub mod Corollaries
 pub mod AfterEnds
 pub mod Belt
+pub mod Attained

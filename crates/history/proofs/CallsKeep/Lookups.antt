@@ -10,7 +10,7 @@ use lib.Dec.{leb}
 use borrow.Author.Tests.{ne-eqb, lt-leb}
 use Rattle.model.specs.Lists.{first}
 use Rattle.model.specs.State.{Lookup, idle, running, isRunning, Lane, State, laneCount}
-use Rattle.model.specs.Engine.{freshLane, laneAt, atLane}
+use Rattle.model.specs.Engine.{freshLane, laneAt, setLookup, atLane}
 use Rattle.model.specs.Table.{chainOf, linkOf}
 use Rattle.model.specs.Rules.{Op, start, step, end, Answer, refused, zeros, laneOf, causes, firstOf, refusal, Outcome, outcome, outcomeAnswer, continued, stepped, leaving}
 use Rattle.model.specs.Rules.{performed, result, answer, next}
@@ -92,20 +92,36 @@ module _ {k : ℕ} {s : State} {g : Ledger} (past : ℕ → Ledger) where
 
 -- ---- a lane whose lookup an accepted call moves
 
+module _ {s : State} (w : WellFormed s) where
+  -- the lane that a call is of, after it
+  lane-after : (i : ℕ) (f : Lane → Lane) → i < laneCount (s .sizes) → laneAt (atLane i f (s .engine)) i ≡ f (laneOf s i)
+  lane-after i f h = getD-update-same freshLane (s .engine .lanes) i f (omega (arith, w .lanes))
+
+  -- a step answers by the lookup's position, and leaves it there or at the link
+  pub step-answer : (i c p : ℕ) → laneOf s i .lookup ≡ running c p → result s (step i) ≡ outcomeAnswer (outcome (s .table) (running c p))
+  unfolding result
+  step-answer i c p e = ap (λ (l : Lookup). outcomeAnswer (outcome (s .table) l)) e
+
+  pub step-lookup : (i c p : ℕ) → i < laneCount (s .sizes) → laneOf s i .lookup ≡ running c p
+      → laneOf (performed s (step i)) i .lookup ≡ continued (s .table) (running c p) (outcome (s .table) (running c p))
+  unfolding performed
+  step-lookup i c p h e = ap (λ (l : Lane). l .lookup) (lane-after i (stepped (s .table)) h)
+      ∙ ap (λ (l : Lookup). continued (s .table) l (outcome (s .table) l)) e
+
+  pub start-lookup : (i c : ℕ) → i < laneCount (s .sizes) → laneOf (performed s (start i c)) i .lookup ≡ running c (first (chainOf (s .table) c))
+  unfolding performed
+  start-lookup i c h = ap (λ (l : Lane). l .lookup) (lane-after i (setLookup (running c (first (chainOf (s .table) c)))) h)
+
 module _ {k : ℕ} {s : State} {g : Ledger} (v : Tied k s g) (past : ℕ → Ledger) where
   -- what lane i looks for after the call o, whose answer is r
   abbrev LookingAfter : ℕ → Op → Type 0
   LookingAfter i o = Looking past (suc k) (performed s o .table) (fed (suc k) o (result s o) g) i (laneOf (performed s o) i .lookup)
 
-  -- the lane that a call is of, after it
-  lane-after : (i : ℕ) (f : Lane → Lane) → i < laneCount (s .sizes) → laneAt (atLane i f (s .engine)) i ≡ f (laneOf s i)
-  lane-after i f h = getD-update-same freshLane (s .engine .lanes) i f (inside v i h)
-
   looking-started : (i c : ℕ) → refusal s (start i c) ≡ 0 → past (suc k) ≡ fed (suc k) (start i c) (result s (start i c)) g → LookingAfter i (start i c)
   unfolding performed fed
   looking-started i c z now =
       let a = accepts s (start i c) z in
-      rw (lane-after i (starting v c) (a .lane .known)) (new v i c, length (chainOf (s .table) c), looks-start v past i c (a .reading) now)
+      rw (start-lookup (v .wellFormed) i c (a .lane .known)) (new v i c, length (chainOf (s .table) c), looks-start v past i c (a .reading) now)
 
   -- a step of lane i, whose lookup is q and may go n steps more: it answers, or goes on to position p, with one step less to go
   pub data StepOf (q : Search) (i c n : ℕ) : Type 0 where
@@ -119,19 +135,21 @@ module _ {k : ℕ} {s : State} {g : Ledger} (v : Tied k s g) (past : ℕ → Led
   step-of q i c n p z now e l = go _ _ (stepped-cases (s .table) c p) refl refl
     where
       after : laneOf (performed s (step i)) i .lookup ≡ continued (s .table) (running c p) (outcome (s .table) (running c p))
-      after = ap (λ (l : Lane). l .lookup) (lane-after i (stepped (s .table)) (accepts s (step i) z .lane .known))
-          ∙ ap (λ (l : Lookup). continued (s .table) l (outcome (s .table) l)) e
+      after = step-lookup (v .wellFormed) i c p (accepts s (step i) z .lane .known) e
+
+      is : result s (step i) ≡ outcomeAnswer (outcome (s .table) (running c p))
+      is = step-answer (v .wellFormed) i c p e
 
       -- the outcome is a, and the lookup becomes m
       go : (a : Outcome) (m : Lookup) → Stepped (s .table) c p a m → outcome (s .table) (running c p) ≡ a
           → continued (s .table) (running c p) (outcome (s .table) (running c p)) ≡ m → StepOf q i c n
-      go a m (ends x) ea em = answers (ap (λ (a : Outcome). isAnswer (outcomeAnswer a)) (ap (outcome (s .table)) e ∙ ea)) (after ∙ em)
-      go a m (finds x d) ea em = answers (ap (λ (a : Outcome). isAnswer (outcomeAnswer a)) (ap (outcome (s .table)) e ∙ ea)) (after ∙ em)
+      go a m (ends x) ea em = answers (ap isAnswer (is ∙ ap outcomeAnswer ea)) (after ∙ em)
+      go a m (finds x d) ea em = answers (ap isAnswer (is ∙ ap outcomeAnswer ea)) (after ∙ em)
       go a m (goes x d) ea em =
           let r = looks-on v q i c n p x d l in goesTo (r .0) (linkOf (s .table) p) (r .1) going′ (after ∙ em) (rw going′ (on (rw going′ at now) (r .0) (r .2)))
         where
           going′ : result s (step i) ≡ zeros
-          going′ = ap outcomeAnswer (ap (outcome (s .table)) e ∙ ea)
+          going′ = is ∙ ap outcomeAnswer ea
 
           on : past (suc k) ≡ g → (m : ℕ) → Looks past k (s .table) g q i c m (linkOf (s .table) p) → Looks past (suc k) (s .table) g q i c m (linkOf (s .table) p)
           on u m = looks-kept (respects-still k (s .table) g g refl (λ z m o. m)) past q i c m (linkOf (s .table) p) (rw u (v .entries c)) (spared-same g i)
@@ -151,7 +169,7 @@ module _ {k : ℕ} {s : State} {g : Ledger} (v : Tied k s g) (past : ℕ → Led
 
   looking-dropped : (i : ℕ) → refusal s (end i) ≡ 0 → LookingAfter i (end i)
   unfolding performed
-  looking-dropped i z = rw (lane-after i leaving (accepts s (end i) z .lane .known)) tt
+  looking-dropped i z = rw (lane-after (v .wellFormed) i leaving (accepts s (end i) z .lane .known)) tt
 
 -- ---- every lane, after every call
 
@@ -212,7 +230,7 @@ pub record Runs (past : ℕ → Ledger) (k : ℕ) (s : State) (g : Ledger) (q : 
   pub looks : Looks past k (s .table) g q i c n position
 
 -- no step of it is refused: the lane is known, is on, and its lookup runs
-step-taken : {s : State} → WellFormed s → (i c p : ℕ) → laneOf s i .lookup ≡ running c p → refusal s (step i) ≡ 0
+pub step-taken : {s : State} → WellFormed s → (i c p : ℕ) → laneOf s i .lookup ≡ running c p → refusal s (step i) ≡ 0
 unfolding causes firstOf isRunning
 step-taken {s} w i c p e = rw (known, online, ap isRunning e)
   where
@@ -223,7 +241,7 @@ step-taken {s} w i c p e = rw (known, online, ap isRunning e)
     online = reading-online w i (subst (λ (l : Lookup). LookupFits (s .sizes .slots) (laneOf s i .reading) l) e (w .fits i .lookup) .0)
 
 -- an answer of status 0 is that of a call that no cause refuses
-status-accepted : (s : State) (o : Op) → answer s o .status ≡ 0 → refusal s o ≡ 0
+pub status-accepted : (s : State) (o : Op) → answer s o .status ≡ 0 → refusal s o ≡ 0
 status-accepted s o e = go (refusal s o) refl
   where
     go : (n : ℕ) → refusal s o ≡ n → refusal s o ≡ 0
@@ -238,7 +256,7 @@ pub runs-start : {k : ℕ} {s : State} {g : Ledger} (v : Tied k s g) (past : ℕ
 unfolding performed fed
 runs-start {k} {s} {g} v past i c e now = rw (next-accepted s (start i c) z, fed-now s (start i c) k g z) (record {
   position = first (chainOf (s .table) c);
-  lookup = ap (λ (l : Lane). l .lookup) (lane-after v past i (starting v c) (accepts s (start i c) z .lane .known));
+  lookup = start-lookup (v .wellFormed) i c (accepts s (start i c) z .lane .known);
   looks = looks-start v past i c (accepts s (start i c) z .reading) (now ∙ fed-now s (start i c) k g z);
 })
   where
