@@ -5,11 +5,10 @@ use mathlib.Core.Path.{_≡_, refl}
 use mathlib.Core.Bool.{Bool, true, false}
 use mathlib.Core.List.{List, [], _∷_, map}
 use lib.ListN.{take}
-use Rattle.model.specs.Lists.{drops, tail, same}
+use Rattle.model.specs.Lists.{drops, same}
 use Rattle.model.specs.Rules.{add, replace, delete, begin, end, start, step}
-use Rattle.model.specs.Calls.{set-up, left}
-use Rattle.model.specs.Ledger.{Section, Entry, Search, Out, Ledger, fed, fedCall, Event, ledgerFrom, ledger, events, searchIn}
-use Rattle.scripts.specs.Scripts.{Line, op, setUp123, listing, callOf, fiveWords, answered, lentWords}
+use Rattle.model.specs.Ledger.{Section, Entry, Search, Out, Ledger, fed, fedCall, Event, ledgerFrom, ledger, searchIn}
+use Rattle.scripts.specs.Scripts.{Line, op, setUp123, listing, fiveWords, eventsOf}
 
 -- what the ledger holds at an instant
 pub data Book : Type 0 where
@@ -25,14 +24,9 @@ owedAt (book k es ss qs os) = record { entries = es; sections = ss; searches = q
 unfoldable pub owed : Account → List Ledger
 owed (account ls bs) = map owedAt bs
 
--- the events of the calls after the set-up
-unfoldable pub eventsOf : List Line → List Event
-unfolding answered events drops tail
-eventsOf ls = events (left (lentWords 200) (set-up 1 2 3)) (tail (map callOf ls))
-
 -- the ledger fed with the first events, up to that instant
 unfoldable pub ledgerAt : List Event → ℕ → Ledger
-unfolding fed fedCall ledgerFrom
+unfolding drops fed fedCall ledgerFrom
 ledgerAt es k = ledger (take k es)
 
 unfoldable pub heldAt : List Event → Book → Ledger

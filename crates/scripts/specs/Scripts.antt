@@ -23,6 +23,7 @@ use Rattle.model.specs.Legal.{snapshotsPending, cabinetBits, freeBlank, largest
 use Rattle.model.specs.Labels.{noLabel, labelCode, readRefusal, readReplyOf, readReply}
 use Rattle.model.specs.Labels.{labelLength, labelText, writeRefusal, writeReplyOf, writtenOf, writeReply, written}
 use Rattle.model.specs.Calls.{Call, set-up, on-state, refusalOf, replyOf, leftOf, reply, left, replies, leftAll}
+use Rattle.model.specs.Ledger.{Event, events}
 
 -- the five words of an answer
 abbrev pub fiveWords : Answer → List ℕ
@@ -63,6 +64,9 @@ setUp111 = line (set-up 1 1 1) 0 114 0 0 0
 
 abbrev pub setUp112 : Line
 setUp112 = line (set-up 1 1 2) 0 120 0 0 0
+
+abbrev pub setUp122 : Line
+setUp122 = line (set-up 1 2 2) 0 139 0 0 0
 
 abbrev pub setUp123 : Line
 setUp123 = line (set-up 1 2 3) 0 145 0 0 0
@@ -108,6 +112,12 @@ callOf (line k s a b c d) = k
 
 abbrev pub outputOf : Line → List ℕ
 outputOf (line k s a b c d) = s ∷ a ∷ b ∷ c ∷ d ∷ []
+
+-- the events of the calls after the set-up, which is the first line; 200 words are lent
+unfoldable pub eventsOf : List Line → List Event
+unfolding answered events
+eventsOf [] = []
+eventsOf (l ∷ ls) = events (left (lentWords 200) (callOf l)) (map callOf ls)
 
 -- a row of a table. `script`: the number of words lent, and the lines. `poked`: the same, with a word put at an address between the first lines and the
 -- others. `order`: whether generation a is later than b. `digit`: whether a text of digits ends with a right check digit. `reads`: a text, and the status and

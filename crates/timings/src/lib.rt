@@ -1,0 +1,1 @@
+// Definitions only: specs/ computes how long lookups take by the definitions of the crate `model`.
