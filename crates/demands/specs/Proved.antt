@@ -8,8 +8,7 @@ use lib.ListN.{length}
 use lib.Dec.{ltb}
 use borrow.Author.Tests.{lt-ltb, le-ltb}
 use Rattle.model.specs.State.{State}
-use Rattle.model.specs.Rules.{Answer, Op, accepted, refused, answer, next, fresh}
-use Rattle.model.specs.Layout.{total}
+use Rattle.model.specs.Rules.{Answer, Op, answer, fresh}
 use Rattle.model.specs.Memory.{Words, state}
 use Rattle.model.specs.Calls.{Call, set-up, on-state, sized, stored, refusalOf, replyOf, leftOf, reply, left, leftAll}
 use Rattle.model.specs.Ledger.{Event, events, Demand, RefusesSetUps}

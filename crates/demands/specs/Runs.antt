@@ -4,21 +4,21 @@ use Prim.Native.Nat.{ℕ}
 use mathlib.Core.Path.{_≡_, refl, ap, subst, _∙_}
 use mathlib.Core.Logic.{_⊎_, inl, inr}
 use mathlib.Core.Bool.{true, false}
-use mathlib.Core.List.{List, [], _∷_, _++_, map}
+use mathlib.Core.List.{List, [], _∷_, map}
 use native.Mathlib.Omega.{arith}
-use lib.ListN.{length, drop}
+use lib.ListN.{length}
 use lib.Dec.{ltb}
 use Rattle.laws.specs.Tests.{bool-cases, cond-cases}
 use Rattle.model.specs.Lists.{drops}
 use Rattle.model.specs.State.{State}
-use Rattle.model.specs.Rules.{Answer, next}
+use Rattle.model.specs.Rules.{Answer}
 use Rattle.model.specs.Memory.{state}
 use Rattle.model.specs.Calls.{Call, set-up, on-state, reply, left, leftAll}
-use Rattle.model.specs.Ledger.{Event, events, RefusesSetUps}
+use Rattle.model.specs.Ledger.{events, RefusesSetUps}
 use Rattle.representation.proofs.MemoryCalls.{refused-keeps, left-state}
 use Rattle.representation.specs.Sound.{Sound}
 use Rattle.representation.proofs.Memories.{left-sound}
-use Rattle.product_table.specs.Called.{answerLength, shortAnswer, answerWords, Outcome, outcome, answering, Called}
+use Rattle.product_table.specs.Called.{answerLength, Outcome, outcome, answering, Called}
 use Rattle.demands.specs.Demands.{NotMade, Answered, Run, Ran, lastMemory, NoSetUp, NoSetUps, isShort, callOf, callsOf, stateAfter}
 use Rattle.demands.specs.Demands.{answerIn, eventOf, eventsOf}
 

@@ -1,7 +1,7 @@
 -- No figure for the belt is less than n + 1: over every list, a lookup of a code without a record, which nobody disturbs, goes a step for each record on
 -- its chain before it is answered.
 use Prim.Native.Nat.{ℕ, suc, _+_, _<_}
-use mathlib.Core.Path.{_≡_, refl, sym, ap, subst, _∙_}
+use mathlib.Core.Path.{_≡_, refl, sym, ap, _∙_}
 use mathlib.Core.Logic.{inl, inr, _≢_}
 use mathlib.Core.List.{List, [], _∷_, _++_, append-assoc}
 use native.Mathlib.Omega.{arith}
@@ -10,9 +10,9 @@ use Rattle.model.specs.Word.{none}
 use Rattle.model.specs.Lists.{count, first}
 use Rattle.model.specs.State.{running, Product, Table, State}
 use Rattle.model.specs.Table.{productAt, chainOf, linkOf}
-use Rattle.model.specs.Rules.{start, step, Answer, accepted, zeros, laneOf, refusal, absent, going, outcome, outcomeAnswer, continued, performed, result, answer, next, fresh}
+use Rattle.model.specs.Rules.{start, step, Answer, zeros, laneOf, refusal, absent, going, outcome, outcomeAnswer, continued, performed, next, fresh}
 use Rattle.model.specs.Calls.{Call, set-up, on-state, sized, reply, left, leftAll}
-use Rattle.model.specs.Ledger.{Event, ledger, search, events, isStepOf, stepAnswers, recordsOn, Attained}
+use Rattle.model.specs.Ledger.{Event, events, isStepOf, stepAnswers, Attained}
 use borrow.Author.Tests.{ne-eqb}
 use Rattle.laws.specs.Tests.{eqb-self, same-or}
 use Rattle.laws.specs.Counts.{mark-self, count-append}

@@ -1,18 +1,19 @@
 -- How long a lookup can take (document 02, request 5): over every list, with n records on its chain when it starts, a lookup that is not dropped has its
 -- answer by step n + 1 of its lane, and no step before is refused; n is the number of chained slots too, and no figure is less.
-use Prim.Native.Nat.{ℕ, zero, suc}
+use Prim.Native.Nat.{ℕ, zero, suc, _≤_}
 use mathlib.Core.Path.{_≡_, refl, sym, ap, subst, _∙_}
-use mathlib.Core.Bool.{true, false}
+use mathlib.Core.Bool.{true, false, _&&_}
 use mathlib.Core.List.{List, [], _∷_, _++_, append-nil, append-assoc, append-cancel-left, nil≢cons, head-eq-of-cons-eq, tail-eq-of-cons-eq, List·Memᴰ, List·Memᴰ·head, List·Memᴰ·tail}
+use native.Mathlib.Omega.{arith}
 use lib.ListN.{length}
 use lib.Seq.{append-snoc}
-use Rattle.model.specs.Lists.{any}
-use Rattle.model.specs.State.{State, running}
+use Rattle.model.specs.Lists.{any, all}
+use Rattle.model.specs.State.{State}
 use Rattle.model.specs.Table.{chainOf}
-use Rattle.model.specs.Rules.{Op, start, step, end, Answer, zeros, laneOf, answer, next, fresh}
+use Rattle.model.specs.Rules.{start, end, Answer, zeros, answer, next, fresh}
 use Rattle.model.specs.Calls.{Call, set-up, on-state, sized, reply, left, leftAll}
-use Rattle.model.specs.Ledger.{Search, Event, ledger, isAnswer, events, endEvent, fedCall, isStepOf, stepAnswers, isGoing, inTime, startEvent, NoEnd, Timed, Belt, ChainsCounted}
-use Rattle.laws.specs.Tests.{clash, or-left}
+use Rattle.model.specs.Ledger.{Search, Event, ledger, isAnswer, events, fedCall, isStepOf, stepAnswers, isGoing, inTime, startEvent, NoEnd, Timed, Belt, ChainsCounted}
+use Rattle.laws.specs.Tests.{clash, and-true, and-intro, or-cases, or-left}
 use Rattle.history.proofs.CallsKeep.Respects.{spared-same, looks-kept}
 use Rattle.history.proofs.CallsKeep.Unseen.{keeps-same}
 use Rattle.history.proofs.CallsKeep.Lookups.{Runs, runs-start, Onward, stays, goesOn, isAnswered, onward}
@@ -161,3 +162,23 @@ chains-counted m c p n ok ks r = go (to-end h ks [] (fresh (sized c p n)) m₀ (
 
     go : End h [] (fresh (sized c p n)) (leftAll m₀ ks) → ChainsCounted h (leftAll m₀ ks)
     go e b = rw (e .stands .read) (sym (records-chained h (e .invariant .tied) b))
+
+-- ---- what being on time says of the steps, in other words
+
+-- Either one of the first n + 1 steps answers, and those before it were accepted with outcome 0; or all the steps made so far go, and they are at most n
+pub data Course (n : ℕ) (rs : List Answer) : Type 0 where
+  answeredAfter : (before : List Answer) (r : Answer) (rest : List Answer) → rs ≡ before ++ r ∷ rest → length before ≤ n → all isGoing before ≡ true
+      → isAnswer r ≡ true → Course n rs
+  underWay : length rs ≤ n → all isGoing rs ≡ true → Course n rs
+
+pub course : (n : ℕ) (rs : List Answer) → inTime n rs ≡ true → Course n rs
+unfolding inTime all
+course n [] h = underWay (omega arith) refl
+course zero (r ∷ rs) h = answeredAfter [] r rs refl (omega arith) refl h
+course (suc n) (r ∷ rs) h =
+    or-cases (isAnswer r) (isGoing r && inTime n rs) h (λ a. answeredAfter [] r rs refl (omega arith) refl a)
+    (λ b. let g = and-true (isGoing r) (inTime n rs) b in longer (g .0) (course n rs (g .1)))
+  where
+    longer : isGoing r ≡ true → Course n rs → Course (suc n) (r ∷ rs)
+    longer g (answeredAfter bs a rest e l w u) = answeredAfter (r ∷ bs) a rest (ap (λ (l : List Answer). r ∷ l) e) (omega arith) (and-intro (isGoing r) _ g w) u
+    longer g (underWay l w) = underWay (omega arith) (and-intro (isGoing r) _ g w)

@@ -29,8 +29,8 @@ use Rattle.history.proofs.CallsKeep.SlotFacts.{reading-online}
 use Rattle.history.proofs.CallsKeep.Respects.{Spared, spared-same, looks-kept, looking-kept, respects-still, Keeps}
 use Rattle.history.proofs.CallsKeep.Unseen.{keeps-same}
 use Rattle.history.proofs.CallsKeep.LookupSteps.{Stepped, ends, finds, goes, stepped-cases}
-use Rattle.history.proofs.CallsKeep.StartStep.{new, starting, looks-start, looks-on}
-use Rattle.history.proofs.CallsKeep.EveryCall.{movesLookup, fed-cases, fedCall-accepted, fedCall-refused, inside, lookup-other, moves-cases, is-step}
+use Rattle.history.proofs.CallsKeep.StartStep.{new, looks-start, looks-on}
+use Rattle.history.proofs.CallsKeep.EveryCall.{movesLookup, fed-cases, fedCall-accepted, fedCall-refused, lookup-other, moves-cases, is-step}
 
 -- ---- a lane whose lookup the call does not move
 

@@ -1,7 +1,7 @@
 -- The ledger has as many records on a chain as the chain has slots: a whole search gives the same of both, and neither has a code twice.
 use Prim.Native.Nat.{ℕ, suc, _<_, _≤_}
 use mathlib.Core.Path.{_≡_, refl, sym, ap, _∙_}
-use mathlib.Core.Logic.{inl, inr, _≢_}
+use mathlib.Core.Logic.{inl, inr}
 use mathlib.Core.List.{List, [], _∷_}
 use native.Mathlib.Omega.{arith}
 use lib.ListN.{length, getD}
@@ -12,9 +12,9 @@ use Rattle.model.specs.Table.{productAt, chainNumber, chainOf}
 use Rattle.model.specs.Rules.{Op, Answer}
 use Rattle.model.specs.Ledger.{Entry, Ledger, ofCode, searchIn, Event, ledgerFrom, ledger, fedCall, recordsOn}
 use Rattle.laws.specs.Tests.{same-or}
-use Rattle.laws.specs.Counts.{mark-self, count-cons}
+use Rattle.laws.specs.Counts.{mark-self}
 use Rattle.representation.proofs.WellFormed.{chained}
-use Rattle.history.proofs.Ties.Halves.{nothing, something, searched}
+use Rattle.history.proofs.Ties.Halves.{nothing, searched}
 use Rattle.history.proofs.Ties.Invariant.{Tied}
 use Rattle.history.proofs.ChainHalf.ChainStretches.{SameOr, Lacks, chained-at, searched-here, searched-on, searched-none}
 use Rattle.history.proofs.CallsKeep.SlotFacts.{standing-once}
