@@ -2,18 +2,17 @@
 use Prim.Native.Nat.{ℕ}
 use mathlib.Core.Path.{_≡_, refl, sym, ap, _∙_}
 use mathlib.Core.List.{List}
-use native.Mathlib.Omega.{arith}
 use borrow.Author.Tests.{ltb-false}
 use lib.ListN.{length}
 use Rattle.model.specs.State.{Lookup, Lane, State}
 use Rattle.model.specs.Engine.{setLookup, withLanes}
-use Rattle.model.specs.Rules.{Op, end, Answer, withEngine, withLane, leaving, answer, next, performed}
+use Rattle.model.specs.Rules.{end, withEngine, withLane, leaving, answer, performed}
 use Rattle.model.specs.Memory.{state}
 use Rattle.model.specs.Calls.{set-up, on-state, reply, left}
 use Rattle.model.specs.Ledger.{Event, AfterEnds}
 use Rattle.laws.specs.ListLaws.{update-update}
 use Rattle.representation.specs.Sound.{Sound}
-use Rattle.representation.proofs.Causes.Passed.{call-cases}
+use Rattle.representation.proofs.Causes.Passed.{next-accepted, status-accepted}
 use Rattle.history.proofs.AfterEnds.{after-ends}
 use Rattle.product_table.specs.Called.{answerLength, Called}
 use Rattle.demands.specs.Demands.{Run, Ran, NoSetUps, eventsOf}
@@ -31,17 +30,13 @@ pub record Ends : Type 0 where
 
 -- ---- that it holds
 
--- an accepted call does its work
-next-accepted : (s : State) (o : Op) → answer s o .status ≡ 0 → next s o ≡ performed s o
-next-accepted s o = call-cases (λ (t : State) (r : Answer). r .status ≡ 0 → t ≡ performed s o) s o (λ z e. refl) (λ m e. absurd (omega arith))
-
 -- the state after an end that returned 0
 end-state : (i : ℕ) (m a n b : List ℕ) → Sound m → Called (on-state (end i)) m a n b 0 → state n ≡ withLane (state m) i leaving
 unfolding performed
 end-state i m a n b v h =
     let o = on-state (end i) in
     let f = demand2 .calls (end i) m a n b 0 h (ltb-false (length a) answerLength (made-long (reply m o) m (left m o) a n b 0 h refl)) v in
-    f .state ∙ next-accepted (state m) (end i) (sym (f .answer .status))
+    f .state ∙ next-accepted (state m) (end i) (status-accepted (state m) (end i) (sym (f .answer .status)))
 
 -- the lane's lookup is put to rest, whatever it was
 leaving-alike : (s : State) (i : ℕ) (k : Lookup) → withLane (withLane s i (setLookup k)) i leaving ≡ withLane s i leaving

@@ -16,12 +16,14 @@ use Rattle.model.specs.Ledger.{Event, events, isStepOf, stepAnswers, Attained}
 use borrow.Author.Tests.{ne-eqb}
 use Rattle.laws.specs.Tests.{eqb-self, same-or}
 use Rattle.laws.specs.Counts.{mark-self, count-append}
+use Rattle.representation.proofs.Causes.Passed.{next-accepted, answer-accepted, status-accepted}
 use Rattle.representation.proofs.Causes.Accepted.{accepts}
 use Rattle.representation.proofs.WellFormed.{chained}
 use Rattle.history.proofs.Ties.Halves.{nothing, searched}
 use Rattle.history.proofs.ChainHalf.ChainStretches.{SameOr, Lacks, chained-at, linkOf-chained, searched-here, searched-on}
 use Rattle.history.proofs.CallsKeep.SlotFacts.{standing-once, standing-some}
-use Rattle.history.proofs.CallsKeep.Lookups.{next-accepted, answer-accepted, step-answer, step-lookup, start-lookup, step-taken, status-accepted}
+use Rattle.history.proofs.CallsKeep.Lookups.{step-answer, step-lookup, start-lookup}
+use Rattle.history.proofs.CallsKeep.Runs.{step-taken}
 use Rattle.history.proofs.OverLists.Stands.{Stands, reply-on, stands-next}
 use Rattle.history.proofs.OverLists.ListInvariant.{End, to-end}
 use Rattle.history.proofs.OverLists.Counted.{records-chained}
@@ -75,7 +77,7 @@ module _ (i c : ℕ) where
 
     -- what a step answers and leaves
     reply-step : reply m stepCall ≡ outcomeAnswer (outcome (s .table) (running c p))
-    reply-step = reply-on v (step i) ∙ (answer-accepted s (step i) taken ∙ step-answer (v .wellFormed) i c p e)
+    reply-step = reply-on v (step i) ∙ (answer-accepted s (step i) taken ∙ step-answer s i c p e)
 
     next-lookup : laneOf (next s (step i)) i .lookup ≡ continued (s .table) (running c p) (outcome (s .table) (running c p))
     next-lookup = rw (next-accepted s (step i) taken) (step-lookup (v .wellFormed) i c p (accepts s (step i) taken .lane .known) e)
@@ -116,7 +118,8 @@ attained m x y z ok ks r = go (to-end h ks [] (fresh (sized x y z)) m₀ (at-set
     h = events m₀ ks
 
     go : End h [] (fresh (sized x y z)) (leftAll m₀ ks) → Attained h (leftAll m₀ ks)
-    go e i c ok none = rw (records-chained h (e .invariant .tied) c) (goes-through i c (chainOf (s .table) c) [] (next s (start i c)) _ (stands-next (e .stands) (start i c))
+    go e i c ok none = rw (records-chained h (e .invariant .tied) c)
+        (goes-through i c (chainOf (s .table) c) [] (next s (start i c)) _ (stands-next (e .stands) (start i c))
         lookup (ap (λ (t : Table). chainOf t c) table) lacks)
       where
         s : State

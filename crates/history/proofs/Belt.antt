@@ -3,7 +3,8 @@
 use Prim.Native.Nat.{ℕ, zero, suc, _≤_}
 use mathlib.Core.Path.{_≡_, refl, sym, ap, subst, _∙_}
 use mathlib.Core.Bool.{true, false, _&&_}
-use mathlib.Core.List.{List, [], _∷_, _++_, append-nil, append-assoc, append-cancel-left, nil≢cons, head-eq-of-cons-eq, tail-eq-of-cons-eq, List·Memᴰ, List·Memᴰ·head, List·Memᴰ·tail}
+use mathlib.Core.List.{List, [], _∷_, _++_, append-nil, append-assoc, append-cancel-left, nil≢cons, head-eq-of-cons-eq, tail-eq-of-cons-eq}
+use mathlib.Core.List.{List·Memᴰ, List·Memᴰ·head, List·Memᴰ·tail}
 use native.Mathlib.Omega.{arith}
 use lib.ListN.{length}
 use lib.Seq.{append-snoc}
@@ -12,11 +13,12 @@ use Rattle.model.specs.State.{State}
 use Rattle.model.specs.Table.{chainOf}
 use Rattle.model.specs.Rules.{start, end, Answer, zeros, answer, next, fresh}
 use Rattle.model.specs.Calls.{Call, set-up, on-state, sized, reply, left, leftAll}
-use Rattle.model.specs.Ledger.{Search, Event, ledger, isAnswer, events, fedCall, isStepOf, stepAnswers, isGoing, inTime, startEvent, NoEnd, Timed, Belt, ChainsCounted}
+use Rattle.model.specs.Ledger.{Search, Event, ledger, isAnswer, events, fedCall}
+use Rattle.model.specs.Ledger.{isStepOf, stepAnswers, isGoing, inTime, startEvent, NoEnd, Timed, Belt, ChainsCounted}
 use Rattle.laws.specs.Tests.{clash, and-true, and-intro, or-cases, or-left}
 use Rattle.history.proofs.CallsKeep.Respects.{spared-same, looks-kept}
 use Rattle.history.proofs.CallsKeep.Unseen.{keeps-same}
-use Rattle.history.proofs.CallsKeep.Lookups.{Runs, runs-start, Onward, stays, goesOn, isAnswered, onward}
+use Rattle.history.proofs.CallsKeep.Runs.{Runs, runs-start, Onward, stays, goesOn, isAnswered, onward}
 use Rattle.history.proofs.OverLists.Instants.{past, length-snoc}
 use Rattle.history.proofs.OverLists.Stands.{reply-on}
 use Rattle.history.proofs.OverLists.ListInvariant.{event, At, after, later, ledger-setUp, ledger-call, keeps-at, past-at, past-next, End, to-end}
@@ -67,7 +69,8 @@ module _ (h : List Event) (i c : ℕ) (q : Search) where
       e : ledger (done ++ (event m (set-up x y z) ∷ [])) ≡ ledger done
       e = ledger-setUp h done s m x y z
   next-call done s m (on-state o) ks a n r f =
-      go (onward (a .invariant .tied) q i c n r o (λ u e. f (ap (λ (r : Answer). r .status) is ∙ u) (ap on-state e)) (keeps-at h done s m o ks a) (past-at h done s m o ks a))
+      go (onward (a .invariant .tied) q i c n r o (λ u e. f (ap (λ (r : Answer). r .status) is ∙ u) (ap on-state e))
+      (keeps-at h done s m o ks a) (past-at h done s m o ks a))
     where
       is : reply m (on-state o) ≡ answer s o
       is = reply-on (a .stands) o
@@ -133,18 +136,20 @@ timed-start m ks s a i c r before since rest z all f =
         q : Search
         q = record { lane = i; code = c; started = suc (length before) }
 
+        fed-start : ledger es ≡ fedCall (suc (length before)) o (answer (p .state) (start i c)) (ledger before)
+        fed-start = ap (λ (e : Event). ledger (before ++ (e ∷ []))) (sym is) ∙ ledger-call h before (p .state) (p .memory) (start i c) (p .at .stands)
+
+        follow : events (left (p .memory) o) (p .calls) ≡ since ++ rest
+        follow = append-cancel-left es _ _
+            (sym (next-at .all) ∙ (all ∙ (ap (λ (l : List Event). l ++ rest) (sym (append-snoc before (startEvent i c r) since)) ∙ append-assoc es since rest)))
+
         runs : RunsAt h i c q es (next (p .state) (start i c)) n
-        runs = rw (
-          length-snoc before (startEvent i c r),
-          ap (λ (e : Event). ledger (before ++ (e ∷ []))) (sym is)
-              ∙ ledger-call h before (p .state) (p .memory) (start i c) (p .at .stands),
-        )
+        runs = rw (length-snoc before (startEvent i c r), fed-start)
             (runs-start (p .at .invariant .tied) (past h) i c (ap (λ (r : Answer). r .status) (p .is) ∙ z)
             (past-at h before (p .state) (p .memory) (start i c) (p .calls) (p .at)))
 
         t : Goes es q i n since
-        t = timed h i c q (p .calls) es _ _ next-at n runs since rest
-            (append-cancel-left es _ _ (sym (next-at .all) ∙ (all ∙ (ap (λ (l : List Event). l ++ rest) (sym (append-snoc before (startEvent i c r) since)) ∙ append-assoc es since rest)))) f
+        t = timed h i c q (p .calls) es _ _ next-at n runs since rest follow f
 
 pub belt : EveryList (λ (h : List Event) (m : List ℕ). Belt h)
 belt m c p n ok ks s = timed-start (left m (set-up c p n)) ks (fresh (sized c p n)) (at-set-up m c p n ok ks s)

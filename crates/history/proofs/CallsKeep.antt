@@ -13,4 +13,5 @@ pub mod Remove
 pub mod Reclaim
 pub mod EveryCall
 pub mod Lookups
+pub mod Runs
 pub mod Start

@@ -145,7 +145,8 @@ module _ {k : ℕ} {s : State} {g : Ledger} (v : Tied k s g) where
 
 module _ (s : State) where
   -- a change of a lane that leaves its lookup leaves every lane's
-  lookup-lane : (j : ℕ) (f : Lane → Lane) → f (laneOf s j) .lookup ≡ laneOf s j .lookup → (i : ℕ) → laneAt (atLane j f (s .engine)) i .lookup ≡ laneOf s i .lookup
+  lookup-lane : (j : ℕ) (f : Lane → Lane) → f (laneOf s j) .lookup ≡ laneOf s j .lookup
+      → (i : ℕ) → laneAt (atLane j f (s .engine)) i .lookup ≡ laneOf s i .lookup
   lookup-lane j f e = update-cases freshLane (λ (i : ℕ) (l : Lane). l .lookup ≡ laneOf s i .lookup) (s .engine .lanes) j f (λ i. refl) e
 
   -- a change of another lane

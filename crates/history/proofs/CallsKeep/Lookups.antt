@@ -1,36 +1,34 @@
 -- The lookups after a call: one that the call does not move stays where it is and on its trail; the others are started, go on, are answered or dropped.
 use Prim.Native.Nat.{ℕ, zero, suc, _<_}
-use mathlib.Core.Path.{_≡_, refl, sym, ap, subst, _∙_}
+use mathlib.Core.Path.{_≡_, refl, sym, ap, _∙_}
 use mathlib.Core.Logic.{⊎-elim, _≢_}
 use mathlib.Core.Bool.{Bool, true, false}
 use mathlib.Core.List.{List·Memᴰ·tail, List·Memᴰ·cases-cons}
 use native.Mathlib.Omega.{arith}
 use lib.ListN.{length}
-use lib.Dec.{leb}
-use borrow.Author.Tests.{ne-eqb, lt-leb}
+use borrow.Author.Tests.{ne-eqb}
 use Rattle.model.specs.Lists.{first}
 use Rattle.model.specs.State.{Lookup, idle, running, isRunning, Lane, State, laneCount}
 use Rattle.model.specs.Engine.{freshLane, laneAt, setLookup, atLane}
 use Rattle.model.specs.Table.{chainOf, linkOf}
-use Rattle.model.specs.Rules.{Op, start, step, end, Answer, refused, zeros, laneOf, causes, firstOf, refusal, Outcome, outcome, outcomeAnswer, continued, stepped, leaving}
-use Rattle.model.specs.Rules.{performed, result, answer, next}
+use Rattle.model.specs.Rules.{Op, start, step, end, Answer, zeros, laneOf, refusal}
+use Rattle.model.specs.Rules.{Outcome, outcome, outcomeAnswer, continued, stepped, leaving, performed, result, answer, next}
 use Rattle.model.specs.Calls.{on-state}
-use Rattle.model.specs.Ledger.{Search, Ledger, sectionOf, searchOf, isAnswer, fed, fedCall, isStepOf}
+use Rattle.model.specs.Ledger.{Search, Ledger, sectionOf, searchOf, isAnswer, fed, fedCall}
 use Rattle.laws.specs.Tests.{clash, eqb-self}
 use Rattle.laws.specs.ListLaws.{getD-update-same}
-use Rattle.laws.specs.Elements.{getD-within, of-drops, to-drops}
-use Rattle.representation.proofs.Causes.Passed.{call-cases}
+use Rattle.laws.specs.Elements.{of-drops, to-drops}
+use Rattle.representation.proofs.Causes.Passed.{call-cases, next-accepted, answer-accepted, answer-refused}
 use Rattle.representation.proofs.Causes.Accepted.{accepts}
-use Rattle.representation.proofs.WellFormed.{LookupFits, WellFormed}
+use Rattle.representation.proofs.WellFormed.{WellFormed}
 use Rattle.representation.proofs.CallsWellFormed.Next.{status}
 use Rattle.history.proofs.Ties.Halves.{Looks, Looking}
 use Rattle.history.proofs.Ties.Invariant.{Tied, Invariant}
-use Rattle.history.proofs.CallsKeep.SlotFacts.{reading-online}
 use Rattle.history.proofs.CallsKeep.Respects.{Spared, spared-same, looks-kept, looking-kept, respects-still, Keeps}
 use Rattle.history.proofs.CallsKeep.Unseen.{keeps-same}
 use Rattle.history.proofs.CallsKeep.LookupSteps.{Stepped, ends, finds, goes, stepped-cases}
 use Rattle.history.proofs.CallsKeep.StartStep.{new, looks-start, looks-on}
-use Rattle.history.proofs.CallsKeep.EveryCall.{movesLookup, fed-cases, fedCall-accepted, fedCall-refused, lookup-other, moves-cases, is-step}
+use Rattle.history.proofs.CallsKeep.EveryCall.{movesLookup, fed-cases, fedCall-accepted, fedCall-refused, lookup-other, moves-cases}
 
 -- ---- a lane whose lookup the call does not move
 
@@ -92,16 +90,17 @@ module _ {k : ℕ} {s : State} {g : Ledger} (past : ℕ → Ledger) where
 
 -- ---- a lane whose lookup an accepted call moves
 
+-- a step answers by the lookup's position
+pub step-answer : (s : State) (i c p : ℕ) → laneOf s i .lookup ≡ running c p → result s (step i) ≡ outcomeAnswer (outcome (s .table) (running c p))
+unfolding result
+step-answer s i c p e = ap (λ (l : Lookup). outcomeAnswer (outcome (s .table) l)) e
+
 module _ {s : State} (w : WellFormed s) where
   -- the lane that a call is of, after it
   lane-after : (i : ℕ) (f : Lane → Lane) → i < laneCount (s .sizes) → laneAt (atLane i f (s .engine)) i ≡ f (laneOf s i)
   lane-after i f h = getD-update-same freshLane (s .engine .lanes) i f (omega (arith, w .lanes))
 
-  -- a step answers by the lookup's position, and leaves it there or at the link
-  pub step-answer : (i c p : ℕ) → laneOf s i .lookup ≡ running c p → result s (step i) ≡ outcomeAnswer (outcome (s .table) (running c p))
-  unfolding result
-  step-answer i c p e = ap (λ (l : Lookup). outcomeAnswer (outcome (s .table) l)) e
-
+  -- a step leaves the lookup as its outcome says
   pub step-lookup : (i c p : ℕ) → i < laneCount (s .sizes) → laneOf s i .lookup ≡ running c p
       → laneOf (performed s (step i)) i .lookup ≡ continued (s .table) (running c p) (outcome (s .table) (running c p))
   unfolding performed
@@ -113,7 +112,7 @@ module _ {s : State} (w : WellFormed s) where
   start-lookup i c h = ap (λ (l : Lane). l .lookup) (lane-after i (setLookup (running c (first (chainOf (s .table) c)))) h)
 
 module _ {k : ℕ} {s : State} {g : Ledger} (v : Tied k s g) (past : ℕ → Ledger) where
-  -- what lane i looks for after the call o, whose answer is r
+  -- what lane i looks for after the call o, which no cause refuses
   abbrev LookingAfter : ℕ → Op → Type 0
   LookingAfter i o = Looking past (suc k) (performed s o .table) (fed (suc k) o (result s o) g) i (laneOf (performed s o) i .lookup)
 
@@ -138,7 +137,7 @@ module _ {k : ℕ} {s : State} {g : Ledger} (v : Tied k s g) (past : ℕ → Led
       after = step-lookup (v .wellFormed) i c p (accepts s (step i) z .lane .known) e
 
       is : result s (step i) ≡ outcomeAnswer (outcome (s .table) (running c p))
-      is = step-answer (v .wellFormed) i c p e
+      is = step-answer s i c p e
 
       -- the outcome is a, and the lookup becomes m
       go : (a : Outcome) (m : Lookup) → Stepped (s .table) c p a m → outcome (s .table) (running c p) ≡ a
@@ -151,7 +150,8 @@ module _ {k : ℕ} {s : State} {g : Ledger} (v : Tied k s g) (past : ℕ → Led
           going′ : result s (step i) ≡ zeros
           going′ = is ∙ ap outcomeAnswer ea
 
-          on : past (suc k) ≡ g → (m : ℕ) → Looks past k (s .table) g q i c m (linkOf (s .table) p) → Looks past (suc k) (s .table) g q i c m (linkOf (s .table) p)
+          on : past (suc k) ≡ g → (m : ℕ) → Looks past k (s .table) g q i c m (linkOf (s .table) p)
+              → Looks past (suc k) (s .table) g q i c m (linkOf (s .table) p)
           on u m = looks-kept (respects-still k (s .table) g g refl (λ z m o. m)) past q i c m (linkOf (s .table) p) (rw u (v .entries c)) (spared-same g i)
 
   looking-stepped : (i : ℕ) → Looking past k (s .table) g i (laneOf s i .lookup) → refusal s (step i) ≡ 0
@@ -173,21 +173,8 @@ module _ {k : ℕ} {s : State} {g : Ledger} (v : Tied k s g) (past : ℕ → Led
 
 -- ---- every lane, after every call
 
--- what a call that no cause refuses answers and leaves
-pub next-accepted : (s : State) (o : Op) → refusal s o ≡ 0 → next s o ≡ performed s o
-unfolding next
-next-accepted s o z = rw z
-
-pub answer-accepted : (s : State) (o : Op) → refusal s o ≡ 0 → answer s o ≡ result s o
-unfolding answer
-answer-accepted s o z = rw z
-
-pub answer-refused : (s : State) (o : Op) (n : ℕ) → refusal s o ≡ suc n → answer s o ≡ refused (suc n)
-unfolding answer
-answer-refused s o n z = rw z
-
--- and what it does to the ledger
-fed-now : (s : State) (o : Op) (k : ℕ) (g : Ledger) → refusal s o ≡ 0 → fedCall (suc k) (on-state o) (answer s o) g ≡ fed (suc k) o (result s o) g
+-- what a call that no cause refuses does to the ledger
+pub fed-now : (s : State) (o : Op) (k : ℕ) (g : Ledger) → refusal s o ≡ 0 → fedCall (suc k) (on-state o) (answer s o) g ≡ fed (suc k) o (result s o) g
 fed-now s o k g z = ap (λ (r : Answer). fedCall (suc k) (on-state o) r g) (answer-accepted s o z) ∙ fedCall-accepted (suc k) o (result s o) g (status s o)
 
 -- no call: the next instant has the same state and ledger
@@ -220,95 +207,3 @@ module _ {past : ℕ → Ledger} {k : ℕ} {s : State} {g : Ledger} (v : Invaria
         where
           refuses : answer s o .status ≡ 0 → ⊥
           refuses u = omega (arith, ap (λ (r : Answer). r .status) (answer-refused s o n z))
-
--- ---- a lane's lookup after a call
-
--- lane i's lookup of code c is noted as q, and may go n steps more
-pub record Runs (past : ℕ → Ledger) (k : ℕ) (s : State) (g : Ledger) (q : Search) (i c n : ℕ) : Type 0 where
-  pub position : ℕ
-  pub lookup : laneOf s i .lookup ≡ running c position
-  pub looks : Looks past k (s .table) g q i c n position
-
--- no step of it is refused: the lane is known, is on, and its lookup runs
-pub step-taken : {s : State} → WellFormed s → (i c p : ℕ) → laneOf s i .lookup ≡ running c p → refusal s (step i) ≡ 0
-unfolding causes firstOf isRunning
-step-taken {s} w i c p e = rw (known, online, ap isRunning e)
-  where
-    known : leb (laneCount (s .sizes)) i ≡ false
-    known = lt-leb (laneCount (s .sizes)) i (omega (arith, w .lanes, getD-within freshLane (λ (l : Lane). isRunning (l .lookup)) (s .engine .lanes) i refl (ap isRunning e)))
-
-    online : laneOf s i .online ≡ true
-    online = reading-online w i (subst (λ (l : Lookup). LookupFits (s .sizes .slots) (laneOf s i .reading) l) e (w .fits i .lookup) .0)
-
--- an answer of status 0 is that of a call that no cause refuses
-pub status-accepted : (s : State) (o : Op) → answer s o .status ≡ 0 → refusal s o ≡ 0
-status-accepted s o e = go (refusal s o) refl
-  where
-    go : (n : ℕ) → refusal s o ≡ n → refusal s o ≡ 0
-    go zero z = z
-    go (suc n) z = absurd (omega (arith, e, ap (λ (r : Answer). r .status) (answer-refused s o n z)))
-
--- it starts with a step for each slot of its chain
-pub runs-start : {k : ℕ} {s : State} {g : Ledger} (v : Tied k s g) (past : ℕ → Ledger) (i c : ℕ) → answer s (start i c) .status ≡ 0
-    → past (suc k) ≡ fedCall (suc k) (on-state (start i c)) (answer s (start i c)) g
-    → Runs past (suc k) (next s (start i c)) (fedCall (suc k) (on-state (start i c)) (answer s (start i c)) g) (new v i c) i c
-    (length (chainOf (next s (start i c) .table) c))
-unfolding performed fed
-runs-start {k} {s} {g} v past i c e now = rw (next-accepted s (start i c) z, fed-now s (start i c) k g z) (record {
-  position = first (chainOf (s .table) c);
-  lookup = start-lookup (v .wellFormed) i c (accepts s (start i c) z .lane .known);
-  looks = looks-start v past i c (accepts s (start i c) z .reading) (now ∙ fed-now s (start i c) k g z);
-})
-  where
-    z : refusal s (start i c) ≡ 0
-    z = status-accepted s (start i c) e
-
--- the lookup that may go n steps more, after the call o: if that is no step of the lane, as before; a step answers it, or goes and leaves one less
-pub data Onward (past : ℕ → Ledger) (k : ℕ) (s : State) (g : Ledger) (o : Op) (q : Search) (i c n : ℕ) : Type 0 where
-  stays : isStepOf i (on-state o) ≡ false → Runs past (suc k) (next s o) (fedCall (suc k) (on-state o) (answer s o) g) q i c n
-      → Onward past k s g o q i c n
-  goesOn : (m : ℕ) → isStepOf i (on-state o) ≡ true → answer s o ≡ zeros → n ≡ suc m
-      → Runs past (suc k) (next s o) (fedCall (suc k) (on-state o) (answer s o) g) q i c m → Onward past k s g o q i c n
-  isAnswered : isStepOf i (on-state o) ≡ true → isAnswer (answer s o) ≡ true → Onward past k s g o q i c n
-
-module _ {past : ℕ → Ledger} {k : ℕ} {s : State} {g : Ledger} (v : Tied k s g) (q : Search) (i c n : ℕ) (r : Runs past k s g q i c n) where
-  -- its own step
-  onward-step : past (suc k) ≡ fedCall (suc k) (on-state (step i)) (answer s (step i)) g → Onward past k s g (step i) q i c n
-  unfolding isStepOf
-  onward-step now = go (step-of v past q i c n (r .position) z (now ∙ fed-now s (step i) k g z) (r .lookup) (r .looks))
-    where
-      z : refusal s (step i) ≡ 0
-      z = step-taken (v .wellFormed) i c (r .position) (r .lookup)
-
-      go : StepOf v past q i c n → Onward past k s g (step i) q i c n
-      go (answers a b) = isAnswered (eqb-self i) (rw (answer-accepted s (step i) z) a)
-      go (goesTo m p e a b l) = goesOn m (eqb-self i) (answer-accepted s (step i) z ∙ a) e
-          (rw (next-accepted s (step i) z, fed-now s (step i) k g z) (record { position = p; lookup = b; looks = l }))
-
-  module _ (o : Op) (f : answer s o .status ≡ 0 → o ≡ end i → ⊥) where
-    -- a call that is no step of the lane, and drops its lookup not, moves it not: while it runs, a start is refused
-    unmoved : isStepOf i (on-state o) ≡ false → answer s o .status ≡ 0 → movesLookup i o ≡ false
-    unfolding isRunning isStepOf
-    unmoved t u = go (movesLookup i o) refl
-      where
-        go : (b : Bool) → movesLookup i o ≡ b → movesLookup i o ≡ false
-        go false m = m
-        go true m = absurd (moves-cases (λ (o : Op). refusal s o ≡ 0 → isStepOf i (on-state o) ≡ false → (o ≡ end i → ⊥) → ⊥) i
-            (λ b z t f. clash (ap isRunning (r .lookup)) (accepts s (start i b) z .idle)) (λ z t f. clash (eqb-self i) t) (λ z t f. f refl) o m
-            (status-accepted s o u) t (f u))
-
-    pub onward : Keeps k s (next s o) g (fedCall (suc k) (on-state o) (answer s o) g) → past (suc k) ≡ fedCall (suc k) (on-state o) (answer s o) g
-        → Onward past k s g o q i c n
-    onward h now = go (isStepOf i (on-state o)) refl
-      where
-        own : o ≡ step i → Onward past k s g o q i c n
-        own e = subst (λ (o : Op). Onward past k s g o q i c n) (sym e)
-            (onward-step (subst (λ (o : Op). past (suc k) ≡ fedCall (suc k) (on-state o) (answer s o) g) e now))
-
-        go : (b : Bool) → isStepOf i (on-state o) ≡ b → Onward past k s g o q i c n
-        go true t = own (is-step i o t)
-        go false t = stays t (record {
-          position = r .position;
-          lookup = lookup-stays past o h now i (unmoved t) ∙ r .lookup;
-          looks = looks-stays past o h now i (unmoved t) q c n (r .position) (r .looks);
-        })

@@ -77,7 +77,8 @@ module _ (h : List Event) where
   one-section [] done s m a v (b ∷ before) rest p = absurd (nil≢cons p)
   one-section (k ∷ ks) done s m a v (b ∷ before) rest p =
       regroup (head-eq-of-cons-eq p)
-      (one-section ks (done ++ (event m k ∷ [])) (after s k) (left m k) (later h done s m k ks a) (one-later done s m k ks a v) before rest (tail-eq-of-cons-eq p))
+      (one-section ks (done ++ (event m k ∷ [])) (after s k) (left m k) (later h done s m k ks a)
+      (one-later done s m k ks a v) before rest (tail-eq-of-cons-eq p))
     where
       regroup : {x : Event} → x ≡ b → OneSection (ledger ((done ++ (x ∷ [])) ++ before)) → OneSection (ledger (done ++ (b ∷ before)))
       regroup q o = rw (← q, ← append-snoc) o
