@@ -39,10 +39,11 @@
  * makes a legal memory of any words, and every call keeps it legal. A damaged
  * memory is refused by all other calls on it, and never followed out of its bounds.
  *
- * Sections. What pt_begin(), pt_step() and pt_hand_back() promise about sections holds
- * as long as nothing but these calls has written the memory since its set-up. Legality
- * alone does not give it: other writes can make a legal memory in which a slot that
- * an open section still reads is done.
+ * Sections. What pt_begin(), pt_step() and pt_hand_back() promise about sections, and
+ * pt_step() about the number of steps, holds as long as nothing but these calls has
+ * written the memory since its set-up. Legality alone does not give it: other writes
+ * can make a legal memory in which a slot that an open section still reads is done, or
+ * in which the links that retired slots kept lead a lookup round and round.
  *
  * Answer. Each call writes five words into the first PT_ANSWER_WORDS words of
  * @answer, the status first, and returns the status. A refusal answers its number
@@ -132,6 +133,9 @@ extern "C" {
 #define PT_BOTTLE_DROPPED 1u
 #define PT_DOOR_OPEN      2u
 #define PT_CHANGED_OVER   3u
+
+/* A record is on the chain whose number is its code modulo this. */
+#define PT_CHAINS         64u
 
 /* Limits; each is the largest value allowed. */
 #define PT_MAX_CABINETS   8u
@@ -356,6 +360,14 @@ uint32_t pt_start(uint32_t *memory, size_t words,
  * the chain link; PT_FOUND and PT_ABSENT end the lookup, and its words go to rest.
  * Nothing but the lane's flags and lookup words changes. A found slot keeps its
  * record until the section ends. A refusal changes no word.
+ *
+ * How long a lookup takes. Let n be the records on the chain of its code when it
+ * starts: those whose code modulo PT_CHAINS is the same. It has its answer by the
+ * lane's call n + 1 of pt_step() since, however many records other calls add, replace,
+ * delete and hand back meanwhile, unless pt_end() drops it before; and none of these
+ * calls of pt_step() is refused. In time that is n + 1 calls, each of which takes the
+ * check of the whole memory and little more. No call tells n. It is at most the number
+ * of slots, and the office, which knows its codes, can count those of a chain.
  */
 extern
 uint32_t pt_step(uint32_t *memory, size_t words,

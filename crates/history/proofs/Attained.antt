@@ -10,9 +10,9 @@ use Rattle.model.specs.Word.{none}
 use Rattle.model.specs.Lists.{count, first}
 use Rattle.model.specs.State.{running, Product, Table, State}
 use Rattle.model.specs.Table.{productAt, chainOf, linkOf}
-use Rattle.model.specs.Rules.{start, step, Answer, zeros, laneOf, refusal, absent, going, outcome, outcomeAnswer, continued, performed, next, fresh}
-use Rattle.model.specs.Calls.{Call, set-up, on-state, sized, reply, left, leftAll}
-use Rattle.model.specs.Ledger.{Event, events, isStepOf, stepAnswers, Attained}
+use Rattle.model.specs.Rules.{start, step, Answer, zeros, laneOf, refusal, absent, going, outcome, outcomeAnswer, continued, performed, next}
+use Rattle.model.specs.Calls.{Call, on-state, reply, left}
+use Rattle.model.specs.Ledger.{Event, ledger, events, isStepOf, stepAnswers, Attained}
 use borrow.Author.Tests.{ne-eqb}
 use Rattle.laws.specs.Tests.{eqb-self, same-or}
 use Rattle.laws.specs.Counts.{mark-self, count-append}
@@ -20,15 +20,15 @@ use Rattle.representation.proofs.Causes.Passed.{next-accepted, answer-accepted,
 use Rattle.representation.proofs.Causes.Accepted.{accepts}
 use Rattle.representation.proofs.WellFormed.{chained}
 use Rattle.history.proofs.Ties.Halves.{nothing, searched}
+use Rattle.history.proofs.Ties.Invariant.{Invariant}
 use Rattle.history.proofs.ChainHalf.ChainStretches.{SameOr, Lacks, chained-at, linkOf-chained, searched-here, searched-on}
 use Rattle.history.proofs.CallsKeep.SlotFacts.{standing-once, standing-some}
 use Rattle.history.proofs.CallsKeep.Lookups.{step-answer, step-lookup, start-lookup}
 use Rattle.history.proofs.CallsKeep.Runs.{step-taken}
+use Rattle.history.proofs.OverLists.Instants.{past}
 use Rattle.history.proofs.OverLists.Stands.{Stands, reply-on, stands-next}
-use Rattle.history.proofs.OverLists.ListInvariant.{End, to-end}
 use Rattle.history.proofs.OverLists.Counted.{records-chained}
-use Rattle.history.proofs.Demand3.{at-set-up}
-use Rattle.history.proofs.Corollaries.{EveryList}
+use Rattle.history.proofs.Corollaries.{EveryList, every-end}
 
 -- a search that gives nothing meets no slot of the code
 lacks-nothing : (ps : List Product) (c : ℕ) (xs : List ℕ) → searched ps c xs ≡ nothing → Lacks ps c xs
@@ -108,31 +108,22 @@ module _ (i c : ℕ) where
 
 -- ---- the theorem
 
-pub attained : EveryList Attained
-attained m x y z ok ks r = go (to-end h ks [] (fresh (sized x y z)) m₀ (at-set-up m x y z ok ks r))
+-- where the state s of memory m is tied to the ledger after h
+attained-at : (h : List Event) (m : List ℕ) (s : State) → Stands s m → Invariant (past h) (length h) s (ledger h) → Attained h m
+attained-at h m s t v i c ok none = rw (records-chained h (v .tied) c)
+    (goes-through i c (chainOf (s .table) c) [] (next s (start i c)) _ (stands-next t (start i c)) lookup (ap (λ (t : Table). chainOf t c) table) lacks)
   where
-    m₀ : List ℕ
-    m₀ = left m (set-up x y z)
+    taken : refusal s (start i c) ≡ 0
+    taken = status-accepted s (start i c) (ap (λ (r : Answer). r .status) (sym (reply-on t (start i c))) ∙ ok)
 
-    h : List Event
-    h = events m₀ ks
+    table : next s (start i c) .table ≡ s .table
+    table = start-table s i c taken
 
-    go : End h [] (fresh (sized x y z)) (leftAll m₀ ks) → Attained h (leftAll m₀ ks)
-    go e i c ok none = rw (records-chained h (e .invariant .tied) c)
-        (goes-through i c (chainOf (s .table) c) [] (next s (start i c)) _ (stands-next (e .stands) (start i c))
-        lookup (ap (λ (t : Table). chainOf t c) table) lacks)
-      where
-        s : State
-        s = e .state
+    lookup : laneOf (next s (start i c)) i .lookup ≡ running c (first (chainOf (s .table) c))
+    lookup = rw (next-accepted s (start i c) taken) (start-lookup (t .wellFormed) i c (accepts s (start i c) taken .lane .known))
 
-        taken : refusal s (start i c) ≡ 0
-        taken = status-accepted s (start i c) (ap (λ (r : Answer). r .status) (sym (reply-on (e .stands) (start i c))) ∙ ok)
+    lacks : Lacks (next s (start i c) .table .products) c (chainOf (s .table) c)
+    lacks = rw table (lacks-nothing (s .table .products) c (chainOf (s .table) c) (sym (v .tied .entries c) ∙ none))
 
-        table : next s (start i c) .table ≡ s .table
-        table = start-table s i c taken
-
-        lookup : laneOf (next s (start i c)) i .lookup ≡ running c (first (chainOf (s .table) c))
-        lookup = rw (next-accepted s (start i c) taken) (start-lookup (e .stands .wellFormed) i c (accepts s (start i c) taken .lane .known))
-
-        lacks : Lacks (next s (start i c) .table .products) c (chainOf (s .table) c)
-        lacks = rw table (lacks-nothing (s .table .products) c (chainOf (s .table) c) (sym (e .invariant .tied .entries c) ∙ none))
+pub attained : EveryList Attained
+attained = every-end Attained attained-at

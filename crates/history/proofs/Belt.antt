@@ -12,7 +12,7 @@ use Rattle.model.specs.Lists.{any, all}
 use Rattle.model.specs.State.{State}
 use Rattle.model.specs.Table.{chainOf}
 use Rattle.model.specs.Rules.{start, end, Answer, zeros, answer, next, fresh}
-use Rattle.model.specs.Calls.{Call, set-up, on-state, sized, reply, left, leftAll}
+use Rattle.model.specs.Calls.{Call, set-up, on-state, sized, reply, left}
 use Rattle.model.specs.Ledger.{Search, Event, ledger, isAnswer, events, fedCall}
 use Rattle.model.specs.Ledger.{isStepOf, stepAnswers, isGoing, inTime, startEvent, NoEnd, Timed, Belt, ChainsCounted}
 use Rattle.laws.specs.Tests.{clash, and-true, and-intro, or-cases, or-left}
@@ -21,11 +21,11 @@ use Rattle.history.proofs.CallsKeep.Unseen.{keeps-same}
 use Rattle.history.proofs.CallsKeep.Runs.{Runs, runs-start, Onward, stays, goesOn, isAnswered, onward}
 use Rattle.history.proofs.OverLists.Instants.{past, length-snoc}
 use Rattle.history.proofs.OverLists.Stands.{reply-on}
-use Rattle.history.proofs.OverLists.ListInvariant.{event, At, after, later, ledger-setUp, ledger-call, keeps-at, past-at, past-next, End, to-end}
+use Rattle.history.proofs.OverLists.ListInvariant.{event, At, after, later, ledger-setUp, ledger-call, keeps-at, past-at, past-next}
 use Rattle.history.proofs.OverLists.Counted.{records-chained}
 use Rattle.history.proofs.OverLists.OneList.{Moment, moment}
 use Rattle.history.proofs.Demand3.{at-set-up}
-use Rattle.history.proofs.Corollaries.{EveryList}
+use Rattle.history.proofs.Corollaries.{EveryList, every-end}
 
 -- ---- the steps of a lookup, from any instant on
 
@@ -157,16 +157,7 @@ belt m c p n ok ks s = timed-start (left m (set-up c p n)) ks (fresh (sized c p 
 -- ---- n, in the memory
 
 pub chains-counted : EveryList ChainsCounted
-chains-counted m c p n ok ks r = go (to-end h ks [] (fresh (sized c p n)) m₀ (at-set-up m c p n ok ks r))
-  where
-    m₀ : List ℕ
-    m₀ = left m (set-up c p n)
-
-    h : List Event
-    h = events m₀ ks
-
-    go : End h [] (fresh (sized c p n)) (leftAll m₀ ks) → ChainsCounted h (leftAll m₀ ks)
-    go e b = rw (e .stands .read) (sym (records-chained h (e .invariant .tied) b))
+chains-counted = every-end ChainsCounted (λ h m s t v c. rw (t .read) (sym (records-chained h (v .tied) c)))
 
 -- ---- what being on time says of the steps, in other words
 

@@ -18,7 +18,7 @@ use Rattle.history.proofs.OverLists.Instants.{past, Unchanged, window-u
 use Rattle.history.proofs.OverLists.OneEach.{ledger-one}
 use Rattle.history.proofs.OverLists.OneSection.{OneSection, one-section}
 use Rattle.history.proofs.OverLists.Stands.{Stands, reply-on}
-use Rattle.history.proofs.OverLists.ListInvariant.{At, End, to-end}
+use Rattle.history.proofs.OverLists.ListInvariant.{At, to-end}
 use Rattle.history.proofs.OverLists.OneList.{FoundEnd, found-end, found-holds}
 use Rattle.history.proofs.Demand3.{demand3, at-set-up}
 use Rattle.history.proofs.NewSlots.{Unused, Enters, NewSlots, enters-unused}
@@ -28,6 +28,14 @@ abbrev pub EveryList : (List Event → List ℕ → Type 0) → Type 0
 EveryList P =
     (m : List ℕ) (c p n : ℕ) → reply m (set-up c p n) .status ≡ 0
     → (ks : List Call) → let m₀ = left m (set-up c p n) in RefusesSetUps m₀ ks → P (events m₀ ks) (leftAll m₀ ks)
+
+-- what the invariant gives at the end of a list
+pub every-end : (P : List Event → List ℕ → Type 0)
+    → ((h : List Event) (m : List ℕ) (s : State) → Stands s m → Invariant (past h) (length h) s (ledger h) → P h m) → EveryList P
+every-end P f m c p n ok ks r =
+    let m₀ = left m (set-up c p n) in
+    let e = to-end (events m₀ ks) ks [] (fresh (sized c p n)) m₀ (at-set-up m c p n ok ks r) in
+    f (events m₀ ks) (leftAll m₀ ks) (e .state) (e .stands) (e .invariant)
 
 -- ---- a code looked up twice
 
@@ -82,16 +90,7 @@ reply-unused {s = s} {g} v t o e =
     subst (λ (r : Answer). r .status ≡ 0 → Unused s g (r .a)) (sym (reply-on t o)) (enters-unused (v .tied) o e)
 
 pub new-slots : EveryList NewSlots
-new-slots m c p n ok ks r = go (to-end h ks [] (fresh (sized c p n)) m₀ (at-set-up m c p n ok ks r))
-  where
-    m₀ : List ℕ
-    m₀ = left m (set-up c p n)
-
-    h : List Event
-    h = events m₀ ks
-
-    go : End h [] (fresh (sized c p n)) (leftAll m₀ ks) → NewSlots h (leftAll m₀ ks)
-    go e o w z = rw (e .stands .read) (reply-unused (e .invariant) (e .stands) o w z)
+new-slots = every-end NewSlots (λ h m s t v o w z. rw (t .read) (reply-unused v t o w z))
 
 pub same-twice : EveryList SameTwice
 same-twice m c p n ok ks s x y same starts order still = whole x order (omega arith) refl ∙ sym (whole y (omega arith) starts same)

@@ -1,4 +1,5 @@
--- Demand 3 (docs/PROOF.md says why it holds). Demand3, NewSlots, Corollaries, AfterEnds: the theorems; the folders: what they rest on.
+-- Demand 3, and how long a lookup can take (docs/PROOF.md says why they hold). Demand3, NewSlots, Corollaries, AfterEnds, Belt, Attained: the theorems;
+-- the folders: what they rest on.
 pub mod Ties
 pub mod EngineHalf
 pub mod ChainHalf
