@@ -4,7 +4,9 @@
  * Every answered lookup is explained by one instant between its start and its answer, what
  * a lane found stood in its slot until the lane's section ended, and no slot was handed back
  * before the sections that were open at its removal had ended. A lookup that was dropped,
- * since the customer took the bottle back, had no answer and held nothing up.
+ * since the customer took the bottle back, had no answer and held nothing up. Every other one
+ * was answered by step n + 1 of its lane, n being the records on the chain when it started,
+ * whatever the office and the other lanes did meanwhile; some took as many.
  *
  * A lane maker needs nothing of this file.
  */
@@ -45,6 +47,7 @@ void history_note(const struct call *call, const uint32_t *answer)
 /* What the history holds. */
 struct tally {
 	uint64_t accepted[CALLS], refused, mistyped, lookups[3], taken_back, periods;
+	uint64_t attained; /* lookups that step n + 1 answered, and none before it */
 	uint64_t added[3]; /* by labels of 8, 13 and 14 digits */
 };
 
@@ -97,9 +100,9 @@ static const char *judge_event(uint32_t *memory, const struct event *event)
 static void print_tally(const struct tally *tally)
 {
 	printf("hall: lookups %" PRIu64 " found, %" PRIu64 " absent, %" PRIu64
-		" taken back, %" PRIu64
+		" taken back, %" PRIu64 " answered by step n + 1 and no sooner, %" PRIu64
 		" steps on the way; grace periods %" PRIu64 "\nhall:",
-		tally->lookups[PT_FOUND], tally->lookups[PT_ABSENT], tally->taken_back,
+		tally->lookups[PT_FOUND], tally->lookups[PT_ABSENT], tally->taken_back, tally->attained,
 		tally->lookups[PT_GOING], tally->periods);
 	for (int name = 0; name < CALLS; name++)
 		printf(" %s %" PRIu64, call_forms[name].command, tally->accepted[name]);
@@ -118,6 +121,7 @@ bool history_judge(void)
 	ledger_reset(&ledger);
 	for (size_t n = 0; n < length && fault == NULL; n++) {
 		tally.taken_back += takes_back(&events[n]) ? 1 : 0;
+		tally.attained += ledger_attains(&ledger, &events[n].call, events[n].answer) ? 1 : 0;
 		fault = judge_event(memory, &events[n]);
 		tally_event(&tally, &events[n], &generation);
 		if (fault != NULL)
@@ -127,11 +131,14 @@ bool history_judge(void)
 	}
 	print_tally(&tally);
 	if (fault == NULL)
-		printf("hall: %zu calls judged: one instant explains each answered lookup, finds were kept,\n"
-			"hall: no slot was handed back early, and the C version answers alike\n",
+		printf("hall: %zu calls judged: one instant explains each answered lookup, step n + 1 answers it\n"
+			"hall: at the latest, finds were kept, no slot was handed back early, and the C version\n"
+			"hall: answers alike\n",
 			length);
 	if (tally.taken_back == 0)
 		printf("hall: NO bottle was taken back\n");
+	if (tally.attained == 0)
+		printf("hall: NO lookup took n + 1 steps\n");
 	free(events);
-	return fault == NULL && tally.taken_back > 0;
+	return fault == NULL && tally.taken_back > 0 && tally.attained > 0;
 }

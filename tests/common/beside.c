@@ -109,7 +109,7 @@ static enum difference make_tried(struct beside *beside)
 		outside_kept(left->answer, left->answer_words, beside->at_start) ? SAME : DIFFERS_OUTSIDE;
 }
 
-/* Demand 3, on tables that the ledger has room for. */
+/* Demand 3 and the figure of lookups, on tables that the ledger has room for. */
 static enum difference judged(struct beside *beside, const struct left *left)
 {
 	if (left->status == PT_SHORT_ANSWER)
@@ -117,8 +117,9 @@ static enum difference judged(struct beside *beside, const struct left *left)
 	if (left->status == PT_OK && beside->call.name == CALL_SETUP)
 		beside->fed = beside->call.argument[0] * beside->call.argument[1] <= LEDGER_LANES &&
 			beside->call.argument[2] <= LEDGER_SLOTS;
-	if (!beside->fed)
+	if (!beside->fed || beside->words < total_of(beside->memory)) /* lent short: none of the list */
 		return SAME;
+	beside->attained = ledger_attains(&beside->ledger, &beside->call, left->answer);
 	beside->fault = ledger_feed(&beside->ledger, &beside->call, left->answer);
 	if (beside->fault == NULL)
 		beside->fault = ledger_kept(&beside->ledger, beside->memory);
@@ -141,6 +142,7 @@ enum difference beside_call(struct beside *beside, const struct call *call)
 	enum difference difference = SAME;
 
 	beside->call = *call;
+	beside->attained = false;
 	memcpy(beside->before, beside->memory, beside->words * sizeof beside->before[0]);
 	if (beside->judge != NULL)
 		make_expected(beside);

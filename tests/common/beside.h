@@ -43,6 +43,7 @@ struct beside {
 	uint8_t expected_text[LABEL_MOST], left_text[LABEL_MOST]; /* of a label function */
 	enum difference difference;
 	const char *fault; /* of the ledger */
+	bool attained; /* it was step n + 1 of its lookup, and answered it */
 };
 
 /* A memory of no meaning, all of it lent. */

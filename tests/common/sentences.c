@@ -257,6 +257,13 @@ static void place_tries(struct tally *tally, struct tries *tries, const struct t
 	tally->placed[PLACED_IN_EIGHTH] += at.cabinet == PT_MAX_CABINETS - 1 ? 1u : 0u;
 }
 
+/* What an accepted step tries that the ledger judges: it may go on, or answers in time. */
+static void figure_tries(struct tries *tries, const struct call *call, const uint32_t *answer)
+{
+	tries->of[SENTENCE_FIGURE] = call->name == CALL_STEP;
+	tries->of[SENTENCE_FIGURE_LISTS] = call->name == CALL_STEP && answer[1] != PT_GOING;
+}
+
 static void accepted_tries(struct tally *tally, struct tries *tries, const struct beside *beside)
 {
 	static struct table then, now;
@@ -278,6 +285,8 @@ static void accepted_tries(struct tally *tally, struct tries *tries, const struc
 	if (call_argument(&beside->call, KIND_LANE, PT_NONE) != PT_NONE)
 		place_tries(tally, tries, &then, &beside->call, lane);
 	dropped_tries(tally, tries, &then, &beside->call, lane);
+	if (beside->fed)
+		figure_tries(tries, &beside->call, beside->expected_answer);
 	table_tries(tries, &then, &beside->call, beside->expected_answer, lane);
 	lane_tries(tries, &then, &now, &beside->call, lane);
 }
@@ -396,6 +405,14 @@ static void blame_status(struct tries *broken, const struct tries *tries, const 
 	}
 }
 
+/* A fault of the ledger: of how long a lookup can take, or of demand 3. */
+static void blame_ledger(struct tries *broken, bool of_figure)
+{
+	broken->of[SENTENCE_FIGURE] = of_figure;
+	broken->of[SENTENCE_FIGURE_LISTS] = of_figure;
+	broken->of[SENTENCE_LEDGER_DEMAND] = !of_figure;
+}
+
 static void blame(struct tries *broken, const struct tries *tries, const struct beside *beside)
 {
 	switch (beside->difference) {
@@ -418,7 +435,7 @@ static void blame(struct tries *broken, const struct tries *tries, const struct 
 		blame_rules(broken, tries, beside);
 		break;
 	case DIFFERS_NOT_LEGAL: broken->of[SENTENCE_LEGAL] = true; break;
-	default: broken->of[SENTENCE_LEDGER_DEMAND] = true; break;
+	default: blame_ledger(broken, ledger_fault_of_figure(beside->fault)); break;
 	}
 }
 
@@ -437,6 +454,7 @@ void tally_call(struct tally *tally, const struct beside *beside)
 
 	call_tries(tally, &tries, beside);
 	blame(&broken, &tries, beside);
+	tally->attained += beside->attained ? 1 : 0;
 	tally_add(tally, &tries, &broken);
 }
 
@@ -462,20 +480,24 @@ void tally_label(struct tally *tally, const struct beside *beside, const struct 
 
 /* ---- the ledger's */
 
-void tally_judged(struct tally *tally, const struct call *call, const uint32_t *answer, bool fault)
+void tally_judged(struct tally *tally, const struct call *call, const uint32_t *answer, struct verdict verdict)
 {
 	struct tries tries = { { false } }, broken = { { false } };
 	bool answered = call->name == CALL_STEP && answer[1] != PT_GOING;
+	bool fault = verdict.fault && !verdict.of_figure;
 
+	tally->attained += verdict.attained ? 1 : 0;
 	tries.of[SENTENCE_LEDGER_FED] = true;
 	tries.of[SENTENCE_LEDGER_DEMAND] = true;
-	broken.of[SENTENCE_LEDGER_DEMAND] = fault;
+	if (verdict.fault)
+		blame_ledger(&broken, verdict.of_figure);
 	if (answer[0] != PT_OK) {
 		tries.of[SENTENCE_LEDGER_REFUSED] = true;
 		broken.of[SENTENCE_LEDGER_REFUSED] = fault;
 		tally_add(tally, &tries, &broken);
 		return;
 	}
+	figure_tries(&tries, call, answer);
 	switch (call->name) {
 	case CALL_ADD: tries.of[SENTENCE_LEDGER_ADD] = true; break;
 	case CALL_REPLACE:
@@ -517,6 +539,11 @@ void print_placed(const struct tally *tally)
 		" in the eighth; %" PRIu64 " calls of the first number that is no lane\n",
 		tally->placed[PLACED_IN_FIRST], tally->placed[PLACED_AT_START],
 		tally->placed[PLACED_IN_EIGHTH], tally->placed[PLACED_PAST]);
+}
+
+void print_attained(const struct tally *tally)
+{
+	printf("lookups answered by step n + 1 and no sooner: %" PRIu64 "\n", tally->attained);
 }
 
 static void print_line(uint64_t tried, uint64_t broken, const char *text)

@@ -41,6 +41,7 @@ struct tally {
 	uint64_t labels[2][PT_WRONG_LABEL + 1]; /* read and written: 0, and by cause */
 	uint64_t dropped[DROPPED]; /* lookups */
 	uint64_t placed[PLACED];
+	uint64_t attained; /* lookups that step n + 1 answered, and none before it */
 	/* how often a cause was answered while another of the call's applied as well */
 	uint64_t before[CALLS][LAST_CAUSE + 1][LAST_CAUSE + 1];
 };
@@ -54,14 +55,24 @@ void print_dropped(const struct tally *tally);
 /* How many passes, clocks and offs there were, by where the lane stood, and calls of no lane: a line. */
 void print_placed(const struct tally *tally);
 
+/* How many lookups were answered by step n + 1 and no sooner: a line. */
+void print_attained(const struct tally *tally);
+
 /* Adds the last call of a run that has a judge, and its difference. */
 void tally_call(struct tally *tally, const struct beside *beside);
 
 /* Adds the last step, of a label function, and its difference. */
 void tally_label(struct tally *tally, const struct beside *beside, const struct step *step);
 
+/* What is found of a call where there is no judge but the ledger. */
+struct verdict {
+	bool fault;
+	bool of_figure; /* the fault is of how long a lookup can take */
+	bool attained;	/* step n + 1 answers the lookup */
+};
+
 /* Adds the last call of a list that is judged by the ledger alone. */
-void tally_judged(struct tally *tally, const struct call *call, const uint32_t *answer, bool fault);
+void tally_judged(struct tally *tally, const struct call *call, const uint32_t *answer, struct verdict verdict);
 
 /* The report: a line a sentence, and then those again that did not hold. Returns whether all that were tried held. */
 bool tally_print(const struct tally *tally);

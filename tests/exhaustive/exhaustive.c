@@ -5,10 +5,12 @@
  * is made on the library and checked: the C version answers alike and leaves the same
  * words; a refusal left every word; an accepted call left a legal memory and the words
  * past the total; the ledger finds no fault in the answer, nor in the slots that the open
- * sections have found.
+ * sections have found. So every lookup that no end drops has its answer by step n + 1 of its
+ * lane, n being the records on the chain when it started; how often no sooner is counted.
  *
  * The alphabet, of which each table below takes a part: one or two codes of one chain,
  * one of them 0 as in free slots, added with deposit and material 1 and replaced with 2;
+ * lookups of these and of a code of the chain that no record has, which pass every record;
  * quiescent states of some kinds; begin, start, step, and end wherever a lookup stands;
  * clock, on, off, hand-back, awaited and set-up. The smallest tables also take calls that
  * every state refuses.
@@ -40,7 +42,9 @@
 
 /* A table and its alphabet. */
 struct table_form {
-	uint32_t cabinets, lanes, slots, codes, kinds;
+	uint32_t cabinets, lanes, slots, codes;
+	uint32_t absent; /* 1: lookups, too, of a code that no record has */
+	uint32_t kinds;
 	uint32_t changing, reading; /* masks of the lanes that change records, and that read */
 	uint32_t around;	    /* 1: counts come round to their snapshots, as above */
 	uint32_t generation;	    /* the current one of every state */
@@ -50,16 +54,16 @@ struct table_form {
 
 /* In the order of the fields above. */
 static const struct table_form forms[] = {
-	{ 1, 1, 1, 2, 4, 1, 1, 1, 1, 0, 0 },
-	{ 1, 1, 2, 2, 2, 1, 1, 1, 1, 0, 0 },
-	{ 1, 1, 2, 2, 2, 1, 1, 1, PT_NONE, PT_NONE, 0 },
-	{ 1, 1, 3, 2, 1, 1, 1, 1, 1, 0, 14 },
-	{ 1, 2, 1, 2, 1, 3, 3, 1, 1, 0, 0 },
-	{ 1, 3, 1, 1, 1, 1, 6, 1, 1, 0, 0 },
-	{ 1, 2, 2, 2, 1, 1, 2, 1, 1, 0, 0 },
-	{ 2, 1, 2, 2, 1, 1, 2, 1, PT_NONE, PT_NONE, 0 },
-	{ 1, 2, 2, 1, 1, 3, 3, 1, 1, 0, 0 },
-	{ 1, 2, 2, 2, 1, 3, 3, 1, 1, 0, 10 },
+	{ 1, 1, 1, 2, 1, 4, 1, 1, 1, 1, 0, 0 },
+	{ 1, 1, 2, 2, 1, 2, 1, 1, 1, 1, 0, 0 },
+	{ 1, 1, 2, 2, 0, 2, 1, 1, 1, PT_NONE, PT_NONE, 0 },
+	{ 1, 1, 3, 2, 1, 1, 1, 1, 1, 1, 0, 14 },
+	{ 1, 2, 1, 2, 0, 1, 3, 3, 1, 1, 0, 0 },
+	{ 1, 3, 1, 1, 0, 1, 1, 6, 1, 1, 0, 0 },
+	{ 1, 2, 2, 2, 1, 1, 1, 2, 1, 1, 0, 0 },
+	{ 2, 1, 2, 2, 0, 1, 1, 2, 1, PT_NONE, PT_NONE, 0 },
+	{ 1, 2, 2, 1, 0, 1, 3, 3, 1, 1, 0, 0 },
+	{ 1, 2, 2, 2, 0, 1, 3, 3, 1, 1, 0, 10 },
 };
 
 enum {
@@ -107,6 +111,7 @@ static double begun; /* the run */
 /* Over all tables. */
 static uint64_t all_states, calls, accepted[CALLS], refused[LAST_CAUSE + 1], outcomes[3];
 static uint64_t dropped; /* lookups, by the ends of their sections */
+static uint64_t attained; /* the figure, by lookups that step n + 1 answered */
 
 /* ---- the alphabet */
 
@@ -144,6 +149,8 @@ static void lane_letters(uint32_t lane)
 {
 	for (uint32_t n = 0; n < form->codes; n++)
 		code_letters(lane, codes[n]);
+	if (form->absent && form->reading >> lane & 1u)
+		letter(CALL_START, lane, wrong_code(codes[0]), 0, 0);
 	if (form->reading >> lane & 1u) {
 		letter(CALL_BEGIN, lane, 0, 0, 0);
 		letter(CALL_STEP, lane, 0, 0, 0);
@@ -457,6 +464,7 @@ static void make(const struct state *from, uint32_t number, uint32_t at)
 	count_answer(call, answer);
 	if (left.status != PT_OK)
 		return;
+	attained += ledger_attains(&from->ledger, call, answer) ? 1 : 0;
 	dropped += drops(from, call) ? 1 : 0;
 	meet(&state, number, at, kept[number].level + 1);
 }
@@ -471,8 +479,9 @@ static void print_counts(void)
 	printf("\nrefused, by cause:");
 	for (uint32_t cause = PT_BAD_SIZE; cause <= LAST_CAUSE; cause++)
 		printf(" %" PRIu32 ": %" PRIu64, cause, refused[cause]);
-	printf("\nsteps: %" PRIu64 " going, %" PRIu64 " found, %" PRIu64 " absent; lookups dropped: %" PRIu64 "\n",
-		outcomes[PT_GOING], outcomes[PT_FOUND], outcomes[PT_ABSENT], dropped);
+	printf("\nsteps: %" PRIu64 " going, %" PRIu64 " found, %" PRIu64 " absent; lookups dropped: %" PRIu64
+		", answered by step n + 1 and no sooner: %" PRIu64 "\n",
+		outcomes[PT_GOING], outcomes[PT_FOUND], outcomes[PT_ABSENT], dropped, attained);
 }
 
 static void start(void)
@@ -532,10 +541,11 @@ static void run(void)
 	level = search();
 	progress_clear();
 	all_states += states;
-	printf("%" PRIu32 " x %" PRIu32 " x %" PRIu32 ", codes %" PRIu32 ", kinds %" PRIu32
+	printf("%" PRIu32 " x %" PRIu32 " x %" PRIu32 ", codes %" PRIu32 "%s, kinds %" PRIu32
 		"%s, lanes that change %#" PRIx32 ", that read %#" PRIx32 ", generation %" PRIu32
 		": %zu states, %" PRIu64 " calls, %s %" PRIu32 " deep, %.1f s\n",
-		form->cabinets, form->lanes, form->slots, form->codes, form->kinds,
+		form->cabinets, form->lanes, form->slots, form->codes,
+		form->absent ? " and one absent" : "", form->kinds,
 		form->around ? " around" : "", form->changing, form->reading, form->generation,
 		states, calls - before, form->levels == 0 ? "all, at most" : "those at most",
 		level, seconds_now() - since);

@@ -113,6 +113,16 @@ static void check_placed(bool often)
 		CHECK(!often || tally.placed[n] >= OFTEN);
 }
 
+/* How many lookups took as many steps as they may. */
+static void check_attained(bool often)
+{
+	enum { OFTEN = 100 };
+
+	printf("compare: ");
+	print_attained(&tally);
+	CHECK(!often || tally.attained >= OFTEN);
+}
+
 /* One list; returns the calls that were made. */
 static uint32_t play(const struct list *list, uint64_t seed, uint32_t calls)
 {
@@ -166,6 +176,7 @@ int main(int argc, char **argv)
 	print_labels(argc == 1);
 	check_dropped(argc == 1);
 	check_placed(argc == 1);
+	check_attained(argc == 1);
 	printf("compare: seed %" PRIu64 ", %" PRIu64 " calls, %" PRIu64 " slots handed back\n", first,
 		tally.calls, tally.accepted[CALL_HAND_BACK]);
 	return 0;

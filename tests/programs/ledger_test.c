@@ -1,6 +1,7 @@
 /*
  * ledger_test.c - lists of calls and answers on which the ledger of demand 3 finds a
- * fault, each beside one on which it finds none.
+ * fault, each beside one on which it finds none; among them lookups that take one step more
+ * than they may.
  */
 #include <stdio.h>
 #include <stdlib.h>
@@ -10,6 +11,8 @@
 #include "lent.h"
 
 static struct ledger ledger;
+
+static bool attained; /* the figure, by the last step that was fed */
 
 /* Feeds the steps; returns the fault of the last one. The others have none. */
 static const char *feed(const struct lent_step *steps, size_t count)
@@ -25,6 +28,7 @@ static const char *feed(const struct lent_step *steps, size_t count)
 		CHECK(fault == NULL);
 		for (size_t word = 0; word < PT_ANSWER_WORDS; word++)
 			answer[word] = (uint32_t)strtoul(text, &text, 10);
+		attained = ledger_attains(&ledger, &call, answer);
 		fault = ledger_feed(&ledger, &call, answer);
 	}
 	return fault;
@@ -58,7 +62,7 @@ static void test_whole_search(void)
 	};
 	static const struct lent_step absent[] = {
 		{ "setup 1 2 3", "0 145 0 0 0" }, { "add 0 17 25 1", "0 0 0 0 0" },
-		{ "begin 1", "0 0 0 0 0" }, { "start 1 24", "0 0 0 0 0" },
+		{ "begin 1", "0 0 0 0 0" }, { "start 1 529", "0 0 0 0 0" },
 		{ "step 1", "0 0 0 0 0" }, { "step 1", "0 2 0 0 0" },
 	};
 
@@ -282,6 +286,142 @@ static void test_kept(void)
 	CHECK(ledger_kept(&ledger, lent.memory) == NULL);
 }
 
+/* ---- how long a lookup can take */
+
+#define GOING "0 0 0 0 0"
+#define ABSENT "0 2 0 0 0"
+
+/* The last step is number n + 1 of its lookup: it may answer, and may not go on. */
+#define CHECK_LAST(steps) \
+	CHECK(FEED(steps) == NULL && attained); \
+	CHECK(says(FAULT(steps, GOING), "by step n + 1") && !attained)
+
+/* With two records on the chain: no answer by step two, and by step three there is one. */
+static void test_figure(void)
+{
+	static const struct lent_step two[] = {
+		{ "setup 1 2 4", "0 151 0 0 0" }, { "add 0 192 1 1", "0 0 0 0 0" },
+		{ "add 0 512 2 2", "0 1 0 0 0" }, { "begin 1", "0 0 0 0 0" },
+		{ "start 1 0", "0 0 0 0 0" }, { "step 1", GOING }, { "step 1", GOING },
+		{ "step 1", ABSENT },
+	};
+	static const struct lent_step sooner[] = {
+		{ "setup 1 2 4", "0 151 0 0 0" }, { "add 0 192 1 1", "0 0 0 0 0" },
+		{ "add 0 512 2 2", "0 1 0 0 0" }, { "begin 1", "0 0 0 0 0" },
+		{ "start 1 192", "0 0 0 0 0" }, { "step 1", GOING }, { "step 1", "0 1 0 1 1" },
+	};
+	static const struct lent_step two_lanes[] = {
+		{ "setup 1 2 4", "0 151 0 0 0" }, { "add 0 192 1 1", "0 0 0 0 0" },
+		{ "begin 0", "0 0 0 0 0" }, { "begin 1", "0 0 0 0 0" },
+		{ "start 0 0", "0 0 0 0 0" }, { "start 1 0", "0 0 0 0 0" },
+		{ "step 0", GOING }, { "step 1", GOING }, { "step 0", ABSENT }, { "step 1", ABSENT },
+	};
+
+	CHECK_LAST(two);
+	CHECK(ledger_fault_of_figure(FAULT(two, GOING)));
+	CHECK(!ledger_fault_of_figure(FAULT(two, "0 1 0 1 1")) && !ledger_fault_of_figure(NULL));
+	CHECK(FEED(sooner) == NULL && !attained);
+	CHECK(FAULT(sooner, GOING) == NULL); /* one step is left */
+	CHECK_LAST(two_lanes);
+}
+
+/* What other calls do after the start neither adds steps nor takes any away. */
+static void test_figure_meanwhile(void)
+{
+	static const struct lent_step added[] = {
+		{ "setup 1 2 4", "0 151 0 0 0" }, { "add 0 192 1 1", "0 0 0 0 0" },
+		{ "add 0 512 2 2", "0 1 0 0 0" }, { "begin 1", "0 0 0 0 0" },
+		{ "start 1 0", "0 0 0 0 0" }, { "add 0 1472 3 3", "0 2 0 0 0" },
+		{ "step 1", GOING }, { "add 0 1984 4 4", "0 3 0 0 0" }, { "step 1", GOING },
+		{ "step 1", ABSENT },
+	};
+	static const struct lent_step deleted[] = {
+		{ "setup 1 2 4", "0 151 0 0 0" }, { "add 0 192 1 1", "0 0 0 0 0" },
+		{ "add 0 512 2 2", "0 1 0 0 0" }, { "begin 1", "0 0 0 0 0" },
+		{ "start 1 0", "0 0 0 0 0" }, { "del 0 512", "0 1 0 0 0" },
+		{ "step 1", GOING }, { "del 0 192", "0 0 0 0 0" }, { "step 1", GOING },
+		{ "step 1", ABSENT },
+	};
+	static const struct lent_step replaced[] = {
+		{ "setup 1 2 4", "0 151 0 0 0" }, { "add 0 192 1 1", "0 0 0 0 0" },
+		{ "begin 1", "0 0 0 0 0" }, { "start 1 0", "0 0 0 0 0" },
+		{ "rep 0 192 2 2", "0 1 0 0 0" }, { "step 1", GOING },
+		{ "rep 0 192 3 3", "0 2 1 0 0" }, { "step 1", ABSENT },
+	};
+
+	CHECK_LAST(added);
+	CHECK_LAST(deleted);
+	CHECK_LAST(replaced);
+}
+
+/* Entries of the code's chain count, those of the start's instant alone. */
+static void test_figure_counts(void)
+{
+	static const struct lent_step others[] = {
+		{ "setup 1 2 4", "0 151 0 0 0" }, { "add 0 17 1 1", "0 0 0 0 0" },
+		{ "add 0 24 2 2", "0 1 0 0 0" }, { "begin 1", "0 0 0 0 0" },
+		{ "start 1 0", "0 0 0 0 0" }, { "step 1", ABSENT },
+	};
+	static const struct lent_step removed[] = {
+		{ "setup 1 2 4", "0 151 0 0 0" }, { "add 0 192 1 1", "0 0 0 0 0" },
+		{ "add 0 512 2 2", "0 1 0 0 0" }, { "del 0 192", "0 0 0 0 0" },
+		{ "begin 1", "0 0 0 0 0" }, { "start 1 0", "0 0 0 0 0" }, { "step 1", GOING },
+		{ "step 1", ABSENT },
+	};
+	static const struct lent_step replaced[] = {
+		{ "setup 1 2 4", "0 151 0 0 0" }, { "add 0 192 1 1", "0 0 0 0 0" },
+		{ "rep 0 192 2 2", "0 1 0 0 0" }, { "begin 1", "0 0 0 0 0" },
+		{ "start 1 0", "0 0 0 0 0" }, { "step 1", GOING }, { "step 1", ABSENT },
+	};
+	static const struct lent_step itself[] = { /* the code's own entry is on its chain */
+		{ "setup 1 2 4", "0 151 0 0 0" }, { "add 0 0 1 1", "0 0 0 0 0" },
+		{ "begin 1", "0 0 0 0 0" }, { "start 1 0", "0 0 0 0 0" },
+		{ "del 0 0", "0 0 0 0 0" }, { "step 1", GOING }, { "step 1", ABSENT },
+	};
+
+	CHECK_LAST(others);
+	CHECK_LAST(removed);
+	CHECK_LAST(replaced);
+	CHECK_LAST(itself);
+}
+
+/* An end drops the lookup, however few steps it had left; a new start counts anew. */
+static void test_figure_dropped(void)
+{
+	static const struct lent_step anew[] = {
+		{ "setup 1 2 4", "0 151 0 0 0" }, { "add 0 192 1 1", "0 0 0 0 0" },
+		{ "begin 1", "0 0 0 0 0" }, { "start 1 0", "0 0 0 0 0" }, { "step 1", GOING },
+		{ "end 1", "0 0 0 0 0" }, { "add 0 512 2 2", "0 1 0 0 0" },
+		{ "begin 1", "0 0 0 0 0" }, { "start 1 0", "0 0 0 0 0" }, { "step 1", GOING },
+		{ "step 1", GOING }, { "step 1", ABSENT },
+	};
+	static const struct lent_step again[] = { /* in the same section */
+		{ "setup 1 2 4", "0 151 0 0 0" }, { "add 0 192 1 1", "0 0 0 0 0" },
+		{ "begin 1", "0 0 0 0 0" }, { "start 1 192", "0 0 0 0 0" },
+		{ "step 1", "0 1 0 1 1" }, { "start 1 0", "0 0 0 0 0" }, { "step 1", GOING },
+		{ "step 1", ABSENT },
+	};
+
+	CHECK_LAST(anew);
+	CHECK_LAST(again);
+}
+
+/* No step is refused while its lookup runs, whatever the cause. */
+static void test_figure_refused(void)
+{
+	static const struct lent_step runs[] = {
+		{ "setup 1 2 4", "0 151 0 0 0" }, { "add 0 192 1 1", "0 0 0 0 0" },
+		{ "begin 1", "0 0 0 0 0" }, { "start 1 0", "0 0 0 0 0" },
+		{ "start 1 0", "9 0 0 0 0" }, { "step 0", "10 0 0 0 0" }, { "step 2", "4 0 0 0 0" },
+		{ "step 4294967295", "4 0 0 0 0" }, { "step 1", GOING },
+	};
+
+	CHECK(FEED(runs) == NULL);
+	CHECK(says(FAULT(runs, "10 0 0 0 0"), "refused while") && !attained);
+	CHECK(ledger_fault_of_figure(FAULT(runs, "5 0 0 0 0")));
+	CHECK(ledger_fault_of_figure(FAULT(runs, "3 0 0 0 0")));
+}
+
 int main(void)
 {
 	test_whole_search();
@@ -292,6 +432,11 @@ int main(void)
 	test_hand_back();
 	test_slots();
 	test_kept();
+	test_figure();
+	test_figure_meanwhile();
+	test_figure_counts();
+	test_figure_dropped();
+	test_figure_refused();
 	puts("ledger: true lists pass, false ones are found");
 	return 0;
 }

@@ -1,7 +1,9 @@
 /*
  * random_run.c - long lists of calls from fixed seeds on tables of many sizes. After
  * each call: the memory is legal, a refused call changed nothing, the ledger of
- * demand 3 finds no fault, and a second memory of exactly the total answered alike.
+ * demand 3 finds no fault, and a second memory of exactly the total answered alike. By
+ * the ledger a lookup with n records on its chain at the start is answered by step n + 1
+ * of its lane; how many were answered no sooner is counted.
  */
 #include <inttypes.h>
 #include <stdio.h>
@@ -33,7 +35,7 @@ static uint32_t *exact; /* the second memory */
 
 /* What all lists reached. */
 static uint32_t accepted[CALLS], refused[LAST_CAUSE + 1];
-static uint32_t found, absent, dropped, periods;
+static uint32_t found, absent, dropped, attained, periods;
 
 static uint32_t draw(uint32_t below)
 {
@@ -71,24 +73,34 @@ static void count_answer(const struct call *call, uint32_t generation)
 		periods++;
 }
 
+/* The ledger of demand 3; a call on a memory lent short is none of the list. */
+static void judge(const struct call *call)
+{
+	const char *fault = NULL;
+
+	if (lent.words == LENT_WORDS) {
+		attained += ledger_attains(&ledger, call, lent.answer) ? 1 : 0;
+		fault = ledger_feed(&ledger, call, lent.answer);
+	}
+	if (fault == NULL)
+		fault = ledger_kept(&ledger, lent.memory);
+	if (fault != NULL)
+		complain(call, fault);
+}
+
 /* Makes the call with all checks; @length is that of the second memory. */
 static void make(const struct call *call, size_t length)
 {
 	uint32_t generation = lent_global(lent.memory)[GLOBAL_CURRENT_GENERATION];
 	uint32_t answer[PT_ANSWER_WORDS];
 	bool unfinished = drops(call);
-	const char *fault;
 
 	lent_make(&lent, call);
 	dropped += unfinished && lent.answer[0] == PT_OK ? 1 : 0;
 	call_make(&tested, exact, length, answer, PT_ANSWER_WORDS, call);
 	CHECK(memcmp(answer, lent.answer, sizeof answer) == 0);
 	CHECK(memcmp(exact, lent.memory, length * sizeof *exact) == 0);
-	fault = ledger_feed(&ledger, call, lent.answer);
-	if (fault == NULL)
-		fault = ledger_kept(&ledger, lent.memory);
-	if (fault != NULL)
-		complain(call, fault);
+	judge(call);
 	count_answer(call, generation);
 }
 
@@ -183,9 +195,10 @@ int main(void)
 		CHECK(refused[cause] > 0);
 		calls += refused[cause];
 	}
-	CHECK(found > 0 && absent > 0 && dropped > 0 && periods > 0);
+	CHECK(found > 0 && absent > 0 && dropped > 0 && attained > 0 && periods > 0);
 	printf("random run: %" PRIu32 " calls, %" PRIu32 " found, %" PRIu32 " absent, %" PRIu32
-		" dropped, %" PRIu32 " grace periods, %" PRIu32 " slots handed back\n",
-		calls, found, absent, dropped, periods, accepted[CALL_HAND_BACK]);
+		" dropped, %" PRIu32 " answered by step n + 1 and no sooner, %" PRIu32
+		" grace periods, %" PRIu32 " slots handed back\n",
+		calls, found, absent, dropped, attained, periods, accepted[CALL_HAND_BACK]);
 	return 0;
 }

@@ -5,7 +5,6 @@
  */
 #include "ledger.h"
 
-#include <stdbool.h>
 #include <stddef.h>
 #include <string.h>
 
@@ -18,6 +17,15 @@ _Static_assert(sizeof(struct ledger_slot) == 32, "no padding");
 _Static_assert(sizeof(struct ledger_lane) == 24 + 24 * (2 * LEDGER_SLOTS + 1), "no padding");
 
 static const char BEYOND[] = "a lane or slot is beyond the ledger's capacity";
+
+/* The faults of the figure. */
+static const char LATE[] = "a lookup has no answer by step n + 1 of its lane";
+static const char REFUSED[] = "a step was refused while its lookup runs";
+
+bool ledger_fault_of_figure(const char *fault)
+{
+	return fault == LATE || fault == REFUSED;
+}
 
 void ledger_reset(struct ledger *ledger)
 {
@@ -48,6 +56,17 @@ static uint32_t entry_of(const struct ledger *ledger, uint64_t code)
 			!(ledger->slot[slot].entered && ledger->slot[slot].code == code))
 		slot++;
 	return slot;
+}
+
+/* How many entries are on the code's chain. */
+static uint32_t entries_on_chain(const struct ledger *ledger, uint64_t code)
+{
+	uint32_t entries = 0;
+
+	for (uint32_t slot = 0; slot < LEDGER_SLOTS; slot++)
+		entries += ledger->slot[slot].entered && ledger->slot[slot].code % CHAINS == code % CHAINS ?
+			1u : 0u;
+	return entries;
 }
 
 /* A whole search for the code at this instant. */
@@ -171,7 +190,7 @@ static void feed_end(struct ledger *ledger, uint32_t l)
 
 static const char *feed_start(struct ledger *ledger, struct ledger_lane *lane, uint64_t code)
 {
-	lane->lookup = 1;
+	lane->lookup = entries_on_chain(ledger, code) + 1;
 	lane->code = code;
 	return note_instant(ledger, lane);
 }
@@ -182,7 +201,7 @@ static const char *feed_step(struct ledger_lane *lane, const uint32_t *answer)
 	bool explained = search_listed(lane->search, lane->searches, &search);
 
 	if (search.outcome == PT_GOING)
-		return NULL;
+		return --lane->lookup == 0 ? LATE : NULL;
 	if (!explained)
 		return "no instant of the lookup explains its answer";
 	strike_lookup(lane);
@@ -221,13 +240,26 @@ static const char *misplaced(const struct ledger_lane *lane, enum call_name name
 	}
 }
 
+/* Whether the call is a step of a lane whose lookup runs. */
+static bool step_of_lookup(const struct ledger *ledger, const struct call *call)
+{
+	return call->name == CALL_STEP && call->argument[0] < LEDGER_LANES &&
+		ledger->lane[call->argument[0]].lookup != 0;
+}
+
+bool ledger_attains(const struct ledger *ledger, const struct call *call, const uint32_t *answer)
+{
+	return step_of_lookup(ledger, call) && answer[0] == PT_OK && answer[1] != PT_GOING &&
+		ledger->lane[call->argument[0]].lookup == 1;
+}
+
 const char *ledger_feed(struct ledger *ledger, const struct call *call, const uint32_t *answer)
 {
 	uint32_t lane = (uint32_t)call->argument[0];
 	const char *fault;
 
 	if (answer[0] != PT_OK)
-		return NULL;
+		return step_of_lookup(ledger, call) ? REFUSED : NULL;
 	if (call->name == CALL_SETUP) {
 		ledger_reset(ledger);
 		return NULL;

@@ -8,15 +8,19 @@
  *     answered, or dropped by the end of its section;
  *   a slot is handed back that is not out, or while a section that was open when it
  *     was removed has not ended;
- *   a found slot does not hold what was found while the finder's section is open.
- * The last is asked of the memory, by ledger_kept(). Nothing is asked of a lookup that was
- * dropped. A ledger is a plain value with no pointers, no padding and 0 in its unused
- * parts: assign it to copy it, compare its bytes. Its capacity may be set where it is
- * compiled.
+ *   a found slot does not hold what was found while the finder's section is open;
+ *   a lookup has no answer by step n + 1 of its lane, or a step is refused before it has
+ *     one; n are the entries on the code's chain when the lookup starts (request 5).
+ * The last but one is asked of the memory, by ledger_kept(). Nothing is asked of a lookup
+ * that was dropped. A call on a memory that is damaged or lent short, or with an answer
+ * lent short, is none of the list and is not fed. A ledger is a plain value with no
+ * pointers, no padding and 0 in its unused parts: assign it to copy it, compare its bytes.
+ * Its capacity may be set where it is compiled.
  */
 #ifndef REFERENCE_LEDGER_H
 #define REFERENCE_LEDGER_H
 
+#include <stdbool.h>
 #include <stdint.h>
 
 #include "calls.h"
@@ -49,7 +53,7 @@ struct ledger_slot {
 struct ledger_lane {
 	uint64_t code;    /* of its lookup */
 	uint32_t reading; /* 1: a section is open */
-	uint32_t lookup;  /* 1: a lookup is running */
+	uint32_t lookup;  /* the steps that its lookup has left, the answering one too; 0: none is running */
 	uint32_t searches;
 	uint32_t finds;
 	/* Whole searches for the lookup's code at its instants so far, each once. */
@@ -71,6 +75,15 @@ void ledger_reset(struct ledger *ledger);
  * list. Returns NULL, or the fault in words; the ledger is then of no more use.
  */
 const char *ledger_feed(struct ledger *ledger, const struct call *call, const uint32_t *answer);
+
+/*
+ * Whether the call, which is fed next with this answer, is step n + 1 of its lookup and
+ * answers it: the figure is attained.
+ */
+bool ledger_attains(const struct ledger *ledger, const struct call *call, const uint32_t *answer);
+
+/* Whether a fault is one of the figure, and not of demand 3. */
+bool ledger_fault_of_figure(const char *fault);
 
 /* Whether the memory's slots hold what was found in the sections open now, as above. */
 const char *ledger_kept(const struct ledger *ledger, const uint32_t *memory);

@@ -60,6 +60,11 @@ static const char *const stars[][CASE_STEPS] = {
 	{ "setup 2 3 2", "off 3", "add 2 17 1 1", "del 2 17", "clock 2", "pass 2 0", "clock 2", "clock 3", "on 3", "clock 3",
 		"clock 5", "pass 5 0", "clock 5", "off 4", "clock 6", "clock 4294967295", "awaited" },
 	{ "setup 1 8 2", "add 0 17 1 1", "del 0 17", "clock 0", "clock 7", "pass 7 0", "clock 7", "off 6", "clock 8", "awaited" },
+	/* a lookup takes n + 1 steps: with two records on its chain, of which the others make more, and with none */
+	{ "setup 1 2 8", "add 0 192 1 1", "add 0 512 2 2", "begin 1", "start 1 0", "add 0 1472 3 3", "step 1", "rep 0 192 4 4",
+		"rep 0 512 5 5", "step 1", "del 0 192", "add 0 192 6 6", "step 1", "step 1", "start 1 1472", "end 1" },
+	{ "setup 1 2 4", "begin 1", "start 1 0", "add 0 192 1 1", "add 0 0 2 2", "step 1", "step 1", "start 1 64", "rep 0 0 3 3",
+		"step 1", "del 0 192", "step 1", "step 1", "step 1" },
 };
 
 /* The files of tests/listing that are lists of calls. */

@@ -30,8 +30,11 @@ static void count(const struct step *step)
 		return;
 	}
 	if (player.by_ledger && trial.program == NULL)
-		tally_judged(player.tally, &player.beside.call, player.beside.left.answer,
-			player.record->difference != SAME);
+		tally_judged(player.tally, &player.beside.call, player.beside.left.answer, (struct verdict){
+			.fault = player.record->difference != SAME,
+			.of_figure = ledger_fault_of_figure(player.beside.fault),
+			.attained = player.beside.attained,
+		});
 	else if (!player.by_ledger)
 		tally_call(player.tally, &player.beside);
 }

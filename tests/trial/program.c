@@ -150,12 +150,16 @@ static void judge_line(struct player *player, uint32_t at, const char *text)
 		differ(player, at, DIFFERS_ANSWER, fault, NULL, END_DIFFERS);
 	}
 	if (player->by_ledger) {
-		const char *found = ledger_feed(&player->beside.ledger,
-				&player->record->steps.step[at].call, answer);
+		const struct call *call = &player->record->steps.step[at].call;
+		bool attained = ledger_attains(&player->beside.ledger, call, answer);
+		const char *found = ledger_feed(&player->beside.ledger, call, answer);
 
 		if (player->tally != NULL)
-			tally_judged(player->tally, &player->record->steps.step[at].call, answer,
-				found != NULL);
+			tally_judged(player->tally, call, answer, (struct verdict){
+				.fault = found != NULL,
+				.of_figure = ledger_fault_of_figure(found),
+				.attained = attained,
+			});
 		memcpy(expected, answer, sizeof answer); /* what was answered, for the record */
 		if (found != NULL)
 			differ(player, at, DIFFERS_LEDGER, found, answer, END_DIFFERS);

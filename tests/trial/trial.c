@@ -187,7 +187,7 @@ static bool shorten(struct found *first)
 
 /* ---- the report */
 
-static const char *const found_names[FOUND] = { "difference", "crash", "hang", "fault of demand 3" };
+static const char *const found_names[FOUND] = { "difference", "crash", "hang", "fault that the ledger finds" };
 static const char *const found_files[FOUND] = { "difference", "crash", "hang", "fault" };
 
 /* How the engine ended, and what the judge answers. */
@@ -272,6 +272,8 @@ static void print_calls(void)
 	print_dropped(&shared->tally);
 	printf("  ");
 	print_placed(&shared->tally);
+	printf("  ");
+	print_attained(&shared->tally);
 }
 
 /* How many pairs of a call's causes were met at once, of those that do not exclude each other. */
