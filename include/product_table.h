@@ -365,9 +365,10 @@ uint32_t pt_start(uint32_t *memory, size_t words,
  * starts: those whose code modulo PT_CHAINS is the same. It has its answer by the
  * lane's call n + 1 of pt_step() since, however many records other calls add, replace,
  * delete and hand back meanwhile, unless pt_end() drops it before; and none of these
- * calls of pt_step() is refused. In time that is n + 1 calls, each of which takes the
- * check of the whole memory and little more. No call tells n. It is at most the number
- * of slots, and the office, which knows its codes, can count those of a chain.
+ * calls of pt_step(), with the whole memory and five words for the answer, is refused.
+ * In time that is n + 1 calls, each of which takes the check of the whole memory and
+ * little more. No call tells n. It is at most the number of slots, and the office, which
+ * knows its codes, can count those of a chain.
  */
 extern
 uint32_t pt_step(uint32_t *memory, size_t words,

@@ -8,12 +8,13 @@
 #   edit_misfit LOG             says why a log's first error shows no fact that fails, if it shows none: the edit changed the code's shape, and the proof is of another
 #   edit_list DIR [NAME ..]     the edits of a folder, or those named, in edits
 #   edit_begin TOP              a copy of the crates with what rt has proved already, $edit_room/base; it is removed at the end
-#   edit_copy TO                a copy of that
+#   edit_apart CRATE            the crates that an edit of one leaves as they are
+#   edit_copy TO CRATE          a copy of that, for an edit of the crate
 #   edit_prove CRATE ..         proves them there: without an edit all have to be proved
 #   edit_together TRY EDIT ..   TRY EDIT COPY LOG for each, in a copy of its own, all at once; TRY prints what it found, and its status says whether that is right
 #   edit_line NAME              what it found, after 'ok NAME: ' or 'FAILED NAME: '
 #   edit_count NAME LINE        prints that line and counts it
-#   edit_all TRY EDIT ..        these three for every edit, $edit_jobs at a time
+#   edit_all TRY EDIT ..        the same for every edit, $edit_jobs at a time: where one has ended the next begins; their lines are in the order of the edits
 #   edit_finish                 prints what failed and last 'N passed, M failed', and ends, with status 0 only if M is 0
 
 . "$(dirname "${BASH_SOURCE[0]}")/progress.sh"
@@ -117,11 +118,31 @@ edit_prove() { # CRATE ..
     return 1
 }
 
-# What was proved is linked and not copied: rt replaces a crate's folder there and writes in none.
-edit_copy() { # TO
-    mkdir -p "$1/target" && cp -R "$edit_room/base/crates.txt" "$edit_room/base/crates" "$1/" || return 1
+# the crates that an edit of one leaves as they are: not it, and none that needs it
+edit_apart() { # CRATE
+    awk -v edited="$1" '
+        { sub(/#.*/, "") }
+        /^[a-z_0-9]+:/ { name = $1; sub(/:$/, "", name); $1 = ""; needs[name] = $0 " " }
+        END {
+            changed[edited]
+            do {
+                more = 0
+                for (name in needs)
+                    for (other in changed)
+                        if (!(name in changed) && index(needs[name], " " other " ")) { changed[name]; more = 1 }
+            } while (more)
+            for (name in needs) if (!(name in changed)) print name
+        }' "$edit_room/base/crates.txt"
+}
+
+# What was proved of these is linked and not copied: rt replaces a crate's folder there and writes in none.
+edit_copy() { # TO CRATE
+    local name rlib=$edit_room/base/target/rlib
+    mkdir -p "$1/target/rlib" && cp -R "$edit_room/base/crates.txt" "$edit_room/base/crates" "$1/" || return 1
     [ ! -d "$edit_room/base/target/stamp" ] || cp -R "$edit_room/base/target/stamp" "$1/target/" || return 1
-    [ ! -d "$edit_room/base/target/rlib" ] || cp -R -l "$edit_room/base/target/rlib" "$1/target/"
+    for name in $(edit_apart "$2"); do
+        [ ! -d "$rlib/$name.rlib" ] || cp -R -l "$rlib/$name.rlib" "$1/target/rlib/" || return 1
+    done
 }
 
 # one edit in its own copy; its line is left in ROOM/NAME.line
@@ -129,7 +150,7 @@ edit_one() { # TRY EDIT NAME
     local copy=$edit_room/$3 said
     if [ ! -d "$edit_room/base/crates/$(edit_value crate "$2")" ] || [ -z "$(edit_value crate "$2")" ]; then
         said="FAILED $3: its 'crate:' line names no crate"
-    elif ! edit_copy "$copy"; then
+    elif ! edit_copy "$copy" "$(edit_value crate "$2")"; then
         said="FAILED $3: the tree could not be copied"
     elif said=$(edit_apply "$2" "$copy/crates/$(edit_value crate "$2")" && "$1" "$2" "$copy" "$edit_room/$3.log"); then
         said="ok $3: $said"
@@ -137,7 +158,7 @@ edit_one() { # TRY EDIT NAME
         said="FAILED $3: $said"
     fi
     rm -rf "$copy"
-    printf '%s\n' "$said" >"$edit_room/$3.line"
+    printf '%s\n' "$said" >"$edit_room/$3.part" && mv "$edit_room/$3.part" "$edit_room/$3.line"
 }
 
 # how many at a time: two, or one where the machine has one processor or RT_JOBS says so
@@ -169,14 +190,21 @@ edit_line() { # NAME
 }
 
 edit_all() { # TRY EDIT ..
-    local try=$1 at name names
+    local try=$1 edit names=() begun=0 told=0
     shift
-    for ((at = 1; at <= $#; at += edit_jobs)); do
-        mapfile -t names < <(basename -s .edit "${@:at:edit_jobs}")
-        progress_update "${names[*]}, $((at - 1)) of $# edits tried"
-        edit_together "$try" "${@:at:edit_jobs}"
-        for name in "${names[@]}"; do edit_count "$name" "$(edit_line "$name")"; done
+    [ $# -gt 0 ] || return 0
+    mapfile -t names < <(basename -s .edit "$@")
+    for edit in "$@"; do
+        if [ "$begun" -ge "$edit_jobs" ]; then
+            wait -n
+            while [ -f "$edit_room/${names[told]}.line" ]; do edit_count "${names[told]}" "$(edit_line "${names[told]}")"; told=$((told + 1)); done
+        fi
+        progress_update "${names[begun]}, $begun of $# edits begun"
+        edit_one "$try" "$edit" "${names[begun]}" &
+        begun=$((begun + 1))
     done
+    wait
+    for edit in "${names[@]:told}"; do edit_count "$edit" "$(edit_line "$edit")"; done
 }
 
 edit_finish() {
