@@ -259,6 +259,21 @@ through i n = op (clock i) 0 1 1 1 0 ∷ op (pass i 0) 0 0 0 0 0 ∷ op (clock i
 abbrev pub lastCabinets : List Line
 lastCabinets = setUp811 ∷ (allAwaited ++ through 7 7 ++ through 6 6) ++ (op (clock 8) 4 0 0 0 0 ∷ [])
 
+-- ---- request 5: how long a lookup can take
+
+-- two records on the chain: two steps go, and the third answers. `timings` judges the figure, on longer chains and beside other calls too
+abbrev pub lastStepNeeded : List Line
+lastStepNeeded =
+    setUp112
+    ∷ op (add 0 192 25 1) 0 0 0 0 0
+    ∷ op (add 0 512 30 2) 0 1 0 0 0
+    ∷ op (begin 0) 0 0 0 0 0
+    ∷ op (start 0 0) 0 0 0 0 0
+    ∷ op (step 0) 0 0 0 0 0
+    ∷ op (step 0) 0 0 0 0 0
+    ∷ op (step 0) 0 2 0 0 0
+    ∷ []
+
 -- ---- all of them
 
 abbrev pub stars : List Row
@@ -287,6 +302,7 @@ stars =
     ∷ script 200 droppedInPeriod
     ∷ script 200 droppedThenOff
     ∷ script 300 lastCabinets
+    ∷ script 200 lastStepNeeded
     ∷ (labelDigits ++ labelsRead ++ labelsWritten)
 
 -- each row comes out. That no generation at all is later than itself is a law (`laws` Generations `later-self`)
