@@ -19,8 +19,8 @@ pub data Timing : Type 0 where
   timing : (started last lane code records : ℕ) (outcomes : List ℕ) → Timing
 
 -- a list of calls with their answers, the set-up first, and the lookups that are timed
-pub data Timed : Type 0 where
-  timed : (lines : List Line) (timings : List Timing) → Timed
+pub data TimedList : Type 0 where
+  timed : (lines : List Line) (timings : List Timing) → TimedList
 
 abbrev pub outcomeOf : Answer → ℕ
 outcomeOf r = r .a
@@ -37,7 +37,7 @@ judged es (timing k l i c n os) =
 abbrev pub wordsOf : Event → List ℕ
 wordsOf e = fiveWords (e .answer)
 
-unfoldable pub expected : Timed → List (List ℕ)
+unfoldable pub expected : TimedList → List (List ℕ)
 unfolding tail owed
 expected (timed ls ts) = map outputOf (tail ls) ++ map owed ts
 
@@ -46,7 +46,7 @@ unfolding judged
 results es ts = map wordsOf es ++ map (judged es) ts
 
 -- the events are computed once
-unfoldable pub run : Timed → List (List ℕ)
+unfoldable pub run : TimedList → List (List ℕ)
 unfolding eventsOf results
 run (timed ls ts) = results (eventsOf ls) ts
 
@@ -222,7 +222,7 @@ verdicts-hold = refl
 
 -- ---- each of the lists
 
-abbrev pub table : List Timed
+abbrev pub table : List TimedList
 table =
     timed alone aloneTimed
     ∷ timed besideAdds (timing 3 7 1 0 1 (0 ∷ 2 ∷ []) ∷ [])
