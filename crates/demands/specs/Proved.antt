@@ -106,18 +106,23 @@ demand2 = record { calls = follows-rules; setUp = sets-up; list = state-listed; 
 
 -- ---- demand 3
 
--- what holds of every list of the model holds of the calls for C
-pub on-lists : (P : List Event → List ℕ → Type 0) → EveryList P → (c p x : ℕ) (m a m₀ b : List ℕ) → Called (set-up c p x) m a m₀ b 0
-    → (xs : List Run) → Ran m₀ xs → NoSetUps xs → P (eventsOf xs) (lastMemory m₀ xs)
-on-lists P every c p x m a m₀ b h xs ran ups =
-    subst (λ (es : List Event). P es (lastMemory m₀ xs)) (sym (ran-events m₀ xs ran))
-    (subst (λ (w : List ℕ). P (events m₀ (callsOf xs)) w) (sym (ran-left m₀ xs ran))
-    (subst (λ (w : List ℕ). P (events w (callsOf xs)) (leftAll w (callsOf xs))) (sym is)
-    (every m c p x (set-up-status c p x m a m₀ b h) (callsOf xs)
-    (subst (λ (w : List ℕ). RefusesSetUps w (callsOf xs)) is (ran-set-ups m₀ xs ran ups)))))
+-- what holds of the calls of every list of the model, on the memory that its set-up left, holds of the calls for C
+pub on-calls : (P : List ℕ → List Call → Type 0)
+    → ((m : List ℕ) (c p x : ℕ) → reply m (set-up c p x) .status ≡ 0 → (ks : List Call) → RefusesSetUps (left m (set-up c p x)) ks → P (left m (set-up c p x)) ks)
+    → (c p x : ℕ) (m a m₀ b : List ℕ) → Called (set-up c p x) m a m₀ b 0 → (xs : List Run) → Ran m₀ xs → NoSetUps xs → P m₀ (callsOf xs)
+on-calls P every c p x m a m₀ b h xs ran ups =
+    subst (λ (w : List ℕ). P w (callsOf xs)) (sym is)
+    (every m c p x (set-up-status c p x m a m₀ b h) (callsOf xs) (subst (λ (w : List ℕ). RefusesSetUps w (callsOf xs)) is (ran-set-ups m₀ xs ran ups)))
   where
     is : m₀ ≡ left m (set-up c p x)
     is = set-up-memory c p x m a m₀ b h
+
+-- the same of their events and the memory after them
+pub on-lists : (P : List Event → List ℕ → Type 0) → EveryList P → (c p x : ℕ) (m a m₀ b : List ℕ) → Called (set-up c p x) m a m₀ b 0
+    → (xs : List Run) → Ran m₀ xs → NoSetUps xs → P (eventsOf xs) (lastMemory m₀ xs)
+on-lists P every c p x m a m₀ b h xs ran ups =
+    rw (ran-events m₀ xs ran, ran-left m₀ xs ran)
+    (on-calls (λ (w : List ℕ) (ks : List Call). P (events w ks) (leftAll w ks)) every c p x m a m₀ b h xs ran ups)
 
 pub demand3 : Demand3
 demand3 = on-lists Demand listed

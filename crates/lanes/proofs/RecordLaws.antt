@@ -4,6 +4,7 @@ use mathlib.Core.Bool.{Bool}
 use mathlib.Core.Path.{_≡_, refl, ap, ap₂, sym, _∙_}
 use mathlib.Core.List.{List, [], _∷_, map}
 use native.Mathlib.Omega.{arith}
+use native.Mathlib.Numerals.{unary-clauses}
 use lib.ListN.{length, set, take, drop}
 use lib.Seq.{sets, drop-cons}
 use Rattle.model.specs.Word.{upTo}
@@ -15,7 +16,7 @@ use Rattle.model.specs.Memory.{at, flags, readCounts, laneWords, snapshotCount}
 use Rattle.laws.specs.ListLaws.{length-update}
 use Rattle.laws.specs.Stores.{getD-sets-below, map-sets, sets-same}
 use Rattle.masks.proofs.BitLaws.{withBit-mask, withoutBit-mask}
-use Rattle.lanes.proofs.Offsets.{plus-1, plus-2, plus-3, plus-4, plus-5, plus-9, plus-10, plus-16}
+use Rattle.lanes.proofs.Offsets.{plus-after}
 use Rattle.lanes.specs.Record.{endsAt, endsWords, lookupWordsAt, lookupWords, recordAt, recordWith, recordWords, recordLength}
 use Rattle.lanes.specs.Record.{recordStored, recordOf, withQuiescent, withSnapshot, countedRecord, sampledRecord, droppedRecord}
 use Rattle.lanes.specs.declared.Ends.{Ends}
@@ -31,12 +32,12 @@ wordsAt m a n = map (at m) (from a n)
 -- a record that was read has the words that stand there
 pub recordWords-recordAt : (m : List ℕ) (a : ℕ) → recordWords (recordAt m a) ≡ wordsAt m a recordLength
 unfolding recordWords recordAt from
-recordWords-recordAt m a = simp (plus-1, plus-2, plus-3, plus-5, plus-9, plus-10, plus-4, plus-16)
+recordWords-recordAt m a = simp (unary-clauses, plus-after generationAt, plus-after queuesAt, plus-after lookupAt)
 
 -- a record is read from its words alone
 pub recordAt-words : (m : List ℕ) (a : ℕ) → recordAt m a ≡ recordAt (wordsAt m a recordLength) 0
 unfolding recordAt from
-recordAt-words m a = simp (plus-1, plus-2, plus-3, plus-5, plus-9, plus-10, plus-4, plus-16)
+recordAt-words m a = simp (unary-clauses, plus-after generationAt, plus-after queuesAt, plus-after lookupAt)
 
 -- four counts, one by one
 counts-back : (c : List ℕ) → length c ≡ kinds → readCounts c 0 ≡ c
@@ -80,7 +81,7 @@ pub recordStored-parts : (m : List ℕ) (a : ℕ) (r : LaneRecord) (x y n c d l 
     → l ≡ sets d (a + lookupAt) (lookupWords (r .lookup))
     → l ≡ recordStored m a r
 unfolding recordWords
-recordStored-parts m a r x y n c d l hx hy hn hc hd hl = rw (hl, hd, hc, hn, hy, hx) (simp (plus-1, plus-2, plus-4, plus-5, plus-9, plus-10, plus-16))
+recordStored-parts m a r x y n c d l hx hy hn hc hd hl = rw (hl, hd, hc, hn, hy, hx) (simp (unary-clauses, plus-after generationAt, plus-after queuesAt, plus-after lookupAt))
 
 -- to write what was read changes nothing
 pub recordStored-recordAt : (m : List ℕ) (a : ℕ) → recordStored m a (recordAt m a) ≡ m

@@ -2,7 +2,7 @@
 use borrow.Author.Needs.{needs}
 use native.Mathlib.Omega.{arith}
 use lib.ListN.{length-set}
-use Rattle.lanes.proofs.Offsets.{plus-1, plus-2, plus-3}
+use native.Mathlib.Numerals.{unary-clauses}
 use Rattle.lanes.proofs.write_counts.Statement.{statement}
 use Rattle.lanes.proofs.write_counts.Tie as tie
 
@@ -55,7 +55,7 @@ same-length : tie.Need-same-length
 same-length c = search needs
 
 returns : tie.Need-returns
-returns c = simp (plus-1, plus-2, plus-3)
+returns c = simp unary-clauses
 
 pub write-counts-spec : {M : Type 1} → statement M
 write-counts-spec =

@@ -1,7 +1,7 @@
 -- Two stores, one after the other.
 use native.Mathlib.Omega.{arith}
 use lib.ListN.{length-set}
-use Rattle.lanes.proofs.Offsets.{plus-1}
+use native.Mathlib.Numerals.{unary-clauses}
 use borrow.Author.Needs.{needs}
 use Rattle.lanes.proofs.write_ends.Statement.{statement}
 use Rattle.lanes.proofs.write_ends.Tie as tie
@@ -25,7 +25,7 @@ same-length : tie.Need-same-length
 same-length c = search needs
 
 returns : tie.Need-returns
-returns c = simp plus-1
+returns c = simp unary-clauses
 
 pub write-ends-spec : {M : Type 1} → statement M
 write-ends-spec =

@@ -1,7 +1,7 @@
 -- Three stores, one after another.
 use native.Mathlib.Omega.{arith}
 use lib.ListN.{length-set}
-use Rattle.lanes.proofs.Offsets.{plus-1, plus-2}
+use native.Mathlib.Numerals.{unary-clauses}
 use borrow.Author.Needs.{needs}
 use Rattle.lanes.proofs.write_lookup.Statement.{statement}
 use Rattle.lanes.proofs.write_lookup.Tie as tie
@@ -34,7 +34,7 @@ same-length : tie.Need-same-length
 same-length c = search needs
 
 returns : tie.Need-returns
-returns c = simp (plus-1, plus-2)
+returns c = simp unary-clauses
 
 pub write-lookup-spec : {M : Type 1} → statement M
 write-lookup-spec =

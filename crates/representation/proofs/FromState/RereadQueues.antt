@@ -7,7 +7,8 @@ use lib.ListN.{length, getD}
 use Rattle.model.specs.Word.{none}
 use Rattle.model.specs.Lists.{first, concat, count, successor, successorIn}
 use Rattle.model.specs.State.{Sizes, Engine, Table, State}
-use Rattle.model.specs.Layout.{headsAt, maxSlots, chainCount, currentOffset, doneOffset, globalQueuesAt, globalGenerationAt, chainLinkAt, queueLinkAt}
+use Rattle.model.specs.Layout.{headsAt, maxSlots, chainCount, queueWidth, currentOffset, doneOffset, queuesWidth, globalQueuesAt}
+use Rattle.model.specs.Layout.{globalGenerationAt, chainLinkAt, queueLinkAt}
 use Rattle.model.specs.Memory.{at, sizes, walk, slotWords, slotWord, slotField, allQueues, readChain, readChains, readQueue, readQueues}
 use Rattle.laws.specs.ListLaws.{map-from-getD}
 use Rattle.laws.specs.Counts.{count-concat-getD}
@@ -77,8 +78,8 @@ module _ (e : Engine) (t : Table) (m : List ℕ) where
 
     pub global-is : readQueues m globalGenerationAt globalQueuesAt ≡ e .global
     global-is = λ i. record {
-      next = queue-is globalQueuesAt 1 (holds (end 2) (omega arith)) i;
-      current = queue-is (globalQueuesAt + currentOffset) 2 (holds (end 4) (omega arith)) i;
-      done = queue-is (globalQueuesAt + doneOffset) 3 (holds (end 6) (omega arith)) i;
-      generation = holds (end 8) (omega arith) i;
+      next = queue-is globalQueuesAt 1 (holds (end queueWidth) (omega arith)) i;
+      current = queue-is (globalQueuesAt + currentOffset) 2 (holds (end (queueWidth + currentOffset)) (omega arith)) i;
+      done = queue-is (globalQueuesAt + doneOffset) 3 (holds (end (queueWidth + doneOffset)) (omega arith)) i;
+      generation = holds (end (queueWidth + queuesWidth)) (omega arith) i;
     }
