@@ -1,5 +1,4 @@
--- The four counts of awaited: the pending lanes by their masks, the slots of the queues by their links, and the answer made of them.
+-- The four counts of awaited: the pending lanes by their masks, the slots of the queues by their lengths, and the answer made of them.
 pub mod AwaitedAnswer
 pub mod OwnerLengths
 pub mod Pending
-pub mod QueueLengths

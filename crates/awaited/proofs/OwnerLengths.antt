@@ -1,4 +1,4 @@
--- The queues of a legal memory: each ends, since it has no slot twice, and what the owners have together.
+-- The lengths that stand in a legal memory are those of its queues, and what the owners have together.
 use Prim.Native.Nat.{ℕ, _+_, _*_, _≤_, _<_}
 use mathlib.Core.Path.{_≡_, refl, ap, ap₂, sym, _∙_}
 use mathlib.Core.List.{List, [], _∷_}
@@ -6,53 +6,66 @@ use native.Mathlib.Omega.{arith}
 use lib.ListN.{length}
 use Rattle.model.specs.Word.{wordLimit}
 use Rattle.model.specs.Lists.{from}
-use Rattle.model.specs.State.{Sizes as TableSizes, laneCount, Lane}
-use Rattle.model.specs.Layout.{maxSlots, freeAt, globalQueuesAt, queuesAt, laneLength, laneAddress}
+use Rattle.model.specs.State.{laneCount, Lane}
+use Rattle.model.specs.Layout.{lengthOffset, currentOffset, doneOffset, freeAt, globalQueuesAt, queuesAt, laneLength, laneAddress, total}
+use Rattle.model.specs.Engine.{laneAt}
 use Rattle.model.specs.Rules.{queued, queuedIn}
-use Rattle.model.specs.Memory.{readQueue, readLane, sizes, state}
-use Rattle.laws.specs.Repeats.{length-at-most}
+use Rattle.model.specs.Memory.{at, readLane, sizes, state}
 use Rattle.laws.specs.Sums.{sum, sum-of-map}
-use Rattle.laws.specs.Loops.{sumBelow, sumBelow-few, Summed, summed-start, summed-on, summed-done}
+use Rattle.laws.specs.Loops.{sumBelow, sumBelow-alike, sumBelow-few, Summed, summed-start, summed-on, summed-done}
 use Rattle.representation.proofs.FromMemory.Reading.{state-lane}
 use Rattle.representation.specs.Sound.{Sound}
 use Rattle.words.specs.declared.Sizes.{Sizes}
 use Rattle.words.specs.Lent.{sizesOf}
 use Rattle.changes.proofs.Shape.{wellFormed-shape}
-use Rattle.changes.specs.Queues.{Part, next, current, done, Queue, free, global, lane, queueOf, partAt}
-use Rattle.changes.proofs.OfQueues.QueueStates.{queue-le}
-use Rattle.changes.proofs.OfQueues.QueueChanges.{queue-below, queues-once}
+use Rattle.changes.specs.Queues.{next, current, done, Queue, free, global, lane, Named, queueOf, endsAt}
+use Rattle.changes.proofs.OfQueues.QueueEnds.{length-shown}
+use Rattle.changes.proofs.OfQueues.QueueChanges.{queue-few}
 use Rattle.access.specs.TableSizes.{TableIn}
-use Rattle.access.proofs.Ways.{wellFormed}
-use Rattle.awaited.specs.Lengths.{ownerLength, retiredLength, OwnerAt}
+use Rattle.access.proofs.Ways.{shown, wellFormed, inRange}
+use Rattle.awaited.specs.Lengths.{ownerLength, retiredLength, ownerMost, OwnerAt}
 
--- ---- the queues of a legal memory end
+-- ---- the lengths of a legal memory
 
 module _ (m : List ℕ) (v : Sound m) where
-  short : (q : Queue) → length (queueOf (state m) q) ≤ sizes m .slots
+  -- a queue's length is the number of its slots, which is that of all at most
+  record Long (q : Queue) : Type 0 where
+    is : at m (endsAt (sizes m) q + lengthOffset) ≡ length (queueOf (state m) q)
+    few : length (queueOf (state m) q) ≤ sizes m .slots
+
+  long : (q : Queue) → Named (sizes m) q → Long q
   unfolding state
-  short q =
-      let w = wellFormed-shape (state m) (wellFormed m v) in
-      length-at-most (sizes m .slots) (queueOf (state m) q) (queue-below (state m) w q) (λ x. omega (arith, queue-le (state m) q x, queues-once (state m) w x))
+  long q named = record { is = length-shown (state m) m (shown m v) q named; few = queue-few (state m) (wellFormed-shape (state m) (wellFormed m v)) q }
 
-  global-short : (p : Part) → length (readQueue m (partAt globalQueuesAt p)) ≤ sizes m .slots
+  pub free-is : at m (freeAt + lengthOffset) ≡ length (state m .table .free)
   unfolding state
-  global-short next = short (global next)
-  global-short current = short (global current)
-  global-short done = short (global done)
+  free-is = long free tt .is
 
-  lane-short : (i : ℕ) → i < laneCount (sizes m) → (p : Part) → length (readQueue m (partAt (laneAddress (sizes m) i + queuesAt) p)) ≤ sizes m .slots
-  unfolding readLane
-  lane-short i h next = rw (state-lane m i h) at (short (lane i next))
-  lane-short i h current = rw (state-lane m i h) at (short (lane i current))
-  lane-short i h done = rw (state-lane m i h) at (short (lane i done))
+  -- of the queues of an owner
+  record Owned (a n : ℕ) : Type 0 where
+    is : ownerLength m a ≡ n
+    few : n ≤ ownerMost
 
--- the queues of an owner: next, current and done
-abbrev ownerQueues : ℕ
-ownerQueues = 3
+  owned : (a : ℕ) (x y z : Queue) → Named (sizes m) x → Named (sizes m) y → Named (sizes m) z → a ≡ endsAt (sizes m) x
+      → a + currentOffset ≡ endsAt (sizes m) y → a + doneOffset ≡ endsAt (sizes m) z
+      → Owned a (length (queueOf (state m) x) + length (queueOf (state m) y) + length (queueOf (state m) z))
+  owned a x y z hx hy hz ex ey ez =
+      let p = long x hx in
+      let q = long y hy in
+      let r = long z hz in
+      record {
+        is = ap₂ _+_ (ap₂ _+_ (ap (at m) (omega (arith, ex)) ∙ p .is) (ap (at m) (omega (arith, ey)) ∙ q .is)) (ap (at m) (omega (arith, ez)) ∙ r .is);
+        few = omega (arith, p .few, q .few, r .few, inRange m v .fewSlots);
+      }
 
--- none has more slots than there are
-pub owner-few : (m : List ℕ) (z : Sizes) (e : ℕ) → OwnerAt m z e → ownerLength m e ≤ ownerQueues * maxSlots
-owner-few m z e k = omega (arith, k .short next, k .short current, k .short done, k .table .lent .few .slots)
+  global-owned : Owned globalQueuesAt (queued (state m .engine .global))
+  unfolding state
+  global-owned = owned globalQueuesAt (global next) (global current) (global done) tt tt tt refl refl refl
+
+  lane-owned : (i : ℕ) → i < laneCount (sizes m) → Owned (laneAddress (sizes m) i + queuesAt) (queued (laneAt (state m .engine) i .queues))
+  lane-owned i h = owned (laneAddress (sizes m) i + queuesAt) (lane i next) (lane i current) (lane i done) h h h refl refl refl
+
+-- ---- lane by lane
 
 queuedIn-sum : (ls : List Lane) → queuedIn ls ≡ sum (λ (l : Lane). queued (l .queues)) ls
 unfolding queuedIn
@@ -60,65 +73,67 @@ queuedIn-sum [] = refl
 queuedIn-sum (l ∷ ls) = ap (λ (n : ℕ). queued (l .queues) + n) (queuedIn-sum ls)
 
 -- the slots in the queues of lane i
-abbrev laneSlots : List ℕ → TableSizes → ℕ → ℕ
-laneSlots m z i = ownerLength m (laneAddress z i + queuesAt)
+abbrev laneSlots : List ℕ → ℕ → ℕ
+laneSlots m i = ownerLength m (laneAddress (sizes m) i + queuesAt)
 
--- the lanes before i have n slots, and the ends of lane i stand from e on
-pub record LanesCounted (m : List ℕ) (z : Sizes) (e n i : ℕ) : Type 0 where
-  pub ends : e ≡ laneAddress (sizesOf z) i + queuesAt
-  pub soFar : Summed (laneSlots m (sizesOf z)) (laneCount (sizesOf z)) i n
-  pub few : n ≤ ownerQueues * maxSlots * i
-
-pub lanes-start : (m : List ℕ) (z : Sizes) (a : ℕ) → a ≡ laneAddress (sizesOf z) 0 → LanesCounted m z (a + queuesAt) 0 0
-lanes-start m z a e = record { ends = omega (arith, e); soFar = summed-start _ _; few = omega arith }
+-- the lanes before i have n slots, and the words of the queues of lane i stand from e on
+pub record LanesCounted (m : List ℕ) (e n i : ℕ) : Type 0 where
+  pub ends : e ≡ laneAddress (sizes m) i + queuesAt
+  pub soFar : Summed (laneSlots m) (laneCount (sizes m)) i n
+  pub few : n ≤ ownerMost * i
 
 -- ---- by the sizes that were read
 
 module _ (m : List ℕ) (z : Sizes) (k : TableIn m z) where
-  pub free-short : length (readQueue m freeAt) ≤ z .slots
+  pub global-at : OwnerAt m globalQueuesAt
+  global-at = let g = global-owned m (k .sound) in record { inside = omega (arith, k .lent .long); few = omega (arith, g .is, g .few) }
+
+  lane-at : (i : ℕ) → i < laneCount (sizes m) → (e : ℕ) → e ≡ laneAddress (sizes m) i + queuesAt → OwnerAt m e
+  lane-at i h e d =
+      let g = lane-owned m (k .sound) i h in
+      let l : total (sizes m) ≤ length m = rw (k .sizes) at (k .lent .long) in
+      record { inside = omega (arith, l); few = rw d (omega (arith, g .is, g .few)) }
+
+  lanes-shown : sumBelow (laneSlots m) (laneCount (sizes m)) ≡ queuedIn (state m .engine .lanes)
   unfolding state
-  free-short = rw (k .sizes) (short m (k .sound) free)
-
-  pub global-at : OwnerAt m z globalQueuesAt
-  global-at = record { table = k; inside = omega (arith, k .lent .long); short = λ p. rw (k .sizes) (global-short m (k .sound) p) }
-
-  lane-at : (i : ℕ) → i < laneCount (sizesOf z) → (e : ℕ) → e ≡ laneAddress (sizesOf z) i + queuesAt → OwnerAt m z e
-  lane-at i h e d = record {
-    table = k;
-    inside = omega (arith, k .lent .long);
-    short = λ p. rw (d, k .sizes) (lane-short m (k .sound) i (rw (k .sizes) at h) p);
-  }
-
-  lanes-shown : sumBelow (laneSlots m (sizesOf z)) (laneCount (sizesOf z)) ≡ queuedIn (state m .engine .lanes)
-  unfolding state readLane
   lanes-shown =
-      rw (k .sizes)
-      (sym (queuedIn-sum (state m .engine .lanes) ∙ sum-of-map (λ (l : Lane). queued (l .queues)) (readLane m) (from 0 (laneCount (sizes m)))))
+      sumBelow-alike (laneSlots m) (λ (i : ℕ). queued (readLane m i .queues)) (laneCount (sizes m))
+      (λ i h. lane-owned m (k .sound) i h .is ∙ ap (λ (l : Lane). queued (l .queues)) (state-lane m i h))
+      ∙ sym (queuedIn-sum (state m .engine .lanes) ∙ sum-of-map (λ (l : Lane). queued (l .queues)) (readLane m) (from 0 (laneCount (sizes m))))
+
+  pub lanes-start : (a : ℕ) → a ≡ laneAddress (sizesOf z) 0 → LanesCounted m (a + queuesAt) 0 0
+  lanes-start a e =
+      let d : a ≡ laneAddress (sizes m) 0 = rw (k .sizes) at e in
+      record { ends = omega (arith, d); soFar = summed-start _ _; few = omega arith }
 
   -- lane by lane, of b lanes
-  module _ (b e n i : ℕ) (eb : b ≡ laneCount (sizesOf z)) (c : LanesCounted m z e n i) where
-    pub lanes-next : i < b → OwnerAt m z e
-    lanes-next h = lane-at i (omega (arith, eb)) e (c .ends)
+  module _ (b e n i : ℕ) (eb : b ≡ laneCount (sizesOf z)) (c : LanesCounted m e n i) where
+    lanes-are : b ≡ laneCount (sizes m)
+    lanes-are = rw (k .sizes) at eb
 
-    pub lanes-on : i < b → (v : ℕ) → v ≡ ownerLength m e → LanesCounted m z (e + laneLength) (n + v) (i + 1)
+    pub lanes-next : i < b → OwnerAt m e
+    lanes-next h = lane-at i (omega (arith, lanes-are)) e (c .ends)
+
+    pub lanes-small : i < b → e + laneLength < wordLimit
+    lanes-small h = omega (arith, c .ends, lanes-are, inRange m (k .sound) .fewCabinets, inRange m (k .sound) .fewLanes)
+
+    pub lanes-on : i < b → (v : ℕ) → v ≡ ownerLength m e → LanesCounted m (e + laneLength) (n + v) (i + 1)
     lanes-on h v ev = record {
       ends = omega (arith, c .ends);
-      soFar = summed-on _ _ i n (c .soFar) (omega (arith, eb)) v (ev ∙ ap (ownerLength m) (c .ends));
-      few = omega (arith, c .few, ev, owner-few m z e (lanes-next h));
+      soFar = summed-on _ _ i n (c .soFar) (omega (arith, lanes-are)) v (ev ∙ ap (ownerLength m) (c .ends));
+      few = omega (arith, c .few, ev, lanes-next h .few);
     }
 
     pub lanes-done : b ≤ i → n ≡ queuedIn (state m .engine .lanes)
-    lanes-done h = summed-done _ _ i n (c .soFar) (omega (arith, eb)) ∙ lanes-shown
+    lanes-done h = summed-done _ _ i n (c .soFar) (omega (arith, lanes-are)) ∙ lanes-shown
 
-  lanes-few : sumBelow (laneSlots m (sizesOf z)) (laneCount (sizesOf z)) ≤ ownerQueues * maxSlots * laneCount (sizesOf z)
-  lanes-few =
-      sumBelow-few (laneSlots m (sizesOf z)) (ownerQueues * maxSlots) (laneCount (sizesOf z)) (λ i h. owner-few m z _ (lane-at i h _ refl))
+  lanes-few : sumBelow (laneSlots m) (laneCount (sizes m)) ≤ ownerMost * laneCount (sizes m)
+  lanes-few = sumBelow-few (laneSlots m) ownerMost (laneCount (sizes m)) (λ i h. lane-at i h _ refl .few)
 
   -- what the owners have, as it was counted
   module _ (g q : ℕ) (eg : g ≡ ownerLength m globalQueuesAt) (eq : q ≡ queuedIn (state m .engine .lanes)) where
     pub retired-fits : g + q < wordLimit
-    retired-fits = omega (arith, owner-few m z globalQueuesAt global-at, lanes-few, lanes-shown, k .lent .few .lanes)
+    retired-fits = omega (arith, global-at .few, lanes-few, lanes-shown, inRange m (k .sound) .fewLanes)
 
     pub retired-shown : g + q ≡ retiredLength (state m)
-    unfolding state
-    retired-shown = ap₂ _+_ eg eq
+    retired-shown = ap₂ _+_ (eg ∙ global-owned m (k .sound) .is) eq

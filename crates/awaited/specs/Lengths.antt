@@ -1,30 +1,25 @@
--- The slots of queues by walks along the queue links of a memory, and what is asked of an owner's queues to count them.
-use Prim.Native.Nat.{ℕ, suc, _+_, _≤_}
+-- The lengths of an owner's queues, by the words of a memory, and what is asked of them to add them up.
+use Prim.Native.Nat.{ℕ, _+_, _*_, _≤_}
 use mathlib.Core.List.{List}
 use lib.ListN.{length}
 use Rattle.model.specs.State.{State}
-use Rattle.model.specs.Layout.{currentOffset, doneOffset, queuesWidth, queueLinkAt}
+use Rattle.model.specs.Layout.{maxSlots, lengthOffset, currentOffset, doneOffset, queuesWidth}
 use Rattle.model.specs.Rules.{queued, queuedIn}
-use Rattle.model.specs.Memory.{walk, slotField, readQueue, sizes}
-use Rattle.words.specs.declared.Sizes.{Sizes}
-use Rattle.changes.specs.Queues.{Part, partAt}
-use Rattle.access.specs.TableSizes.{TableIn}
+use Rattle.model.specs.Memory.{at}
 
-module _ (m : List ℕ) where
-  -- the slots from i on by the queue links
-  abbrev pub queueFrom : ℕ → List ℕ
-  queueFrom i = walk (slotField m queueLinkAt) i (suc (sizes m .slots))
-
-  -- the slots of an owner's queues, whose ends stand from a on
-  abbrev pub ownerLength : ℕ → ℕ
-  ownerLength a = length (readQueue m a) + length (readQueue m (a + currentOffset)) + length (readQueue m (a + doneOffset))
+-- the slots of an owner's queues, whose words stand from a on
+abbrev pub ownerLength : List ℕ → ℕ → ℕ
+ownerLength m a = at m (a + lengthOffset) + at m (a + (currentOffset + lengthOffset)) + at m (a + (doneOffset + lengthOffset))
 
 -- the slots in the queues but the free one
 abbrev pub retiredLength : State → ℕ
 retiredLength s = queued (s .engine .global) + queuedIn (s .engine .lanes)
 
--- the queues with their ends from e on end
-pub record OwnerAt (m : List ℕ) (z : Sizes) (e : ℕ) : Type 0 where
-  pub table : TableIn m z
+-- the most slots that next, current and done can have, each for itself
+abbrev pub ownerMost : ℕ
+ownerMost = 3 * maxSlots
+
+-- the queues with their words from e on have no more slots than that
+pub record OwnerAt (m : List ℕ) (e : ℕ) : Type 0 where
   pub inside : e + queuesWidth ≤ length m
-  pub short : (p : Part) → length (readQueue m (partAt e p)) ≤ z .slots
+  pub few : ownerLength m e ≤ ownerMost

@@ -1,7 +1,7 @@
 // The call awaited on a legal memory: how many lanes are pending and the lowest of them, how many slots are free and how many stand
-// in the other queues. It changes no word.
+// in the other queues, by the queues' lengths. It walks no queue and changes no word.
 ghost use mathlib.Core.Path.{_≡_};
-ghost use Prim.Native.Nat.{_+_, _*_, _≤_, _<_};
+ghost use Prim.Native.Nat.{_+_, _*_, _<_};
 ghost use lib.ListN.{length};
 ghost use Rattle.model.specs.Word.{wordLimit};
 ghost use Rattle.model.specs.Lists.{first as Lists·first};
@@ -11,7 +11,7 @@ ghost use Rattle.model.specs.Calls.{on-state};
 ghost use Rattle.representation.specs.Sound.{Sound};
 ghost use Rattle.access.specs.Contract.{Does};
 ghost use Rattle.access.specs.TableSizes.{TableIn};
-ghost use Rattle.awaited.specs.Lengths.{queueFrom, ownerLength, retiredLength, OwnerAt};
+ghost use Rattle.awaited.specs.Lengths.{ownerLength, retiredLength, OwnerAt};
 
 // ---- lanes
 
@@ -55,29 +55,14 @@ fn lowest_pending(m: &[u32], z: words::Sizes) -> u32
 
 // ---- slots
 
-// How many slots stand in the queue with this first slot.
-fn queue_length(m: &[u32], z: words::Sizes, first: u32) -> u32
-    requires { ⌜ TableIn (now m) z × (length (queueFrom (now m) first) ≤ z .slots) ⌝ }
-    ensures { λ r. ⌜ r ≡ length (queueFrom (now (m .entry)) first) ⌝ }
-{
-    let links = words::slots_start(z) + words::QUEUE_LINK_AT;
-    let mut slot = first;
-    let mut n: u32 = 0;
-    while slot < z.slots {
-        slot = m[links + words::SLOT_LENGTH * words::index(slot)];
-        n = n + 1;
-    }
-    n
-}
-
-// How many slots stand in the queues of an owner, whose ends stand from `ends` on.
-fn owner_length(m: &[u32], z: words::Sizes, ends: usize) -> u32
-    requires { ⌜ OwnerAt (now m) z ends ⌝ }
+// How many slots stand in the queues of an owner, whose words stand from `ends` on.
+fn owner_length(m: &[u32], ends: usize) -> u32
+    requires { ⌜ OwnerAt (now m) ends ⌝ }
     ensures { λ r. ⌜ r ≡ ownerLength (now (m .entry)) ends ⌝ }
 {
-    queue_length(m, z, m[ends])
-        + queue_length(m, z, m[ends + words::CURRENT_OFFSET])
-        + queue_length(m, z, m[ends + words::DONE_OFFSET])
+    m[ends + words::LENGTH_OFFSET]
+        + m[ends + (words::CURRENT_OFFSET + words::LENGTH_OFFSET)]
+        + m[ends + (words::DONE_OFFSET + words::LENGTH_OFFSET)]
 }
 
 // How many slots stand in the queues of the lanes.
@@ -90,7 +75,7 @@ fn lanes_length(m: &[u32], z: words::Sizes) -> u32
     let mut n: u32 = 0;
     let mut i: u32 = 0;
     while i < lanes {
-        n = n + owner_length(m, z, ends);
+        n = n + owner_length(m, ends);
         ends = ends + words::LANE_LENGTH;
         i = i + 1;
     }
@@ -102,7 +87,7 @@ fn retired_length(m: &[u32], z: words::Sizes) -> u32
     requires { ⌜ TableIn (now m) z ⌝ }
     ensures { λ r. ⌜ r ≡ retiredLength (state (now (m .entry))) ⌝ }
 {
-    owner_length(m, z, words::GLOBAL_QUEUES_AT) + lanes_length(m, z)
+    owner_length(m, words::GLOBAL_QUEUES_AT) + lanes_length(m, z)
 }
 
 // ---- awaited
@@ -113,7 +98,7 @@ pub fn awaited(m: &mut [u32]) -> access::Answer
     ensures { λ r. ⌜ Does (on-state awaiting) (now (m .entry)) r (now (m .exit)) ⌝ }
 {
     let z = words::read_sizes(m);
-    let free = queue_length(m, z, m[words::FREE_AT]);
+    let free = m[words::FREE_AT + words::LENGTH_OFFSET];
     let retired = retired_length(m, z);
     access::accepted(pending_count(m, z), lowest_pending(m, z), free, retired)
 }

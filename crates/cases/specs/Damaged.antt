@@ -4,8 +4,10 @@ use mathlib.Core.Path.{_≡_, refl}
 use mathlib.Core.Bool.{Bool, true, false}
 use mathlib.Core.List.{List, [], _∷_, map}
 use lib.ListN.{set}
-use Rattle.model.specs.Layout.{lastOffset, currentOffset, cabinetMaskAt, globalQueuesAt, masksAt, queueLinkAt, slotAddress}
-use Rattle.model.specs.Rules.{add, delete, off}
+use Rattle.model.specs.Word.{none}
+use Rattle.model.specs.Layout.{lastOffset, lengthOffset, currentOffset, doneOffset, cabinetMaskAt, freeAt, globalQueuesAt, masksAt, queuesAt, queueLinkAt}
+use Rattle.model.specs.Layout.{laneAddress, slotAddress}
+use Rattle.model.specs.Rules.{add, delete, pass, clock, off}
 use Rattle.model.specs.Legal.{legal}
 use Rattle.model.specs.Calls.{Call, set-up, on-state, sized, leftAll}
 use Rattle.scripts.specs.Scripts.{answered, lentWords}
@@ -33,6 +35,12 @@ oneChained = set-up 1 2 3 ∷ on-state (add 1 17 25 1) ∷ []
 abbrev pub oneWaiting : List Call
 oneWaiting = set-up 1 2 3 ∷ on-state (add 1 17 25 1) ∷ on-state (delete 1 17) ∷ on-state (off 1) ∷ []
 
+-- slot 0 is in lane 0's done queue
+abbrev pub oneDone : List Call
+oneDone =
+    set-up 1 2 3 ∷ on-state (add 0 17 25 1) ∷ on-state (delete 0 17) ∷ on-state (off 1)
+    ∷ on-state (clock 0) ∷ on-state (pass 0 0) ∷ on-state (clock 0) ∷ []
+
 abbrev pub damages : List Damage
 damages =
     -- the words that stand there
@@ -45,6 +53,18 @@ damages =
     ∷ damage oneWaiting masksAt 0 false
     -- lines agree with first and last
     ∷ damage oneWaiting (globalQueuesAt + currentOffset + lastOffset) 1 false
+    -- the lengths agree with the lines: of the free one, and of the global one that waits; of a lane's done queue, and of one that is empty
+    ∷ damage oneWaiting (freeAt + lengthOffset) 2 true
+    ∷ damage oneWaiting (freeAt + lengthOffset) 3 false
+    ∷ damage oneWaiting (freeAt + lengthOffset) 1 false
+    ∷ damage oneWaiting (globalQueuesAt + currentOffset + lengthOffset) 1 true
+    ∷ damage oneWaiting (globalQueuesAt + currentOffset + lengthOffset) 2 false
+    ∷ damage oneWaiting (globalQueuesAt + currentOffset + lengthOffset) 0 false
+    ∷ damage oneWaiting (globalQueuesAt + currentOffset + lengthOffset) none false
+    ∷ damage oneWaiting (globalQueuesAt + lengthOffset) 1 false
+    ∷ damage oneDone (laneAddress (sized 1 2 3) 0 + queuesAt + doneOffset + lengthOffset) 1 true
+    ∷ damage oneDone (laneAddress (sized 1 2 3) 0 + queuesAt + doneOffset + lengthOffset) 0 false
+    ∷ damage oneDone (laneAddress (sized 1 2 3) 1 + queuesAt + doneOffset + lengthOffset) 1 false
     -- a slot outside every line has line link none
     ∷ damage oneChained (slotAddress (sized 1 2 3) 0 + queueLinkAt) 1 false
     ∷ []

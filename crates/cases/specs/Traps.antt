@@ -51,7 +51,7 @@ noBatchJoins =
     ∷ op (delete 1 24) 0 1 0 0 0
     ∷ op (clock 1) 0 1 2 1 0
     ∷ op (pass 0 0) 0 0 0 0 0
-    ∷ op (clock 0) 0 2 2 1 0
+    ∷ op (clock 0) 0 2 2 1 1
     ∷ op (clock 1) 0 2 2 1 0
     ∷ op (hand-back 1) 16 0 0 0 0
     ∷ []
@@ -69,7 +69,7 @@ snapshotAnew =
     ∷ op (pass 1 0) 0 0 0 0 0
     ∷ op (clock 1) 0 1 2 1 0
     ∷ op (pass 0 0) 0 0 0 0 0
-    ∷ op (clock 0) 0 2 2 1 0
+    ∷ op (clock 0) 0 2 2 1 1
     ∷ op (begin 0) 0 0 0 0 0
     ∷ op (clock 0) 0 2 2 1 0
     ∷ op awaited 0 2 0 1 2
@@ -99,7 +99,7 @@ offWaitsAnew =
     ∷ op (clock 0) 0 2 2 1 0
     ∷ op (hand-back 0) 16 0 0 0 0
     ∷ op (pass 0 0) 0 0 0 0 0
-    ∷ op (clock 0) 0 3 2 0 0
+    ∷ op (clock 0) 0 3 2 0 1
     ∷ op (hand-back 0) 0 0 0 0 0
     ∷ []
 
@@ -111,7 +111,7 @@ freeInOrder =
     ∷ op (delete 0 17) 0 0 0 0 0
     ∷ op (clock 0) 0 1 1 1 0
     ∷ op (pass 0 0) 0 0 0 0 0
-    ∷ op (clock 0) 0 2 1 0 0
+    ∷ op (clock 0) 0 2 1 0 1
     ∷ op (hand-back 0) 0 0 0 0 0
     ∷ op (add 0 24 30 2) 0 1 0 0 0
     ∷ op (add 0 31 35 3) 0 0 0 0 0
@@ -144,7 +144,7 @@ offInOrder =
     ∷ op (pass 0 0) 0 0 0 0 0
     ∷ op (clock 0) 0 2 2 1 0
     ∷ op (pass 0 0) 0 0 0 0 0
-    ∷ op (clock 0) 0 3 2 0 0
+    ∷ op (clock 0) 0 3 2 0 2
     ∷ op (hand-back 0) 0 0 0 0 0
     ∷ op (hand-back 0) 0 1 0 0 0
     ∷ []
@@ -160,9 +160,9 @@ ownFirst =
     ∷ op (delete 0 24) 0 1 0 0 0
     ∷ op (clock 0) 0 1 2 1 0
     ∷ op (pass 0 0) 0 0 0 0 0
-    ∷ op (clock 0) 0 2 2 1 0
+    ∷ op (clock 0) 0 2 2 1 1
     ∷ op (pass 0 0) 0 0 0 0 0
-    ∷ op (clock 0) 0 3 2 0 0
+    ∷ op (clock 0) 0 3 2 0 1
     ∷ op (hand-back 0) 0 1 0 0 0
     ∷ op (hand-back 0) 0 0 0 0 0
     ∷ []
@@ -176,7 +176,7 @@ clearedLink =
     ∷ op (delete 0 192) 0 1 0 0 0
     ∷ op (clock 0) 0 1 1 1 0
     ∷ op (pass 0 0) 0 0 0 0 0
-    ∷ op (clock 0) 0 2 1 0 0
+    ∷ op (clock 0) 0 2 1 0 1
     ∷ op (hand-back 0) 0 1 0 0 0
     ∷ op awaited 0 0 4294967295 1 0
     ∷ []

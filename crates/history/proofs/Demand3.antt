@@ -25,7 +25,7 @@ set-up-accepted m c p n = go (refusalOf m (set-up c p n))
     go (suc x) h = absurd (omega arith)
 
 -- it leaves a memory that holds the fresh state
-set-up-stands : (m : List ℕ) (c p n : ℕ) → reply m (set-up c p n) .status ≡ 0 → Stands (fresh (sized c p n)) (left m (set-up c p n))
+pub set-up-stands : (m : List ℕ) (c p n : ℕ) → reply m (set-up c p n) .status ≡ 0 → Stands (fresh (sized c p n)) (left m (set-up c p n))
 unfolding fresh
 set-up-stands m c p n h =
     let z = set-up-accepted m c p n h in

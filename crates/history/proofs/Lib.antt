@@ -1,5 +1,5 @@
--- Demand 3, and how long a lookup can take (docs/PROOF.md says why they hold). Demand3, NewSlots, Corollaries, AfterEnds, Belt, Attained: the theorems;
--- the folders: what they rest on.
+-- Demand 3, how long a lookup can take, and what clocks move (docs/PROOF.md says why they hold). Demand3, NewSlots, Corollaries, AfterEnds, Belt,
+-- Attained, DoneSlots: the theorems; the folders: what they rest on.
 pub mod Ties
 pub mod EngineHalf
 pub mod ChainHalf
@@ -11,3 +11,4 @@ pub mod Corollaries
 pub mod AfterEnds
 pub mod Belt
 pub mod Attained
+pub mod DoneSlots

@@ -8,7 +8,7 @@ use lib.Dec.{eqb}
 use Rattle.model.specs.Word.{upTo}
 use Rattle.model.specs.Lists.{update}
 use Rattle.model.specs.State.{Lane}
-use Rattle.model.specs.Layout.{countLimit, lastOffset, currentOffset, doneOffset, quiescentAt, snapshotAt}
+use Rattle.model.specs.Layout.{countLimit, lastOffset, lengthOffset, currentOffset, doneOffset, quiescentAt, snapshotAt}
 use Rattle.model.specs.Layout.{generationAt, queuesAt, lookupAt, onlineBit, snapshotBit}
 use Rattle.model.specs.Memory.{at, flag, readCounts, laneWords}
 use Rattle.masks.specs.Bits.{withBit, withoutBit}
@@ -18,12 +18,12 @@ use Rattle.lanes.specs.declared.LaneRecord.{LaneRecord}
 
 -- ---- the record in its words
 
--- a queue's ends from a on, and their words
+-- a queue's words from a on
 abbrev pub endsAt : List ℕ → ℕ → Ends
-endsAt m a = record { first = at m a; last = at m (a + lastOffset) }
+endsAt m a = record { first = at m a; last = at m (a + lastOffset); length = at m (a + lengthOffset) }
 
 abbrev pub endsWords : Ends → List ℕ
-endsWords e = e .first ∷ e .last ∷ []
+endsWords e = e .first ∷ e .last ∷ e .length ∷ []
 
 -- a lookup from a on, and its words
 abbrev pub lookupWidth : ℕ
@@ -67,9 +67,9 @@ recordWords r =
     ∷ getD (r .quiescent) 0 0 ∷ getD (r .quiescent) 1 0 ∷ getD (r .quiescent) 2 0 ∷ getD (r .quiescent) 3 0
     ∷ getD (r .snapshot) 0 0 ∷ getD (r .snapshot) 1 0 ∷ getD (r .snapshot) 2 0 ∷ getD (r .snapshot) 3 0
     ∷ r .generation
-    ∷ r .next .first ∷ r .next .last
-    ∷ r .current .first ∷ r .current .last
-    ∷ r .done .first ∷ r .done .last
+    ∷ r .next .first ∷ r .next .last ∷ r .next .length
+    ∷ r .current .first ∷ r .current .last ∷ r .current .length
+    ∷ r .done .first ∷ r .done .last ∷ r .done .length
     ∷ lookupWords (r .lookup)
 
 -- m with the words of r from a on; all other words stay

@@ -15,10 +15,11 @@ ghost use Rattle.lanes.specs.RecordChanges.{Fits, changedRecord};
 
 pub mod cabinet;
 
-// The ends of a queue: its first slot and its last.
+// The words of a queue: its first slot, its last, and how many there are.
 pub struct Ends {
     pub first: u32,
     pub last: u32,
+    pub length: u32,
 }
 
 // A lookup: the two words of its code, and the slot at which it stands.
@@ -69,7 +70,7 @@ pub fn write_counts(m: &mut [u32], at: usize, counts: [u32; 4])
     m[at + 3] = counts[3];
 }
 
-// The ends that stand from at on.
+// A queue's words that stand from at on.
 fn read_ends(m: &[u32], at: usize) -> Ends
     requires { ⌜ at + queueWidth ≤ length (now m) ⌝ }
     ensures { λ r. ⌜ r ≡ endsAt (now (m .entry)) at ⌝ }
@@ -77,16 +78,18 @@ fn read_ends(m: &[u32], at: usize) -> Ends
     Ends {
         first: m[at],
         last: m[at + words::LAST_OFFSET],
+        length: m[at + words::LENGTH_OFFSET],
     }
 }
 
-// Writes ends from at on. All other words stay.
+// Writes a queue's words from at on. All other words stay.
 fn write_ends(m: &mut [u32], at: usize, ends: Ends)
     requires { ⌜ at + queueWidth ≤ length (now m) ⌝ }
     ensures { λ _. ⌜ now (m .exit) ≡ sets (now (m .entry)) at (endsWords ends) ⌝ }
 {
     m[at] = ends.first;
     m[at + words::LAST_OFFSET] = ends.last;
+    m[at + words::LENGTH_OFFSET] = ends.length;
 }
 
 // The lookup that stands from at on.

@@ -15,8 +15,8 @@ module _ (m : List ℕ) where
   split : every (sentences m (state m)) ≡ true → (engineLegal m && tableLegal m) ≡ true
   unfolding engineLegal tableLegal linksInRange fieldsInRange snapshotsAtRest lookupsAtRest
   split h =
-      let (flags, (masks, (linked, (fielded, (once, (lasts, (chained, (codes, (snapshots, (lookups, (generations, rest₁₁))))))))))) = every-true _ h in
-      let (queueLinks, (off, (sections, (held, (bits, (blank, (largest, (lanes, (global, _))))))))) = rest₁₁ in
+      let (flags, (masks, (linked, (fielded, (once, (lasts, (lengths, (chained, (codes, (snapshots, (lookups, rest₁₁))))))))))) = every-true _ h in
+      let (generations, (queueLinks, (off, (sections, (held, (bits, (blank, (largest, (lanes, (global, _)))))))))) = rest₁₁ in
       let (heads, (free, (queues, (laneLinks, (chainLinks, (slotLinks, _)))))) = every-true _ linked in
       let (products, lookupCodes) = and-true _ _ fielded in
       and-intro _ _
@@ -26,7 +26,7 @@ module _ (m : List ℕ) where
       & off & sections & held & bits
       & largest & lanes & global & tt
       ))
-      (every-intro _ (heads & free & queues & chainLinks & slotLinks & products & once & lasts & chained & codes & queueLinks & blank & tt))
+      (every-intro _ (heads & free & queues & chainLinks & slotLinks & products & once & lasts & lengths & chained & codes & queueLinks & blank & tt))
 
   join : (engineLegal m && tableLegal m) ≡ true → every (sentences m (state m)) ≡ true
   unfolding engineLegal tableLegal linksInRange fieldsInRange snapshotsAtRest lookupsAtRest
@@ -35,12 +35,13 @@ module _ (m : List ℕ) where
       let (flags, (masks, (laneLinks, (lookupCodes, (rested, (generations, rest₆)))))) = every-true _ e in
       let (off, (sections, (held, (bits, (largest, (lanes, (global, _))))))) = rest₆ in
       let (snapshots, (lookups, _)) = every-true _ rested in
-      let (heads, (free, (queues, (chainLinks, (slotLinks, (products, (once, (lasts, (chained, (codes, (queueLinks, (blank, _)))))))))))) = every-true _ t in
+      let (heads, (free, (queues, (chainLinks, (slotLinks, (products, (once, (lasts, (lengths, rest₉))))))))) = every-true _ t in
+      let (chained, (codes, (queueLinks, (blank, _)))) = rest₉ in
       every-intro _ (
       flags & masks
       & every-intro _ (heads & free & queues & laneLinks & chainLinks & slotLinks & tt)
       & and-intro _ _ products lookupCodes
-      & once & lasts & chained & codes
+      & once & lasts & lengths & chained & codes
       & snapshots & lookups & generations & queueLinks
       & off & sections & held & bits & blank
       & largest & lanes & global & tt

@@ -1,29 +1,30 @@
 -- The steps of the walks, in the chains and queues that a memory reads: their slots are those of all chains and queues, and the checks of the queues
--- have "lines agree with first and last" among them.
+-- have "lines agree with first and last" and that lengths agree among them.
 use Prim.Native.Nat.{ℕ, zero, suc, _+_, _*_, _<_}
-use mathlib.Core.Bool.{Bool, true, false}
+use mathlib.Core.Bool.{Bool, true, false, _&&_}
 use mathlib.Core.Path.{_≡_, refl, ap, ap₂, sym, _∙_, subst}
 use mathlib.Core.List.{List, [], _∷_, _++_, map}
 use native.Mathlib.Omega.{arith}
 use native.Mathlib.Numerals.{add-one}
+use lib.ListN.{length}
 use lib.Dec.{eqb}
 use borrow.Author.Tests.{le-leb, lt-leb}
 use Rattle.model.specs.Word.{none}
-use Rattle.model.specs.Lists.{from, count, last, concat, concatMap}
+use Rattle.model.specs.Lists.{all, from, count, last, concat, concatMap}
 use Rattle.model.specs.State.{Lane}
 use Rattle.model.specs.Layout.{cabinetsAt, placesAt, slotsAt, chainCount, headsAt, freeAt, globalQueuesAt, globalGenerationAt, generationAt, queuesAt}
-use Rattle.model.specs.Layout.{queueWidth, currentOffset, doneOffset, lastOffset, chainLinkAt, queueLinkAt, slotLength, laneLength, slotsBody}
-use Rattle.model.specs.Layout.{slotAddress, laneAddress, lanesBody}
+use Rattle.model.specs.Layout.{queueWidth, currentOffset, doneOffset, lastOffset, lengthOffset, chainLinkAt, queueLinkAt, slotLength, laneLength}
+use Rattle.model.specs.Layout.{slotsBody, slotAddress, laneAddress, lanesBody}
 use Rattle.model.specs.Engine.{laneAt, freshLane}
 use Rattle.model.specs.Memory.{at, sizes, walk, slotField, readChain, readChains, readQueue, readQueues, readLane, queuesOf, laneQueues, state}
-use Rattle.model.specs.Legal.{lastsAt, lastsAgree}
+use Rattle.model.specs.Legal.{agreesAt, queuesAgree, lastsAgree, lengthsAgree}
 use Rattle.laws.specs.Tests.{every-true, every-intro, and-true, and-intro, all-below, all-below-intro}
 use Rattle.laws.specs.ListLaws.{length-map-from, getD-map-below}
 use Rattle.laws.specs.Walks.{walk-stop, walk-on, stop, on, step}
 use Rattle.laws.specs.Counts.{count-append}
 use Rattle.words.specs.Links.{slotOrNone}
 use Rattle.slot_places.specs.Slots.{queuedFits}
-use Rattle.slot_places.specs.WalkSteps.{Step, check, slotsOf, several, queueCount, walks, chainSteps, linkSteps, queueSteps, laneSteps}
+use Rattle.slot_places.specs.WalkSteps.{Step, slotsOf, several, queueCount, walks, chainSteps, linkSteps, endSteps, queueSteps, laneSteps}
 use Rattle.slot_places.proofs.WalkStepLaws.{slotsOf-append}
 use Rattle.slot_places.proofs.Marked.{checks, Right, look, stop as ended}
 use Rattle.slot_places.proofs.Places.{slots-append, checks-both, both-check, right-walks, right-append, right-several, several-check, check-several, told-walks}
@@ -83,7 +84,7 @@ module _ (m : List ℕ) where
   queuedPart = queuedSteps m base (lanesBody (sizes m)) laneTotal S
 
   queue-right : (free : Bool) (a : ℕ) → Right S (queueSteps m base S free a)
-  queue-right free a = right-append (right-walks m _ S _ (at m a) (S + 1)) (look ended)
+  queue-right free a = right-append (right-walks m _ S _ (at m a) (S + 1)) (look (look ended))
 
   pub steps-right : Right S (chainPart ++ queuedPart)
   unfolding queuedSteps
@@ -102,7 +103,7 @@ module _ (m : List ℕ) where
   slots-queue i free a =
       omega (
         arith,
-        slots-append i (linkSteps m base S free a) (check (eqb (last (slotsOf (linkSteps m base S free a))) (at m (a + lastOffset))) ∷ []),
+        slots-append i (linkSteps m base S free a) (endSteps m base S a (slotsOf (linkSteps m base S free a))),
         ap (count i) (link-slots free a),
       )
 
@@ -183,104 +184,127 @@ module _ (m : List ℕ) where
 
   -- ---- their checks: one queue
 
-  abbrev lastGiven : ℕ → Bool
-  lastGiven a = eqb (last (readQueue m a)) (at m (a + lastOffset))
+  -- what f gives of the queue at a is its word at offset o
+  abbrev given : (List ℕ → ℕ) → ℕ → ℕ → Bool
+  given f o a = eqb (f (readQueue m a)) (at m (a + o))
 
-  pub queue-last : (free : Bool) (a : ℕ) → checks (queueSteps m base S free a) ≡ true → lastGiven a ≡ true
+  -- the checks at its end speak of the queue that the memory reads
+  ends-given : (free : Bool) (a : ℕ) → checks (endSteps m base S a (slotsOf (linkSteps m base S free a))) ≡ (given last lastOffset a && (given length lengthOffset a && true))
   unfolding checks
-  queue-last free a h =
-      let k = checks-both (linkSteps m base S free a) (check (eqb (last (slotsOf (linkSteps m base S free a))) (at m (a + lastOffset))) ∷ []) h .1 in
-      ap (λ (xs : List ℕ). eqb (last xs) (at m (a + lastOffset))) (sym (link-slots free a))
-      ∙ and-true (eqb (last (slotsOf (linkSteps m base S free a))) (at m (a + lastOffset))) true k .0
+  ends-given free a = ap (λ (xs : List ℕ). checks (endSteps m base S a xs)) (link-slots free a)
+
+  ends-told : (free : Bool) (a : ℕ) → checks (queueSteps m base S free a) ≡ true → (given last lastOffset a && (given length lengthOffset a && true)) ≡ true
+  ends-told free a h =
+      sym (ends-given free a) ∙ checks-both (linkSteps m base S free a) (endSteps m base S a (slotsOf (linkSteps m base S free a))) h .1
+
+  pub queue-last : (free : Bool) (a : ℕ) → checks (queueSteps m base S free a) ≡ true → given last lastOffset a ≡ true
+  queue-last free a h = and-true (given last lastOffset a) (given length lengthOffset a && true) (ends-told free a h) .0
+
+  pub queue-length : (free : Bool) (a : ℕ) → checks (queueSteps m base S free a) ≡ true → given length lengthOffset a ≡ true
+  queue-length free a h =
+      and-true (given length lengthOffset a) true (and-true (given last lastOffset a) (given length lengthOffset a && true) (ends-told free a h) .1) .0
 
   module _ (links : (x : ℕ) → x < S → slotOrNone S (at m (base + queueLinkAt + slotLength * x)) ≡ true) where
-    pub last-queue : (free : Bool) (a : ℕ) → slotOrNone S (at m a) ≡ true → ((x : ℕ) → 0 < count x (readQueue m a) → queuedFits m base S free x ≡ true)
-        → lastGiven a ≡ true
+    given-queue : (free : Bool) (a : ℕ) → slotOrNone S (at m a) ≡ true → ((x : ℕ) → 0 < count x (readQueue m a) → queuedFits m base S free x ≡ true)
+        → given last lastOffset a ≡ true → given length lengthOffset a ≡ true
         → checks (queueSteps m base S free a) ≡ true
-    unfolding checks
-    last-queue free a h f l =
-        both-check (linkSteps m base S free a) (check (eqb (last (slotsOf (linkSteps m base S free a))) (at m (a + lastOffset))) ∷ [])
+    given-queue free a h f l n =
+        both-check (linkSteps m base S free a) (endSteps m base S a (slotsOf (linkSteps m base S free a)))
         (told-walks m (base + queueLinkAt) S (queuedFits m base S free) links (at m a) (S + 1) h
         (λ x p. f x (subst (λ (xs : List ℕ). 0 < count x xs) (link-slots free a) p)))
-        (and-intro (eqb (last (slotsOf (linkSteps m base S free a))) (at m (a + lastOffset))) true
-        (ap (λ (xs : List ℕ). eqb (last xs) (at m (a + lastOffset))) (link-slots free a) ∙ l) refl)
+        (ends-given free a ∙ and-intro (given last lastOffset a) (given length lengthOffset a && true) l (and-intro (given length lengthOffset a) true n refl))
 
-  -- ---- three queues
-
-  three-lasts : (a g : ℕ) → checks (threeSteps a) ≡ true → lastsAt m a (readQueues m g a) ≡ true
-  three-lasts a g h =
-      every-intro _ (
-        given 0 a (omega arith) (omega arith),
-        (given 1 (a + currentOffset) (omega arith) (omega arith), (given 2 (a + doneOffset) (omega arith) (omega arith), tt)),
-      )
-    where
-      given : (j x : ℕ) → j < queueCount → a + queueWidth * j ≡ x → lastGiven x ≡ true
-      given j x b e =
-          subst (λ (y : ℕ). lastGiven y ≡ true) e
-          (queue-last false (a + queueWidth * j) (several-check (queueSteps m base S false) queueWidth a queueCount h j b))
+  -- ---- three queues, and all
 
   lane-of : (i : ℕ) → i < laneTotal → laneAt (state m .engine) i ≡ readLane m i
   unfolding state
   lane-of i b = getD-map-below (readLane m) laneTotal i freshLane b
 
-  pub steps-lasts : checks queuedPart ≡ true → lastsAgree m (state m) ≡ true
-  unfolding queuedSteps lastsAgree state readLane several
-  steps-lasts h =
-      let k = checks-both freePart (threeSteps globalQueuesAt ++ lanePart) h in
-      let r = checks-both (threeSteps globalQueuesAt) lanePart (k .1) in
-      every-intro _ (
-        queue-last true freeAt (several-check (queueSteps m base S true) queueWidth freeAt 1 (k .0) 0 (omega arith)),
-        (
-          three-lasts globalQueuesAt globalGenerationAt (r .0),
+  module _ (f : List ℕ → ℕ) (o : ℕ) (told : (free : Bool) (a : ℕ) → checks (queueSteps m base S free a) ≡ true → given f o a ≡ true) where
+    three-agree : (a g : ℕ) → checks (threeSteps a) ≡ true → agreesAt m f o a (readQueues m g a) ≡ true
+    three-agree a g h =
+        every-intro _ (
+          found 0 a (omega arith) (omega arith),
+          (found 1 (a + currentOffset) (omega arith) (omega arith), (found 2 (a + doneOffset) (omega arith) (omega arith), tt)),
+        )
+      where
+        found : (j x : ℕ) → j < queueCount → a + queueWidth * j ≡ x → given f o x ≡ true
+        found j x b e =
+            subst (λ (y : ℕ). given f o y ≡ true) e
+            (told false (a + queueWidth * j) (several-check (queueSteps m base S false) queueWidth a queueCount h j b))
+
+    pub steps-agree : checks queuedPart ≡ true → queuesAgree m f o (state m) ≡ true
+    unfolding queuedSteps state readLane several
+    steps-agree h =
+        let k = checks-both freePart (threeSteps globalQueuesAt ++ lanePart) h in
+        let r = checks-both (threeSteps globalQueuesAt) lanePart (k .1) in
+        every-intro _ (
+          told true freeAt (several-check (queueSteps m base S true) queueWidth freeAt 1 (k .0) 0 (omega arith)),
           (
-            all-below-intro (λ (i : ℕ). lastsAt m (laneAddress (sizes m) i + queuesAt) (laneAt (state m .engine) i .queues)) laneTotal
-                (λ i b. ap (λ (l : Lane). lastsAt m (laneAddress (sizes m) i + queuesAt) (l .queues)) (lane-of i b)
-                ∙ three-lasts (laneAddress (sizes m) i + queuesAt) (laneAddress (sizes m) i + generationAt)
-                (several-check (laneSteps m base S) laneLength (lanesBody (sizes m)) laneTotal (r .1) i b)),
-            tt,
+            three-agree globalQueuesAt globalGenerationAt (r .0),
+            (
+              all-below-intro (λ (i : ℕ). agreesAt m f o (laneAddress (sizes m) i + queuesAt) (laneAt (state m .engine) i .queues)) laneTotal
+                  (λ i b. ap (λ (l : Lane). agreesAt m f o (laneAddress (sizes m) i + queuesAt) (l .queues)) (lane-of i b)
+                  ∙ three-agree (laneAddress (sizes m) i + queuesAt) (laneAddress (sizes m) i + generationAt)
+                  (several-check (laneSteps m base S) laneLength (lanesBody (sizes m)) laneTotal (r .1) i b)),
+              tt,
+            ),
           ),
-        ),
-      )
+        )
 
   -- ---- and back
 
+  -- what is said of all queues is said of a lane's
+  lane-agrees : (f : List ℕ → ℕ) (o i : ℕ) → i < laneTotal
+      → all (λ (i : ℕ). agreesAt m f o (laneAddress (sizes m) i + queuesAt) (laneAt (state m .engine) i .queues)) (from 0 laneTotal) ≡ true
+      → agreesAt m f o (laneAddress (sizes m) i + queuesAt) (readLane m i .queues) ≡ true
+  lane-agrees f o i b h =
+      sym (ap (λ (l : Lane). agreesAt m f o (laneAddress (sizes m) i + queuesAt) (l .queues)) (lane-of i b))
+      ∙ all-below (λ (i : ℕ). agreesAt m f o (laneAddress (sizes m) i + queuesAt) (laneAt (state m .engine) i .queues)) laneTotal i h b
+
   module _ (links : (x : ℕ) → x < S → slotOrNone S (at m (base + queueLinkAt + slotLength * x)) ≡ true)
       (retired : (a x : ℕ) → 0 < count x (readQueue m a) → queuedFits m base S false x ≡ true) where
-    lasts-three : (a g : ℕ) → slotOrNone S (at m a) ≡ true → slotOrNone S (at m (a + currentOffset)) ≡ true → slotOrNone S (at m (a + doneOffset)) ≡ true
-        → lastsAt m a (readQueues m g a) ≡ true
+    agree-three : (a g : ℕ) → slotOrNone S (at m a) ≡ true → slotOrNone S (at m (a + currentOffset)) ≡ true → slotOrNone S (at m (a + doneOffset)) ≡ true
+        → agreesAt m last lastOffset a (readQueues m g a) ≡ true → agreesAt m length lengthOffset a (readQueues m g a) ≡ true
         → checks (threeSteps a) ≡ true
-    lasts-three a g h₀ h₁ h₂ l =
+    agree-three a g h₀ h₁ h₂ l n =
         let e = every-true _ l in
-        check-several (queueSteps m base S false) queueWidth a queueCount (given (e .0) (e .1 .0) (e .1 .1 .0))
+        let k = every-true _ n in
+        check-several (queueSteps m base S false) queueWidth a queueCount
+        (found (here a h₀ (e .0) (k .0)) (here (a + currentOffset) h₁ (e .1 .0) (k .1 .0)) (here (a + doneOffset) h₂ (e .1 .1 .0) (k .1 .1 .0)))
       where
-        here : (x y : ℕ) → x ≡ y → slotOrNone S (at m x) ≡ true → lastGiven x ≡ true → checks (queueSteps m base S false y) ≡ true
-        here x y q h t = subst (λ (z : ℕ). checks (queueSteps m base S false z) ≡ true) q (last-queue links false x h (retired x) t)
+        here : (x : ℕ) → slotOrNone S (at m x) ≡ true → given last lastOffset x ≡ true → given length lengthOffset x ≡ true
+            → checks (queueSteps m base S false x) ≡ true
+        here x h t u = given-queue links false x h (retired x) t u
 
-        given : lastGiven a ≡ true → lastGiven (a + currentOffset) ≡ true → lastGiven (a + doneOffset) ≡ true → (j : ℕ) → j < queueCount
+        there : (x y : ℕ) → x ≡ y → checks (queueSteps m base S false x) ≡ true → checks (queueSteps m base S false y) ≡ true
+        there x y q t = subst (λ (z : ℕ). checks (queueSteps m base S false z) ≡ true) q t
+
+        found : checks (queueSteps m base S false a) ≡ true → checks (queueSteps m base S false (a + currentOffset)) ≡ true
+            → checks (queueSteps m base S false (a + doneOffset)) ≡ true → (j : ℕ) → j < queueCount
             → checks (queueSteps m base S false (a + queueWidth * j)) ≡ true
-        given t₀ t₁ t₂ zero b = here a (a + queueWidth * 0) (omega arith) h₀ t₀
-        given t₀ t₁ t₂ (suc zero) b = here (a + currentOffset) (a + queueWidth * 1) (omega arith) h₁ t₁
-        given t₀ t₁ t₂ (suc (suc zero)) b = here (a + doneOffset) (a + queueWidth * 2) (omega arith) h₂ t₂
-        given t₀ t₁ t₂ (suc (suc (suc j))) b = absurd (omega arith)
+        found t₀ t₁ t₂ zero b = there a (a + queueWidth * 0) (omega arith) t₀
+        found t₀ t₁ t₂ (suc zero) b = there (a + currentOffset) (a + queueWidth * 1) (omega arith) t₁
+        found t₀ t₁ t₂ (suc (suc zero)) b = there (a + doneOffset) (a + queueWidth * 2) (omega arith) t₂
+        found t₀ t₁ t₂ (suc (suc (suc j))) b = absurd (omega arith)
 
-    pub lasts-steps : ((x : ℕ) → 0 < count x (readQueue m freeAt) → queuedFits m base S true x ≡ true)
+    pub agree-steps : ((x : ℕ) → 0 < count x (readQueue m freeAt) → queuedFits m base S true x ≡ true)
         → slotOrNone S (at m freeAt) ≡ true
         → slotOrNone S (at m globalQueuesAt) ≡ true → slotOrNone S (at m (globalQueuesAt + currentOffset)) ≡ true
         → slotOrNone S (at m (globalQueuesAt + doneOffset)) ≡ true
         → ((i : ℕ) → i < laneTotal
         → (slotOrNone S (at m (laneAddress (sizes m) i + queuesAt)) ≡ true) × (slotOrNone S (at m (laneAddress (sizes m) i + queuesAt + currentOffset)) ≡ true)
         × (slotOrNone S (at m (laneAddress (sizes m) i + queuesAt + doneOffset)) ≡ true))
-        → lastsAgree m (state m) ≡ true → checks queuedPart ≡ true
-    unfolding queuedSteps lastsAgree state readLane
-    lasts-steps blank f g₀ g₁ g₂ h l =
+        → lastsAgree m (state m) ≡ true → lengthsAgree m (state m) ≡ true → checks queuedPart ≡ true
+    unfolding queuedSteps lastsAgree lengthsAgree state readLane
+    agree-steps blank f g₀ g₁ g₂ h l n =
         let e = every-true _ l in
+        let k = every-true _ n in
         both-check freePart (threeSteps globalQueuesAt ++ lanePart)
         (check-several (queueSteps m base S true) queueWidth freeAt 1
         (λ j b. let q : freeAt ≡ freeAt + queueWidth * j = omega arith in subst (λ (z : ℕ). checks (queueSteps m base S true z) ≡ true) q
-        (last-queue links true freeAt f blank (e .0))))
-        (both-check (threeSteps globalQueuesAt) lanePart (lasts-three globalQueuesAt globalGenerationAt g₀ g₁ g₂ (e .1 .0))
+        (given-queue links true freeAt f blank (e .0) (k .0))))
+        (both-check (threeSteps globalQueuesAt) lanePart (agree-three globalQueuesAt globalGenerationAt g₀ g₁ g₂ (e .1 .0) (k .1 .0))
         (check-several (laneSteps m base S) laneLength (lanesBody (sizes m)) laneTotal (λ i b.
-        lasts-three (laneAddress (sizes m) i + queuesAt) (laneAddress (sizes m) i + generationAt)
-        (h i b .0) (h i b .1) (h i b .2)
-        (sym (ap (λ (l : Lane). lastsAt m (laneAddress (sizes m) i + queuesAt) (l .queues)) (lane-of i b))
-        ∙ all-below (λ (i : ℕ). lastsAt m (laneAddress (sizes m) i + queuesAt) (laneAt (state m .engine) i .queues)) laneTotal i (e .1 .1 .0) b))))
+        agree-three (laneAddress (sizes m) i + queuesAt) (laneAddress (sizes m) i + generationAt)
+        (h i b .0) (h i b .1) (h i b .2) (lane-agrees last lastOffset i b (e .1 .1 .0)) (lane-agrees length lengthOffset i b (k .1 .1 .0)))))

@@ -11,11 +11,11 @@ use lib.Dec.{ltb, eqb}
 use borrow.Author.Tests.{eq-eqb, eqb-true, lt-ltb}
 use Rattle.model.specs.Word.{none}
 use Rattle.model.specs.Lists.{from, count, last, distinct, concat}
-use Rattle.model.specs.Layout.{slotsAt, maxSlots, chainCount, queueWidth, currentOffset, doneOffset, lastOffset, headsAt, freeAt, globalQueuesAt}
+use Rattle.model.specs.Layout.{slotsAt, maxSlots, chainCount, queueWidth, currentOffset, doneOffset, lastOffset, lengthOffset, headsAt, freeAt, globalQueuesAt}
 use Rattle.model.specs.Layout.{masksAt, queuesAt, positionAt, depositAt, materialAt, chainLinkAt, queueLinkAt, slotLength, laneLength, slotsBody}
 use Rattle.model.specs.Layout.{laneAddress, lanesBody}
 use Rattle.model.specs.Memory.{at, wide, sizes, slotWord, laneWord, readChain, readChains, readQueue}
-use Rattle.model.specs.Legal.{endsInRange, queuesInRange, laneLinksInRange, slotOrNone as inRange}
+use Rattle.model.specs.Legal.{endsInRange, queuesInRange, laneLinksInRange, slotOrNone as inRange, lastsAgree, lengthsAgree}
 use Rattle.laws.specs.Tests.{unlike, refuted, every-true, and-true, and-intro, or-left, or-right, all-below, clash}
 use Rattle.laws.specs.ListLaws.{getD-replicate-default}
 use Rattle.laws.specs.Counts.{count-append}
@@ -32,7 +32,7 @@ use Rattle.slot_places.proofs.Places.{told-walks}
 use Rattle.engine_legality.specs.WordSentences.{engineLegal}
 use Rattle.legality.specs.Parts.{Table, tableLegal, queuedSteps, Arrays}
 use Rattle.legality.proofs.StepsRead.{S, base, laneTotal, chainPart, freePart, threeSteps, lanePart, queuedPart, chain-slots, chains-are}
-use Rattle.legality.proofs.StepsRead.{free-count, retired-count, all-count, steps-right, queue-last, steps-lasts, lasts-steps}
+use Rattle.legality.proofs.StepsRead.{free-count, retired-count, all-count, steps-right, queue-last, queue-length, steps-agree, agree-steps}
 use Rattle.legality.proofs.TableSaid.{chainedCount, freeCount, retiredCount, TableSaid, chain-below, queue-below-at, chain-chained, table-said}
 use Rattle.legality.proofs.TableSaid.{said-table}
 
@@ -107,10 +107,11 @@ module _ (m : List ℕ) where
         (told-walks m (base m + chainLinkAt) (S m) (chainedFits m (base m) j) (λ x l. link-said chainLinkAt x (s .chainLinks x l)) (at m (headsAt + j))
         (S m + 1) (s .heads j b)
         (λ x p. chain-fits j b x (subst (λ (xs : List ℕ). 0 < count x xs) (chain-slots m j) p)))))
-        (lasts-steps m (λ x l. link-said queueLinkAt x (s .queueLinks x l)) retired-fits (λ x p. s .blank x p)
+        (agree-steps m (λ x l. link-said queueLinkAt x (s .queueLinks x l)) retired-fits (λ x p. s .blank x p)
         (first-fits (at m) freeAt (s .freeEnds)) (firsts .0) (firsts .1) (firsts .2)
         (λ i b. let f = lane-fits i b in
-        (f .0, end-fits i (queuesAt + currentOffset) _ (omega arith) (f .1), end-fits i (queuesAt + doneOffset) _ (omega arith) (f .2))) (s .lasts))
+        (f .0, end-fits i (queuesAt + currentOffset) _ (omega arith) (f .1), end-fits i (queuesAt + doneOffset) _ (omega arith) (f .2)))
+        (s .lasts) (s .lengths))
 
   -- ---- tables that pass every check, and in which each slot is met once
 
@@ -249,6 +250,7 @@ module _ (m : List ℕ) where
         (subst (λ (j : ℕ). checks (chainSteps m (base m) (S m) j) ≡ true) e (several-check (chainSteps m (base m) (S m)) 1 0 chainCount (parts .0) k b))
 
     checks-said : distinct (map (codeAt m (base m)) (concat (readChains m))) ≡ true → TableSaid m
+    unfolding lastsAgree lengthsAgree
     checks-said d = record {
       heads = head-said;
       freeEnds = ends-said true freeAt (several-check (queueSteps m (base m) (S m) true) queueWidth freeAt 1 (queued .0) 0 (omega arith));
@@ -257,7 +259,8 @@ module _ (m : List ℕ) where
       queueLinks = λ i b. queue-link i (place i b);
       products = λ i b. product-said i (place i b);
       once = once;
-      lasts = steps-lasts m (parts .1);
+      lasts = steps-agree m last lastOffset (queue-last m) (parts .1);
+      lengths = steps-agree m length lengthOffset (queue-length m) (parts .1);
       chained = λ k i b c. eqb-true _ _ (chain-told k b i c .number);
       codes = d;
       rest = λ i b z. rest-said i z (place i b);

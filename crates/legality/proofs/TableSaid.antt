@@ -15,7 +15,8 @@ use Rattle.model.specs.Layout.{slotsAt, chainCount, headsAt, freeAt, globalQueu
 use Rattle.model.specs.Table.{blank}
 use Rattle.model.specs.Rules.{wrongProduct}
 use Rattle.model.specs.Memory.{at, wide, sizes, slotWord, slotField, walk, readChain, readChains, readQueue, readProduct, allQueues, state}
-use Rattle.model.specs.Legal.{endsInRange, queuesInRange, codeOf, standsOnce, lastsAgree, onTheirChains, noCodeTwice, queueLinksAtRest, freeBlank}
+use Rattle.model.specs.Legal.{endsInRange, queuesInRange, codeOf, standsOnce, lastsAgree, lengthsAgree, onTheirChains, noCodeTwice}
+use Rattle.model.specs.Legal.{queueLinksAtRest, freeBlank}
 use Rattle.laws.specs.Tests.{every-true, every-intro, or-cases, or-left, or-right, all-below, all-below-intro, clash}
 use Rattle.laws.specs.ListLaws.{length-map-from, getD-map-below}
 use Rattle.laws.specs.Counts.{count-append, count-concat-getD, member-true, member-false, all-count, all-count-intro, map-alike}
@@ -54,6 +55,7 @@ pub record TableSaid (m : List ℕ) : Type 0 where
   pub products : (i : ℕ) → i < at m slotsAt → productSaid m i ≡ true
   pub once : (i : ℕ) → i < at m slotsAt → chainedCount m i + (freeCount m i + retiredCount m i) ≡ 1
   pub lasts : lastsAgree m (state m) ≡ true
+  pub lengths : lengthsAgree m (state m) ≡ true
   pub chained : (k i : ℕ) → k < chainCount → 0 < count i (readChain m k) → codeAt m i % chainCount ≡ k
   pub codes : distinct (map (codeAt m) (concat (readChains m))) ≡ true
   pub rest : (i : ℕ) → i < at m slotsAt → freeCount m i + retiredCount m i ≡ 0 → slotWord m queueLinkAt i ≡ none
@@ -175,8 +177,8 @@ module _ (m : List ℕ) where
       let front = every-true _ h in
       let e = front .1 .1 .1 in
       let e₃ = e .1 .1 .1 in
-      let e₅ = e₃ .1 .1 in
-      let e₇ = e₅ .1 .1 in
+      let e₆ = e₃ .1 .1 .1 in
+      let e₈ = e₆ .1 .1 in
       record {
         heads = λ k b. all-below _ _ k (front .0) b;
         freeEnds = front .1 .0;
@@ -186,10 +188,11 @@ module _ (m : List ℕ) where
         products = λ i b. all-below _ _ i (e .1 .1 .0) b;
         once = once-said (e₃ .0);
         lasts = e₃ .1 .0;
-        chained = chains-said (e₅ .0);
-        codes = sym codes-said ∙ e₅ .1 .0;
-        rest = rest-said (e₇ .0);
-        blank = free-said (e₇ .1 .0);
+        lengths = e₃ .1 .1 .0;
+        chained = chains-said (e₆ .0);
+        codes = sym codes-said ∙ e₆ .1 .0;
+        rest = rest-said (e₈ .0);
+        blank = free-said (e₈ .1 .0);
       }
 
   pub said-table : TableSaid m → tableLegal m ≡ true
@@ -207,7 +210,7 @@ module _ (m : List ℕ) where
                 all-below-intro _ S (s .queueLinks),
                 (
                   all-below-intro _ S (s .products),
-                  (said-once (s .once), (s .lasts, (said-chains (s .chained), (codes-said ∙ s .codes, (said-rest (s .rest), (said-free (s .blank), tt)))))),
+                  (said-once (s .once), (s .lasts, (s .lengths, (said-chains (s .chained), (codes-said ∙ s .codes, (said-rest (s .rest), (said-free (s .blank), tt))))))),
                 ),
               ),
             ),

@@ -9,8 +9,8 @@ use Rattle.model.specs.Layout.{maxSlots, chainCount, headsAt, laneLength, slotL
 use Rattle.model.specs.Layout.{chainLinkAt, queueLinkAt, lanesBody, slotsBody, slotAddress}
 use Rattle.model.specs.Rules.{wrongProduct}
 use Rattle.model.specs.Memory.{at, wide, sizes, slotWord, state}
-use Rattle.model.specs.Legal.{slotNumbers, slotOrNone, endsInRange, queuesInRange, standsOnce, lastsAgree, onTheirChains, noCodeTwice}
-use Rattle.model.specs.Legal.{queueLinksAtRest, freeBlank}
+use Rattle.model.specs.Legal.{slotNumbers, slotOrNone, endsInRange, queuesInRange, standsOnce, lastsAgree, lengthsAgree, onTheirChains}
+use Rattle.model.specs.Legal.{noCodeTwice, queueLinksAtRest, freeBlank}
 use Rattle.slot_places.specs.WalkSteps.{Step, several, queueCount, queueSteps, laneSteps}
 use Rattle.distinct_codes.specs.Cells.{cellsOf}
 use Rattle.engine_legality.specs.WordSentences.{engineLegal}
@@ -48,7 +48,7 @@ module _ (m : List ℕ) where
       every
       (chainHeadsInRange ∷ endsInRange m (at m) freeAt ∷ queuesInRange m (at m) globalQueuesAt
       ∷ chainLinksInRange ∷ queueLinksInRange ∷ productsInRange
-      ∷ standsOnce (state m) ∷ lastsAgree m (state m) ∷ onTheirChains (state m) ∷ noCodeTwice (state m)
+      ∷ standsOnce (state m) ∷ lastsAgree m (state m) ∷ lengthsAgree m (state m) ∷ onTheirChains (state m) ∷ noCodeTwice (state m)
       ∷ queueLinksAtRest m (state m) ∷ freeBlank m (state m) ∷ [])
 
 -- the walks of all queues: the free one, the global ones, and those of n lanes, whose words begin at lane

@@ -1,8 +1,8 @@
 -- Document 01, "Generations and passes", in its order: the rules of the engine on its part of the state.
-use Prim.Native.Nat.{ℕ}
+use Prim.Native.Nat.{ℕ, _+_}
 use mathlib.Core.Bool.{Bool, true, false, not, cond, _&&_}
 use mathlib.Core.List.{List, [], _∷_, _++_, map}
-use lib.ListN.{getD}
+use lib.ListN.{length, getD}
 use Rattle.model.specs.Word.{upTo, up, later}
 use Rattle.model.specs.Lists.{update, isEmpty, any, same}
 use Rattle.model.specs.State.{Lookup, idle, Snapshot, unheld, held, Queues, Lane, Engine, isHeld}
@@ -101,12 +101,17 @@ counted k l = setQuiescent (update (l .quiescent) k (upTo countLimit)) l
 
 -- ---- advance
 
--- if the current queue's generation is earlier than g, the current one, append that queue to done
+-- the current queue's generation is earlier than g, the current one
+abbrev pub isOver : ℕ → Queues → Bool
+isOver g q = not (isEmpty (q .current)) && later g (q .generation)
+
+-- then that queue is appended to done
 unfoldable pub settled : ℕ → Queues → Queues
-settled g q =
-    cond (not (isEmpty (q .current)) && later g (q .generation))
-    (record { next = q .next; current = []; done = q .done ++ q .current; generation = 0 })
-    q
+settled g q = cond (isOver g q) (record { next = q .next; current = []; done = q .done ++ q .current; generation = 0 }) q
+
+-- and so many slots move into done
+unfoldable pub settling : ℕ → Queues → ℕ
+settling g q = cond (isOver g q) (length (q .current)) 0
 
 -- current is empty and next is not
 unfoldable pub ready : Queues → Bool
@@ -153,11 +158,20 @@ quiesced l = differs (l .snapshot) (l .quiescent)
 unfoldable pub sampled : Lane → Lane
 sampled l = cond (l .pending && not (isHeld (l .snapshot))) (setPending true (held (l .quiescent)) l) l
 
+-- compare: a lane that quiesced is released
+abbrev pub compared : ℕ → Engine → Engine
+compared i e = cond (quiesced (laneAt e i)) (released i e) e
+
 -- compare, advance the lane, advance the global queues, copy
 unfoldable pub clocked : ℕ → Engine → Engine
-clocked i e =
-    let f = cond (quiesced (laneAt e i)) (released i e) e in
-    atLane i sampled (advancedGlobal (advancedLane i f))
+clocked i e = atLane i sampled (advancedGlobal (advancedLane i (compared i e)))
+
+-- the slots that it moves into done queues, the lane's and the global one (document 02, request 6)
+unfoldable pub clockMoves : ℕ → Engine → ℕ
+clockMoves i e =
+    let f = compared i e in
+    let g = advancedLane i f in
+    settling (f .current) (laneAt f i .queues) + settling (g .current) (g .global)
 
 -- ---- off
 
@@ -169,8 +183,14 @@ taken g q = record { next = g .next ++ q .current ++ q .next; current = g .curre
 abbrev pub emptied : Lane → Lane
 emptied l = setOnline false (setQueues noQueues l)
 
--- mark off; hand the queues over; drop snapshot and bit; advance the global queues
+-- mark off; hand the queues over; drop snapshot and bit
+abbrev pub leftBy : ℕ → Engine → Engine
+leftBy i e = let f = withGlobal (taken (e .global) (laneAt e i .queues)) e in released i (atLane i emptied f)
+
+-- then advance the global queues
 unfoldable pub wentOff : ℕ → Engine → Engine
-wentOff i e =
-    let f = withGlobal (taken (e .global) (laneAt e i .queues)) e in
-    advancedGlobal (released i (atLane i emptied f))
+wentOff i e = advancedGlobal (leftBy i e)
+
+-- the slots that it moves into the global done queue, those of the lane's done queue apart
+unfoldable pub offMoves : ℕ → Engine → ℕ
+offMoves i e = let f = leftBy i e in settling (f .current) (f .global)

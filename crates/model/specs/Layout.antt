@@ -39,7 +39,7 @@ chainCount = 64
 -- ---- contents, 12 words: addresses in the memory
 
 abbrev pub version : ℕ
-version = 1
+version = 2
 
 abbrev pub versionAt : ℕ
 versionAt = 0
@@ -60,13 +60,16 @@ bodiesAt = slotsAt + 1
 abbrev pub contentsLength : ℕ
 contentsLength = bodiesAt + 2 * 4
 
--- ---- queues in a record: a queue keeps its first and its last; next, current and done follow each other
+-- ---- queues in a record: a queue keeps its first, its last and its length; next, current and done follow each other
 
 abbrev pub lastOffset : ℕ
 lastOffset = 1
 
+abbrev pub lengthOffset : ℕ
+lengthOffset = lastOffset + 1
+
 abbrev pub queueWidth : ℕ
-queueWidth = lastOffset + 1
+queueWidth = lengthOffset + 1
 
 abbrev pub currentOffset : ℕ
 currentOffset = queueWidth
@@ -77,7 +80,7 @@ doneOffset = currentOffset + queueWidth
 abbrev pub queuesWidth : ℕ
 queuesWidth = doneOffset + queueWidth
 
--- ---- the global body ("house"), 76 words: addresses in the memory
+-- ---- the global body ("house"), 80 words: addresses in the memory
 
 abbrev pub globalBody : ℕ
 globalBody = contentsLength
@@ -95,11 +98,11 @@ cabinetMaskAt = largestGenerationAt + 1
 abbrev pub headsAt : ℕ
 headsAt = cabinetMaskAt + 1
 
--- the ends of the free queue
+-- the words of the free queue
 abbrev pub freeAt : ℕ
 freeAt = headsAt + chainCount
 
--- the ends of the global next, current and done queues
+-- those of the global next, current and done queues
 abbrev pub globalQueuesAt : ℕ
 globalQueuesAt = freeAt + queueWidth
 
@@ -131,7 +134,7 @@ snapshotBit = lookupBit + 1
 abbrev pub flagCount : ℕ
 flagCount = snapshotBit + 1
 
--- ---- a lane's record, 19 words: offsets
+-- ---- a lane's record, 22 words: offsets
 
 abbrev pub flagsAt : ℕ
 flagsAt = 0
@@ -145,7 +148,7 @@ snapshotAt = quiescentAt + kinds
 abbrev pub generationAt : ℕ
 generationAt = snapshotAt + kinds
 
--- the ends of the lane's next, current and done queues
+-- the words of the lane's next, current and done queues
 abbrev pub queuesAt : ℕ
 queuesAt = generationAt + 1
 

@@ -1,5 +1,5 @@
 -- Document 01, "The ledger of demand 3", with document 02's request 3: the ledger, fed with calls and their answers and nothing from the memory, and the
--- demand; and document 02's request 5, the figure for the belt.
+-- demand; document 02's request 5, the figure for the belt; and its request 6, what the clocks' fourth numbers add up to.
 use Prim.Native.Nat.{ℕ, zero, suc, _+_, _≤_}
 use mathlib.Core.Path.{_≡_}
 use mathlib.Core.Bool.{Bool, true, false, cond, _&&_, _||_}
@@ -7,9 +7,11 @@ use mathlib.Core.List.{List, [], _∷_, _++_, List·Memᴰ}
 use lib.ListN.{length, take, replicate}
 use lib.Dec.{eqb}
 use Rattle.model.specs.Lists.{any, drops}
+use Rattle.model.specs.State.{Lane, Engine}
 use Rattle.model.specs.Layout.{codeAt, depositAt, materialAt, slotAddress}
 use Rattle.model.specs.Memory.{at, wide, sizes, state}
 use Rattle.model.specs.Table.{chainNumber, chainOf}
+use Rattle.model.specs.Engine.{offMoves}
 use Rattle.model.specs.Rules.{Op, add, replace, delete, begin, end, start, step, pass, clock, on, off, hand-back, awaited, Answer, accepted, zeros}
 use Rattle.model.specs.Calls.{Call, set-up, on-state, reply, left, leftAll}
 
@@ -323,3 +325,79 @@ Attained h m =
     (i c : ℕ) → reply m (on-state (start i c)) .status ≡ 0 → search (ledger h) c ≡ accepted 2 0 0 0
     → let n = recordsOn c (ledger h .entries) in
     stepAnswers i (events (left m (on-state (start i c))) (replicate (suc n) (on-state (step i)))) ≡ replicate n zeros ++ (accepted 2 0 0 0 ∷ [])
+
+-- ---- document 02, request 6: the slots that come into done queues
+
+-- the slots in the lanes' done queues
+unfoldable pub doneIn : List Lane → ℕ
+doneIn [] = 0
+doneIn (l ∷ ls) = length (l .queues .done) + doneIn ls
+
+-- the slots in all done queues
+abbrev pub doneSlots : Engine → ℕ
+doneSlots e = length (e .global .done) + doneIn (e .lanes)
+
+-- the calls that move slots into done queues or take them out, and any other
+pub data Moving : Type 0 where
+  clocks handsBack other : Moving
+  goesOff : (lane : ℕ) → Moving
+
+unfoldable pub moving : Call → Moving
+moving (set-up c p n) = other
+moving (on-state (add i c d m)) = other
+moving (on-state (replace i c d m)) = other
+moving (on-state (delete i c)) = other
+moving (on-state (begin i)) = other
+moving (on-state (end i)) = other
+moving (on-state (start i c)) = other
+moving (on-state (step i)) = other
+moving (on-state (pass i k)) = other
+moving (on-state (clock i)) = clocks
+moving (on-state (on i)) = other
+moving (on-state (off i)) = goesOff i
+moving (on-state (hand-back i)) = handsBack
+moving (on-state awaited) = other
+
+-- what a clock moved, by its answer
+unfoldable pub clockTold : Moving → Answer → ℕ
+clockTold clocks r = r .d
+clockTold handsBack r = 0
+clockTold other r = 0
+clockTold (goesOff i) r = 0
+
+-- what an off moves, by the state before it
+unfoldable pub offMoved : Moving → Engine → ℕ
+offMoved clocks e = 0
+offMoved handsBack e = 0
+offMoved other e = 0
+offMoved (goesOff i) e = offMoves i e
+
+-- 1 for a hand-back
+unfoldable pub handedOne : Moving → ℕ
+handedOne clocks = 0
+handedOne handsBack = 1
+handedOne other = 0
+handedOne (goesOff i) = 0
+
+-- the sum of the clocks' fourth numbers; a refused one answers 0
+unfoldable pub movedByClocks : List Event → ℕ
+movedByClocks [] = 0
+movedByClocks (e ∷ es) = clockTold (moving (e .call)) (e .answer) + movedByClocks es
+
+-- the hand-backs of status 0
+unfoldable pub handBacks : List Event → ℕ
+handBacks [] = 0
+handBacks (e ∷ es) = cond (eqb (e .answer .status) 0) (handedOne (moving (e .call))) 0 + handBacks es
+
+-- what the offs of status 0 move, of a list of calls on the memory m
+unfoldable pub movedByOffs : List ℕ → List Call → ℕ
+movedByOffs m [] = 0
+movedByOffs m (k ∷ ks) = cond (eqb (reply m k .status) 0) (offMoved (moving k) (state m .engine)) 0 + movedByOffs (left m k) ks
+
+-- over every list, and so at each instant of one: the slots moved by all clocks so far, with those moved by offs, are the slots that stand in done queues
+-- now, with those handed back so far
+abbrev pub DoneCounted : Type 0
+DoneCounted =
+    (m : List ℕ) (c p n : ℕ) → reply m (set-up c p n) .status ≡ 0
+    → (ks : List Call) → let m₀ = left m (set-up c p n) in RefusesSetUps m₀ ks
+    → movedByClocks (events m₀ ks) + movedByOffs m₀ ks ≡ doneSlots (state (leftAll m₀ ks) .engine) + handBacks (events m₀ ks)

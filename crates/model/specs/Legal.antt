@@ -1,4 +1,4 @@
--- When a memory is legal: document 01, "The memory", last paragraph, a definition a sentence in its order. Sentences that speak of chains,
+-- When a memory is legal: document 01, "The memory", last paragraph, and document 02, request 6, a definition a sentence in its order. Sentences that speak of chains,
 -- queues and lanes are about the state that the memory reads as; the others are about its words.
 use Prim.Native.Nat.{ℕ, _+_, _^_}
 use mathlib.Core.Bool.{Bool, false, not, cond, _&&_, _||_}
@@ -8,7 +8,7 @@ use lib.Dec.{leb, ltb, eqb}
 use Rattle.model.specs.Word.{none, up, down, later}
 use Rattle.model.specs.Lists.{all, every, isEmpty, from, last, concat, count, member, same, distinct}
 use Rattle.model.specs.State.{Sizes, laneCount, isRunning, isHeld, Queues, Lane, State}
-use Rattle.model.specs.Layout.{maxCabinets, maxPlaces, maxSlots, kinds, chainCount, contentsLength, lastOffset, currentOffset, doneOffset}
+use Rattle.model.specs.Layout.{maxCabinets, maxPlaces, maxSlots, kinds, chainCount, contentsLength, lastOffset, lengthOffset, currentOffset, doneOffset}
 use Rattle.model.specs.Layout.{cabinetMaskAt, headsAt, freeAt, globalQueuesAt, lookupBit, snapshotBit, flagCount, flagsAt, snapshotAt, queuesAt}
 use Rattle.model.specs.Layout.{lookupAt, positionAt, depositAt, materialAt, chainLinkAt, queueLinkAt, laneAddress, slotAddress, total}
 use Rattle.model.specs.Engine.{laneAt}
@@ -67,7 +67,7 @@ module _ (m : List ℕ) where
   abbrev pub endsInRange : (ℕ → ℕ) → ℕ → Bool
   endsInRange word k = slotOrNone (word k) && slotOrNone (word (k + lastOffset))
 
-  -- of the next, current and done queues, whose ends stand from k on
+  -- of the next, current and done queues, whose words stand from k on
   abbrev pub queuesInRange : (ℕ → ℕ) → ℕ → Bool
   queuesInRange word k = endsInRange word k && endsInRange word (k + currentOffset) && endsInRange word (k + doneOffset)
 
@@ -103,23 +103,31 @@ standsOnce s =
     all (λ (i : ℕ). eqb (count i xs) 1) (from 0 (s .sizes .slots))
 
 module _ (m : List ℕ) where
-  -- the lasts of queues whose ends stand from a on; a queue's first is where its walk began
-  abbrev pub lastsAt : ℕ → Queues → Bool
-  lastsAt a q =
+  -- what f gives of a queue is its word at offset o: of the queues whose words stand from a on
+  abbrev pub agreesAt : (List ℕ → ℕ) → ℕ → ℕ → Queues → Bool
+  agreesAt f o a q =
       every
-      (eqb (last (q .next)) (at m (a + lastOffset))
-      ∷ eqb (last (q .current)) (at m (a + currentOffset + lastOffset))
-      ∷ eqb (last (q .done)) (at m (a + doneOffset + lastOffset))
+      (eqb (f (q .next)) (at m (a + o))
+      ∷ eqb (f (q .current)) (at m (a + currentOffset + o))
+      ∷ eqb (f (q .done)) (at m (a + doneOffset + o))
       ∷ [])
 
-  -- queues agree with first and last
-  unfoldable pub lastsAgree : State → Bool
-  lastsAgree s =
+  -- of all queues
+  abbrev pub queuesAgree : (List ℕ → ℕ) → ℕ → State → Bool
+  queuesAgree f o s =
       every
-      (eqb (last (s .table .free)) (at m (freeAt + lastOffset))
-      ∷ lastsAt globalQueuesAt (s .engine .global)
-      ∷ all (λ (i : ℕ). lastsAt (laneAddress (sizes m) i + queuesAt) (laneAt (s .engine) i .queues)) (laneNumbers m)
+      (eqb (f (s .table .free)) (at m (freeAt + o))
+      ∷ agreesAt f o globalQueuesAt (s .engine .global)
+      ∷ all (λ (i : ℕ). agreesAt f o (laneAddress (sizes m) i + queuesAt) (laneAt (s .engine) i .queues)) (laneNumbers m)
       ∷ [])
+
+  -- queues agree with first and last; a queue's first is where its walk began
+  unfoldable pub lastsAgree : State → Bool
+  lastsAgree s = queuesAgree last lastOffset s
+
+  -- the lengths agree with the queues
+  unfoldable pub lengthsAgree : State → Bool
+  lengthsAgree s = queuesAgree length lengthOffset s
 
 abbrev pub codeOf : State → ℕ → ℕ
 codeOf s i = productAt (s .table .products) i .code
@@ -232,7 +240,7 @@ module _ (m : List ℕ) where
   abbrev pub sentences : State → List Bool
   sentences s =
       flagsInRange m ∷ masksInRange m ∷ linksInRange m ∷ fieldsInRange m
-      ∷ standsOnce s ∷ lastsAgree m s ∷ onTheirChains s ∷ noCodeTwice s
+      ∷ standsOnce s ∷ lastsAgree m s ∷ lengthsAgree m s ∷ onTheirChains s ∷ noCodeTwice s
       ∷ snapshotsAtRest m ∷ lookupsAtRest m ∷ generationsAtRest s ∷ queueLinksAtRest m s
       ∷ offLanes s ∷ lookupsInSections s ∷ snapshotsPending s ∷ cabinetBits m ∷ freeBlank m s
       ∷ largestAgrees m s ∷ laneGenerations m s ∷ globalGeneration s ∷ []

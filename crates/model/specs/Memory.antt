@@ -35,12 +35,13 @@ contents z =
     ∷ lanesBody z ∷ laneLength * laneCount z
     ∷ slotsBody z ∷ slotLength * z .slots ∷ []
 
--- first and last of a queue
-abbrev pub ends : List ℕ → List ℕ
-ends xs = first xs ∷ last xs ∷ []
+-- first, last and length of a queue; none, none and 0 of an empty one
+abbrev pub queueWords : List ℕ → List ℕ
+queueWords xs = first xs ∷ last xs ∷ length xs ∷ []
 
-abbrev pub queueEnds : Queues → List ℕ
-queueEnds q = ends (q .next) ++ ends (q .current) ++ ends (q .done)
+-- the words of next, current and done
+abbrev pub threeWords : Queues → List ℕ
+threeWords q = queueWords (q .next) ++ queueWords (q .current) ++ queueWords (q .done)
 
 -- the flags as a word, in the order of their bits
 unfoldable pub flags : Lane → ℕ
@@ -64,16 +65,16 @@ snapshotCount (held c) k = getD c k 0
 abbrev pub quiescentCount : Lane → ℕ → ℕ
 quiescentCount l k = getD (l .quiescent) k 0
 
--- a lane's nineteen words
+-- a lane's twenty-two words
 unfoldable pub laneWords : Lane → List ℕ
 laneWords l =
     flags l
     ∷ quiescentCount l 0 ∷ quiescentCount l 1 ∷ quiescentCount l 2 ∷ quiescentCount l 3
     ∷ snapshotCount (l .snapshot) 0 ∷ snapshotCount (l .snapshot) 1 ∷ snapshotCount (l .snapshot) 2 ∷ snapshotCount (l .snapshot) 3
     ∷ l .queues .generation
-    ∷ first (l .queues .next) ∷ last (l .queues .next)
-    ∷ first (l .queues .current) ∷ last (l .queues .current)
-    ∷ first (l .queues .done) ∷ last (l .queues .done)
+    ∷ first (l .queues .next) ∷ last (l .queues .next) ∷ length (l .queues .next)
+    ∷ first (l .queues .current) ∷ last (l .queues .current) ∷ length (l .queues .current)
+    ∷ first (l .queues .done) ∷ last (l .queues .done) ∷ length (l .queues .done)
     ∷ low (lookupCode (l .lookup)) ∷ high (lookupCode (l .lookup)) ∷ lookupPosition (l .lookup) ∷ []
 
 -- the lane at place p of cabinet c is pending
@@ -118,8 +119,8 @@ headOf t k = first (getD (t .chains) k [])
 unfoldable pub globalWords : State → List ℕ
 globalWords s =
     (s .engine .current ∷ s .engine .largest ∷ cabinetMask s ∷ map (headOf (s .table)) (from 0 chainCount))
-    ++ ends (s .table .free)
-    ++ queueEnds (s .engine .global)
+    ++ queueWords (s .table .free)
+    ++ threeWords (s .engine .global)
     ++ (s .engine .global .generation ∷ [])
 
 abbrev pub laneWordsAt : State → ℕ → List ℕ
@@ -187,7 +188,7 @@ module _ (m : List ℕ) where
   abbrev pub readQueue : ℕ → List ℕ
   readQueue a = walk (slotField queueLinkAt) (at m a) (suc (sizes .slots))
 
-  -- the queues whose generation stands at g, and their ends from a on
+  -- the queues whose generation stands at g, and their words from a on
   abbrev pub readQueues : ℕ → ℕ → Queues
   readQueues g a = record { next = readQueue a; current = readQueue (a + currentOffset); done = readQueue (a + doneOffset); generation = at m g }
 

@@ -1,5 +1,5 @@
 -- The thirteen calls on a state: the causes that refuse one, in the order of their tests, its answer, and the state after it (document 01, "The
--- table" and "Causes"; document 02, requests 1 and 3).
+-- table" and "Causes"; document 02, requests 1, 3 and 6).
 use Prim.Native.Nat.{ℕ, zero, suc, _+_}
 use mathlib.Core.Bool.{Bool, true, false, not, cond, _&&_, _||_}
 use mathlib.Core.List.{List, [], _∷_, _++_}
@@ -11,7 +11,7 @@ use Rattle.model.specs.State.{Sizes, laneCount, Lookup, idle, running, i
 use Rattle.model.specs.Layout.{maxCode, maxDeposit, maxMaterial, kinds, chainCount}
 use Rattle.model.specs.CheckDigit.{rightCheckDigit}
 use Rattle.model.specs.Engine.{noQueues, freshLane, laneAt, setQueues, setNext, setDone, setOnline, setReading}
-use Rattle.model.specs.Engine.{setLookup, atLane, withGlobal, runs, counted, clocked, wentOff}
+use Rattle.model.specs.Engine.{setLookup, atLane, withGlobal, runs, counted, clocked, clockMoves, wentOff}
 use Rattle.model.specs.Table.{blank, product, productAt, chainOf, slotOf, present, linkOf, added, replaced, deleted, reclaimed}
 
 -- a call on a state; set-up is apart (Calls.antt)
@@ -255,9 +255,9 @@ unfoldable pub queuedIn : List Lane → ℕ
 queuedIn [] = 0
 queuedIn (l ∷ ls) = queued (l .queues) + queuedIn ls
 
--- current, largest, 1 if a period runs
-abbrev pub clockAnswer : Engine → Answer
-clockAnswer e = accepted (e .current) (e .largest) (cond (runs e) 1 0) 0
+-- current, largest, 1 if a period runs, and the slots moved into done queues
+abbrev pub clockAnswer : Engine → ℕ → Answer
+clockAnswer e n = accepted (e .current) (e .largest) (cond (runs e) 1 0) n
 
 -- the count of lanes still awaited, the lowest of them or none, slots free, slots in the other queues
 abbrev pub awaitedAnswer : List ℕ → State → Answer
@@ -274,7 +274,7 @@ module _ (s : State) where
   result (begin i) = zeros
   result (end i) = zeros
   result (step i) = outcomeAnswer (outcome (s .table) (laneOf s i .lookup))
-  result (clock i) = clockAnswer (clocked i (s .engine))
+  result (clock i) = clockAnswer (clocked i (s .engine)) (clockMoves i (s .engine))
   result (on i) = zeros
   result (off i) = zeros
   result (hand-back i) = accepted (handedBack s i) 0 0 0

@@ -1,10 +1,11 @@
--- The words after off and after a clock, and the word of a clock's answer that says whether a period runs.
-use Prim.Native.Nat.{ℕ}
+-- The words after off and after a clock, and the words of a clock's answer that say whether a period runs and how many slots it moved.
+use Prim.Native.Nat.{ℕ, _+_}
 use mathlib.Core.Bool.{cond}
 use mathlib.Core.List.{List}
 use lib.Dec.{eqb}
-use Rattle.model.specs.Layout.{cabinetMaskAt}
+use Rattle.model.specs.Layout.{lengthOffset, doneOffset, cabinetMaskAt, globalQueuesAt, queuesAt}
 use Rattle.model.specs.Memory.{at, sizes}
+use Rattle.words.specs.Sums.{plus}
 use Rattle.access.specs.Lanes.{placeOf}
 use Rattle.engine.specs.Off.{offWords}
 use Rattle.engine.specs.Clock.{clockWords}
@@ -19,3 +20,7 @@ tickWords m i = clockWords m (sizes m) (placeOf (sizes m) i)
 -- 1 if a grace period runs, else 0
 abbrev pub periodWord : List ℕ → ℕ
 periodWord m = cond (eqb (at m cabinetMaskAt) 0) 0 1
+
+-- the slots in the done queue of the lane whose record begins at a, and in the global one
+abbrev pub doneWords : List ℕ → ℕ → ℕ
+doneWords m a = plus (at m (a + (queuesAt + doneOffset + lengthOffset))) (at m (globalQueuesAt + doneOffset + lengthOffset))

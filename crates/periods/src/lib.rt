@@ -1,18 +1,18 @@
 // The calls that drive grace periods, on a legal memory: clock and off.
 ghost use mathlib.Core.Path.{_≡_};
-ghost use Prim.Native.Nat.{_<_};
+ghost use Prim.Native.Nat.{_+_, _<_, _≤_};
 ghost use lib.ListN.{length, getD};
 ghost use Rattle.model.specs.Lists.{any};
 ghost use Rattle.model.specs.State.{laneCount};
 ghost use Rattle.model.specs.Engine.{freshLane};
 ghost use Rattle.model.specs.Rules.{isOnline, refusal, off as goingOff, clock as clocking};
-ghost use Rattle.model.specs.Layout.{cabinetMaskAt};
+ghost use Rattle.model.specs.Layout.{cabinetMaskAt, masksAt, laneLength};
 ghost use Rattle.model.specs.Memory.{sizes, state};
 ghost use Rattle.model.specs.Calls.{on-state};
 ghost use Rattle.access.specs.Contract.{Does};
 ghost use Rattle.access.specs.Lanes.{Named, LaneIn};
 ghost use Rattle.periods.specs.Others.{others};
-ghost use Rattle.periods.specs.Ticks.{takenOff, tickWords, periodWord};
+ghost use Rattle.periods.specs.Ticks.{takenOff, tickWords, periodWord, doneWords};
 use access::causes;
 
 // ---- off
@@ -107,7 +107,22 @@ fn is_period(m: &[u32]) -> u32
     if m[words::CABINET_MASK_AT] == 0 { 0 } else { 1 }
 }
 
-// The clock of a lane: grace periods are driven on.
+// where the length of the done queue stands: in a lane's record, and of the global one
+const DONE_LENGTH: usize = words::QUEUES_AT + words::DONE_OFFSET + words::LENGTH_OFFSET;
+
+const GLOBAL_DONE_LENGTH: usize = words::GLOBAL_QUEUES_AT
+    + words::DONE_OFFSET
+    + words::LENGTH_OFFSET;
+
+// How many slots stand in the done queue of the lane whose record begins at `at`, and in the global one.
+fn done_length(m: &[u32], at: usize) -> u32
+    requires { ⌜ (at + laneLength ≤ length (now m)) × (masksAt ≤ length (now m)) ⌝ }
+    ensures { λ r. ⌜ r ≡ doneWords (now (m .entry)) at ⌝ }
+{
+    words::plus(m[at + DONE_LENGTH], m[GLOBAL_DONE_LENGTH])
+}
+
+// The clock of a lane: grace periods are driven on. Its answer says how many slots it moved into done queues.
 pub fn clock(m: &mut [u32], lane: access::Lane) -> access::Answer
     requires { ⌜ Named (now m) lane ⌝ }
     ensures { λ r. ⌜ Does (on-state (clocking (lane .number))) (now (m .entry)) r (now (m .exit)) ⌝ }
@@ -116,9 +131,12 @@ pub fn clock(m: &mut [u32], lane: access::Lane) -> access::Answer
     if n > 0 {
         return access::refused(n);
     }
+    let at = lane.address;
+    let before = done_length(m, at);
     tick(m, lane);
+    let after = done_length(m, at);
     let runs = is_period(m);
     let current = m[words::CURRENT_GENERATION_AT];
     let largest = m[words::LARGEST_GENERATION_AT];
-    access::accepted(current, largest, runs, 0)
+    access::accepted(current, largest, runs, words::less(after, before))
 }

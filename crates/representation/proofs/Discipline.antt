@@ -5,3 +5,4 @@ pub mod Ages
 pub mod Advances
 pub mod Releases
 pub mod GenerationsKept
+pub mod Done

@@ -66,7 +66,7 @@ extra-off l f = f
 
 -- the sentences that speak of other words
 abbrev pub sentenceCount : ℕ
-sentenceCount = 20
+sentenceCount = 21
 
 abbrev pub extraSentences : List ℕ → State → List Bool
 extraSentences m s = drop sentenceCount (sentences m s)

@@ -10,15 +10,15 @@ use Rattle.model.specs.Lists.{member, same, distinct, successor, successorIn, w
 use Rattle.model.specs.State.{isRunning, isHeld}
 use Rattle.model.specs.Digits.{digits, numberFrom, bytes, digitOf}
 use Rattle.model.specs.CheckDigit.{weighed, rightFromRight, rightDigits, rightCheckDigit}
-use Rattle.model.specs.Engine.{started, ended, released, counted, settled, ready, target, requested}
-use Rattle.model.specs.Engine.{advancedLane, advancedGlobal, differs, sampled, clocked, wentOff}
+use Rattle.model.specs.Engine.{started, ended, released, counted, settled, settling, ready, target, requested}
+use Rattle.model.specs.Engine.{advancedLane, advancedGlobal, differs, sampled, clocked, clockMoves, wentOff}
 use Rattle.model.specs.Table.{slotIn, added, replaced, deleted, reclaimed}
-use Rattle.model.specs.Rules.{add, delete, begin, end, start, step, pass, clock, hand-back, awaited}
+use Rattle.model.specs.Rules.{add, delete, begin, end, start, step, pass, clock, off, hand-back, awaited}
 use Rattle.model.specs.Rules.{Op, Answer, firstOf, causes, outcomeAnswer, outcome, continued, performed, pendingFrom, queuedIn, result, fresh}
 use Rattle.model.specs.Memory.{contents, flags, lookupCode, lookupPosition, snapshotCount, laneWords, slotWords}
 use Rattle.model.specs.Memory.{globalWords, words, walk, readChains, readLane, readProduct, state}
-use Rattle.model.specs.Legal.{sizesFit, contentsAgree, flagsInRange, masksInRange, linksInRange, fieldsInRange, standsOnce, lastsAgree, onTheirChains}
-use Rattle.model.specs.Legal.{noCodeTwice, snapshotsAtRest, lookupsAtRest, generationsAtRest, queueLinksAtRest, offLanes, lookupsInSections}
+use Rattle.model.specs.Legal.{sizesFit, contentsAgree, flagsInRange, masksInRange, linksInRange, fieldsInRange, standsOnce, lastsAgree, lengthsAgree}
+use Rattle.model.specs.Legal.{onTheirChains, noCodeTwice, snapshotsAtRest, lookupsAtRest, generationsAtRest, queueLinksAtRest, offLanes, lookupsInSections}
 use Rattle.model.specs.Legal.{snapshotsPending, cabinetBits, freeBlank, largestAgrees, laneGenerations, globalGeneration, legal}
 use Rattle.model.specs.Labels.{noLabel, labelCode, readRefusal, readReplyOf, readReply}
 use Rattle.model.specs.Labels.{labelLength, labelText, writeRefusal, writeReplyOf, writtenOf, writeReply, written}
@@ -35,11 +35,11 @@ unfolding later
     update isEmpty any all tail concat every concatMap from first last count member same distinct successor successorIn without swapped bit mask
     isRunning isHeld
     digits weighed rightFromRight rightDigits rightCheckDigit
-    started ended released counted settled ready target requested advancedLane advancedGlobal differs sampled clocked wentOff
+    started ended released counted settled settling ready target requested advancedLane advancedGlobal differs sampled clocked clockMoves wentOff
     slotIn added replaced deleted reclaimed
     firstOf causes outcomeAnswer outcome continued performed pendingFrom queuedIn result fresh
     contents flags lookupCode lookupPosition snapshotCount laneWords slotWords globalWords words walk readChains readLane readProduct state
-    sizesFit contentsAgree flagsInRange masksInRange linksInRange fieldsInRange standsOnce lastsAgree onTheirChains noCodeTwice
+    sizesFit contentsAgree flagsInRange masksInRange linksInRange fieldsInRange standsOnce lastsAgree lengthsAgree onTheirChains noCodeTwice
     snapshotsAtRest lookupsAtRest generationsAtRest queueLinksAtRest offLanes lookupsInSections snapshotsPending cabinetBits freeBlank
     largestAgrees laneGenerations globalGeneration legal
     refusalOf replyOf leftOf reply left replies
@@ -60,26 +60,29 @@ op k = line (on-state k)
 -- ---- set-ups, with the totals that they must answer
 
 abbrev pub setUp111 : Line
-setUp111 = line (set-up 1 1 1) 0 114 0 0 0
+setUp111 = line (set-up 1 1 1) 0 121 0 0 0
 
 abbrev pub setUp112 : Line
-setUp112 = line (set-up 1 1 2) 0 120 0 0 0
+setUp112 = line (set-up 1 1 2) 0 127 0 0 0
 
 abbrev pub setUp122 : Line
-setUp122 = line (set-up 1 2 2) 0 139 0 0 0
+setUp122 = line (set-up 1 2 2) 0 149 0 0 0
 
 abbrev pub setUp123 : Line
-setUp123 = line (set-up 1 2 3) 0 145 0 0 0
+setUp123 = line (set-up 1 2 3) 0 155 0 0 0
 
 abbrev pub setUp124 : Line
-setUp124 = line (set-up 1 2 4) 0 151 0 0 0
+setUp124 = line (set-up 1 2 4) 0 161 0 0 0
+
+abbrev pub setUp138 : Line
+setUp138 = line (set-up 1 3 8) 0 207 0 0 0
 
 abbrev pub setUp811 : Line
-setUp811 = line (set-up 8 1 1) 0 254 0 0 0
+setUp811 = line (set-up 8 1 1) 0 282 0 0 0
 
 -- the largest table's
 abbrev pub largestTotal : ℕ
-largestTotal = 7456
+largestTotal = 7652
 
 -- ---- the listing of document 01
 
@@ -100,9 +103,64 @@ listing =
     ∷ op (pass 1 0) 0 0 0 0 0
     ∷ op (clock 1) 0 2 1 0 0
     ∷ op (hand-back 0) 16 0 0 0 0
-    ∷ op (clock 0) 0 2 1 0 0
+    ∷ op (clock 0) 0 2 1 0 1
     ∷ op (hand-back 0) 0 0 0 0 0
     ∷ op awaited 0 0 4294967295 3 0
+    ∷ []
+
+-- ---- document 02, request 6: slots that come into done queues
+
+-- Three lanes remove a slot each, and lane 2 goes off with its own. The last clock moves lane 0's slot and that of the lane that went off; the one of
+-- lane 1 moved at lane 1's clock
+abbrev pub twoQueuesMoved : List Line
+twoQueuesMoved =
+    setUp138
+    ∷ op (add 0 17 1 1) 0 0 0 0 0
+    ∷ op (add 0 24 1 1) 0 1 0 0 0
+    ∷ op (add 0 31 1 1) 0 2 0 0 0
+    ∷ op (delete 1 31) 0 2 0 0 0
+    ∷ op (clock 1) 0 1 1 1 0
+    ∷ op (delete 0 17) 0 0 0 0 0
+    ∷ op (delete 2 24) 0 1 0 0 0
+    ∷ op (off 2) 0 0 0 0 0
+    ∷ op (clock 0) 0 1 2 1 0
+    ∷ op (pass 0 0) 0 0 0 0 0
+    ∷ op (pass 1 0) 0 0 0 0 0
+    ∷ op (clock 1) 0 1 2 1 0
+    ∷ op (clock 0) 0 2 2 1 0
+    ∷ op (clock 1) 0 2 2 1 1
+    ∷ op (pass 1 0) 0 0 0 0 0
+    ∷ op (clock 1) 0 2 2 1 0
+    ∷ op (pass 0 0) 0 0 0 0 0
+    ∷ op (clock 0) 0 3 2 0 2
+    ∷ []
+
+-- what awaited answers then, and after two slots came back
+abbrev pub countedAfter : List Line
+countedAfter =
+    op awaited 0 0 4294967295 5 3
+    ∷ op (hand-back 0) 0 0 0 0 0
+    ∷ op (hand-back 0) 0 1 0 0 0
+    ∷ op (hand-back 0) 16 0 0 0 0
+    ∷ op awaited 0 0 4294967295 7 1
+    ∷ op (hand-back 1) 0 2 0 0 0
+    ∷ op awaited 0 0 4294967295 8 0
+    ∷ []
+
+-- Lane 1 goes off as the last one awaited: that ends the period, and its slot of before, which waits in the global queues, moves to done. Off answers zeros, and
+-- the clock after it moved nothing
+abbrev pub offUntold : List Line
+offUntold =
+    setUp138
+    ∷ op (add 2 17 1 1) 0 0 0 0 0
+    ∷ op (delete 2 17) 0 0 0 0 0
+    ∷ op (off 2) 0 0 0 0 0
+    ∷ op (clock 0) 0 1 1 1 0
+    ∷ op (pass 0 0) 0 0 0 0 0
+    ∷ op (clock 0) 0 1 1 1 0
+    ∷ op (off 1) 0 0 0 0 0
+    ∷ op (clock 0) 0 2 1 0 0
+    ∷ op (hand-back 0) 0 0 0 0 0
     ∷ []
 
 -- ---- what a script must give, and what it gives

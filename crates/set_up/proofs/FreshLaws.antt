@@ -8,19 +8,19 @@ use borrow.Author.Tests.{lt-ltb, le-ltb}
 use Rattle.model.specs.Word.{none}
 use Rattle.model.specs.Lists.{first, last, from, successor, successorIn, mask, bit}
 use Rattle.model.specs.State.{Sizes, laneCount, Lane}
-use Rattle.model.specs.Layout.{chainCount, total, contentsLength, queuesWidth, globalBody, globalLength, masksAt, laneLength, slotLength}
+use Rattle.model.specs.Layout.{chainCount, total, contentsLength, globalBody, globalLength, masksAt, laneLength, slotLength}
 use Rattle.model.specs.Engine.{freshLane, laneAt}
 use Rattle.model.specs.Table.{blank, linkOf}
 use Rattle.model.specs.Rules.{fresh}
-use Rattle.model.specs.Memory.{words, contents, globalWords, laneMask, laneMasks, pendingAt, cabinetMask, isNotZero, laneWords, laneWordsAt}
+use Rattle.model.specs.Memory.{words, contents, queueWords, globalWords, laneMask, laneMasks, pendingAt, cabinetMask, isNotZero, laneWords, laneWordsAt}
 use Rattle.model.specs.Memory.{allQueues, slotWords}
 use Rattle.model.specs.Calls.{stored}
 use Rattle.laws.specs.Tests.{same, other, decide}
-use Rattle.laws.specs.ListLaws.{getD-replicate-default, map-constant, last-from}
+use Rattle.laws.specs.ListLaws.{length-from, getD-replicate-default, map-constant, last-from}
 use Rattle.laws.specs.Masks.{mask-from-none}
 use Rattle.representation.proofs.Addresses.Writes.{length-words}
 use Rattle.set_up.specs.Written.{Written, rows}
-use Rattle.set_up.specs.FreshWords.{freshGeneration, freshGlobal, freshLaneWords, linkAfter, freshSlotWords}
+use Rattle.set_up.specs.FreshWords.{freshGeneration, emptyQueues, allFree, freshGlobal, freshLaneWords, linkAfter, freshSlotWords}
 use Rattle.set_up.proofs.WrittenLaws.{after, renamed, written-front, rows-alike, length-rows}
 
 first-from : (a n : ℕ) → first (from (suc a) n) ≡ linkAfter (a + suc n) a
@@ -80,18 +80,20 @@ module _ (z : Sizes) where
   slots-are : rows (freshSlotWords (z .slots)) (z .slots) ≡ rows (slotWords (fresh z)) (z .slots)
   slots-are = rows-alike (freshSlotWords (z .slots)) (slotWords (fresh z)) (z .slots) slot-is
 
-  ends-are : (n : ℕ) → 1 ≤ n → (0 ∷ (n - 1) ∷ []) ≡ (first (from 0 n) ∷ last (from 0 n) ∷ [])
-  unfolding first from
-  ends-are zero h = absurd (omega arith)
-  ends-are (suc n) h = let e : suc n - 1 ≡ last (from 0 (suc n)) = omega (arith, last-from 0 n) in ap (λ (l : ℕ). 0 ∷ l ∷ []) e
+  free-words : (n : ℕ) → 1 ≤ n → allFree n ≡ queueWords (from 0 n)
+  unfolding allFree first from
+  free-words zero h = absurd (omega arith)
+  free-words (suc n) h =
+      let e : suc n - 1 ≡ last (from 0 (suc n)) = omega (arith, last-from 0 n) in
+      ap₂ (λ (l k : ℕ). 0 ∷ l ∷ k ∷ []) e (sym (length-from 0 (suc n)))
 
   global-is : 1 ≤ z .slots → freshGlobal (z .slots) ≡ globalWords (fresh z)
-  unfolding freshGlobal globalWords fresh from first last
+  unfolding emptyQueues freshGlobal globalWords fresh from first last
   global-is h =
       ap₂
-      (λ (c : ℕ) (es : List ℕ). (freshGeneration ∷ 0 ∷ c ∷ []) ++ replicate chainCount none ++ es ++ replicate queuesWidth none ++ (0 ∷ []))
+      (λ (c : ℕ) (ws : List ℕ). (freshGeneration ∷ 0 ∷ c ∷ []) ++ replicate chainCount none ++ ws ++ emptyQueues ++ (0 ∷ []))
       (sym no-cabinet)
-      (ends-are (z .slots) h)
+      (free-words (z .slots) h)
 
   -- the words of the fresh state, one body after another
   pub fresh-words : 1 ≤ z .slots
@@ -105,7 +107,7 @@ module _ (z : Sizes) where
   length-contents = refl
 
 pub length-global : (n : ℕ) → length (freshGlobal n) ≡ globalLength
-unfolding freshGlobal
+unfolding emptyQueues allFree freshGlobal
 length-global n = refl
 
 pub length-lane : (i : ℕ) → length (freshLaneWords i) ≡ laneLength

@@ -6,17 +6,25 @@ use lib.ListN.{replicate}
 use lib.Dec.{ltb}
 use lib.Seq.{sets}
 use Rattle.model.specs.Word.{none}
-use Rattle.model.specs.Layout.{chainCount, queuesWidth, chainLinkAt, queueLinkAt, slotLength}
-use Rattle.model.specs.Engine.{freshLane}
-use Rattle.model.specs.Memory.{laneWords}
+use Rattle.model.specs.Layout.{chainCount, chainLinkAt, queueLinkAt, slotLength}
+use Rattle.model.specs.Engine.{noQueues, freshLane}
+use Rattle.model.specs.Memory.{threeWords, laneWords}
 
 -- the current generation
 abbrev pub freshGeneration : ℕ
 freshGeneration = 1
 
+-- three queues without slots
+unfoldable pub emptyQueues : List ℕ
+emptyQueues = threeWords noQueues
+
+-- the free queue, with n slots
+unfoldable pub allFree : ℕ → List ℕ
+allFree n = 0 ∷ (n - 1) ∷ n ∷ []
+
 -- the global words of a table of n slots
 unfoldable pub freshGlobal : ℕ → List ℕ
-freshGlobal n = (freshGeneration ∷ 0 ∷ 0 ∷ []) ++ replicate chainCount none ++ (0 ∷ (n - 1) ∷ []) ++ replicate queuesWidth none ++ (0 ∷ [])
+freshGlobal n = (freshGeneration ∷ 0 ∷ 0 ∷ []) ++ replicate chainCount none ++ allFree n ++ emptyQueues ++ (0 ∷ [])
 
 -- a lane's words
 unfoldable pub freshLaneWords : ℕ → List ℕ

@@ -3,14 +3,14 @@ ghost use mathlib.Core.Path.{_≡_};
 ghost use mathlib.Core.Bool.{true};
 ghost use Prim.Native.Nat.{_+_, _*_, _≤_};
 ghost use lib.ListN.{length, replicate};
-ghost use Rattle.model.specs.Layout.{globalBody, masksAt, laneLength, slotLength, total};
+ghost use Rattle.model.specs.Layout.{queuesWidth, globalBody, freeAt, globalQueuesAt, masksAt, laneLength, slotLength, total};
 ghost use Rattle.model.specs.Rules.{fresh};
 ghost use Rattle.model.specs.Legal.{sizesFit};
 ghost use Rattle.model.specs.Calls.{stored, set-up};
 ghost use Rattle.set_up.specs.Written.{Written, rows};
 ghost use Rattle.words.specs.Lent.{sizesOf};
 ghost use Rattle.access.specs.Contract.{Does};
-ghost use Rattle.set_up.specs.FreshWords.{freshGlobal, freshLaneWords, linkAfter, freshSlotWords};
+ghost use Rattle.set_up.specs.FreshWords.{emptyQueues, allFree, freshGlobal, freshLaneWords, linkAfter, freshSlotWords};
 
 // the largest generation and the cabinet mask
 const REST_LENGTH: usize = words::HEADS_AT - words::LARGEST_GENERATION_AT;
@@ -32,7 +32,28 @@ fn fill(m: &mut [u32], at: usize, n: usize, v: u32)
     }
 }
 
-// Writes the global words: generations, chain heads, and the ends of the queues.
+// Writes three empty queues from at on.
+fn write_queues(m: &mut [u32], at: usize)
+    requires { ⌜ at + queuesWidth ≤ length (now m) ⌝ }
+    ensures { λ _. ⌜ Written (now (m .entry)) at emptyQueues (now (m .exit)) ⌝ }
+{
+    fill(m, at, words::QUEUES_WIDTH, words::NONE);
+    fill(m, at + words::LENGTH_OFFSET, 1, 0);
+    fill(m, at + words::CURRENT_OFFSET + words::LENGTH_OFFSET, 1, 0);
+    fill(m, at + words::DONE_OFFSET + words::LENGTH_OFFSET, 1, 0);
+}
+
+// Writes the words of the free queue, which has all slots.
+fn write_free(m: &mut [u32], slots: u32)
+    requires { ⌜ (globalQueuesAt ≤ length (now m)) × (1 ≤ slots) ⌝ }
+    ensures { λ _. ⌜ Written (now (m .entry)) freeAt (allFree slots) (now (m .exit)) ⌝ }
+{
+    fill(m, words::FREE_AT, 1, 0);
+    fill(m, words::FREE_AT + words::LAST_OFFSET, 1, slots - 1);
+    fill(m, words::FREE_AT + words::LENGTH_OFFSET, 1, slots);
+}
+
+// Writes the global words: generations, chain heads, and the queues.
 fn write_global(m: &mut [u32], slots: u32)
     requires { ⌜ (masksAt ≤ length (now m)) × (1 ≤ slots) ⌝ }
     ensures { λ _. ⌜ Written (now (m .entry)) globalBody (freshGlobal slots) (now (m .exit)) ⌝ }
@@ -40,20 +61,19 @@ fn write_global(m: &mut [u32], slots: u32)
     fill(m, words::CURRENT_GENERATION_AT, 1, FRESH_GENERATION);
     fill(m, words::LARGEST_GENERATION_AT, REST_LENGTH, 0);
     fill(m, words::HEADS_AT, words::CHAIN_COUNT, words::NONE);
-    fill(m, words::FREE_AT, 1, 0);
-    fill(m, words::FREE_AT + words::LAST_OFFSET, 1, slots - 1);
-    fill(m, words::GLOBAL_QUEUES_AT, words::QUEUES_WIDTH, words::NONE);
+    write_free(m, slots);
+    write_queues(m, words::GLOBAL_QUEUES_AT);
     fill(m, words::GLOBAL_GENERATION_AT, 1, 0);
 }
 
-// Writes a lane's record from at on: all words 0 but for the flags and the links.
+// Writes a lane's record from at on: all words 0 but for the flags, the queues and the position.
 fn write_lane(m: &mut [u32], at: usize)
     requires { ⌜ at + laneLength ≤ length (now m) ⌝ }
     ensures { λ _. ⌜ Written (now (m .entry)) at (freshLaneWords 0) (now (m .exit)) ⌝ }
 {
     fill(m, at, words::LANE_LENGTH, 0);
     fill(m, at, 1, FRESH_FLAGS);
-    fill(m, at + words::QUEUES_AT, words::QUEUES_WIDTH, words::NONE);
+    write_queues(m, at + words::QUEUES_AT);
     fill(m, at + words::POSITION_AT, 1, words::NONE);
 }
 

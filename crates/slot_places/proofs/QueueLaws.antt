@@ -4,16 +4,16 @@ use mathlib.Core.Bool.{Bool, true, false}
 use mathlib.Core.Path.{_≡_, refl, ap, sym, _∙_, subst}
 use mathlib.Core.List.{List, [], _∷_, _++_}
 use native.Mathlib.Omega.{arith}
-use lib.ListN.{getD, set}
+use lib.ListN.{getD, set, length}
 use lib.Dec.{eqb}
 use borrow.Author.Tests.{eq-eqb, ne-eqb}
 use Rattle.model.specs.Word.{none}
 use Rattle.model.specs.Lists.{last}
-use Rattle.model.specs.Layout.{lastOffset, slotLength, queueLinkAt}
+use Rattle.model.specs.Layout.{lastOffset, lengthOffset, slotLength, queueLinkAt}
 use Rattle.model.specs.Memory.{at}
 use Rattle.laws.specs.Tests.{unlike}
 use Rattle.slot_places.specs.Slots.{queuedFits}
-use Rattle.slot_places.specs.WalkSteps.{Step, check, Outcome, met, run, slotsOf, several, linkSteps, queueSteps, Counted, Runs, Walks, spoils, passes}
+use Rattle.slot_places.specs.WalkSteps.{Step, Outcome, met, run, slotsOf, several, linkSteps, endSteps, queueSteps, Counted, Runs, Walks, spoils, passes}
 use Rattle.slot_places.proofs.WalkStepLaws.{going, run-append, several-on, several-done, Going, going-start, going-ends, going-astray, going-twice}
 use Rattle.slot_places.proofs.WalkStepLaws.{going-unfit, going-left, going-on}
 
@@ -34,28 +34,32 @@ last-from (x ∷ xs) = go x xs
 module _ (m : List ℕ) (base slots : ℕ) where
   -- ---- one queue
 
-  module _ (free : Bool) (from : ℕ) (s₀ : List ℕ) where
+  module _ (free : Bool) (from : ℕ) (s₀ : List ℕ) (left₀ : ℕ) where
     abbrev steps : List Step
     steps = linkSteps m base slots free from
 
-    abbrev Onward : ℕ → List ℕ → Type 0
-    Onward l xs = lastFrom l xs ≡ last (slotsOf steps)
+    -- xs being the slots from here on: their last is that of all, and rest less their number is what is left at the end
+    pub record Onward (l rest : ℕ) (xs : List ℕ) : Type 0 where
+      pub ends : lastFrom l xs ≡ last (slotsOf steps)
+      pub counts : length (slotsOf steps) + rest ≡ left₀ + length xs
 
     pub record Queueing (cur : ℕ) (s : List ℕ) (l rest : ℕ) : Type 0 where
-      pub way : Going m base slots (base + queueLinkAt) (queuedFits m base slots free) (Onward l) (run steps s₀) cur s rest
+      pub way : Going m base slots (base + queueLinkAt) (queuedFits m base slots free) (Onward l rest) (run steps s₀) cur s rest
 
     abbrev Out : Bool → ℕ → ℕ → List ℕ → Type 0
-    Out r left l t = Walks m base slots steps s₀ r left l t
+    Out r left l t = Walks m base slots steps s₀ left₀ r left l t
 
-    pub queue-start : (cur left : ℕ) → cur ≡ at m from → Counted m base slots s₀ left → Queueing cur s₀ none left
-    queue-start cur left e c =
-        subst (λ (x : ℕ). Queueing x s₀ none left) (sym e)
-        (record { way = going-start m base slots _ _ (Onward none) (at m from) s₀ left c (last-from (slotsOf steps)) })
+    pub queue-start : (cur : ℕ) → cur ≡ at m from → Counted m base slots s₀ left₀ → Queueing cur s₀ none left₀
+    queue-start cur e c =
+        subst (λ (x : ℕ). Queueing x s₀ none left₀) (sym e)
+        (record { way = going-start m base slots _ _ (Onward none left₀) (at m from) s₀ left₀ c (record { ends = last-from (slotsOf steps); counts = omega arith }) })
 
     module _ (cur : ℕ) (s : List ℕ) (l rest : ℕ) (w : Queueing cur s l rest) where
       pub queue-done : slots ≤ cur → cur ≡ none → Out true rest l s
       unfolding lastFrom
-      queue-done b e = let q = going-ends m base slots _ _ _ _ _ _ _ (w .way) b e in passes (q .0) (w .way .counted) (q .1)
+      queue-done b e =
+          let q = going-ends m base slots _ _ _ _ _ _ _ (w .way) b e in
+          passes (q .0) (w .way .counted) (q .1 .ends) (omega (arith, q .1 .counts))
 
       pub queue-astray : slots ≤ cur → (cur ≡ none → ⊥) → {left x : ℕ} {t : List ℕ} → Out false left x t
       queue-astray b e = spoils (going-astray m base slots _ _ _ _ _ _ _ (w .way) b e)
@@ -78,44 +82,66 @@ module _ (m : List ℕ) (base slots : ℕ) where
             way =
                 going-on m base slots _ _ _ _ _ _ _ (w .way) b z p q g x
                 (y ∙ ap (at m) (let u : base + slotLength * cur + queueLinkAt ≡ base + queueLinkAt + slotLength * cur = omega arith in u))
-                (Onward cur) (λ xs t. t);
+                (Onward cur (rest - 1)) (λ xs t. record { ends = t .ends; counts = omega (arith, t .counts, queue-less) });
           }
 
-    -- its last is the one given
-    module _ (r : Bool) (left l : ℕ) (t : List ℕ) (w : Walks m base slots steps s₀ r left l t) where
+    -- its last and its length are those given
+    module _ (r : Bool) (left l : ℕ) (t : List ℕ) (w : Walks m base slots steps s₀ left₀ r left l t) where
       abbrev whole : List Step
       whole = queueSteps m base slots free from
 
-      after : run whole s₀ ≡ going (run steps s₀) (check (eqb (last (slotsOf steps)) (at m (from + lastOffset))) ∷ [])
-      after = run-append steps (check (eqb (last (slotsOf steps)) (at m (from + lastOffset))) ∷ []) s₀
+      abbrev ends : List Step
+      ends = endSteps m base slots from (slotsOf steps)
+
+      after : run whole s₀ ≡ going (run steps s₀) ends
+      after = run-append steps ends s₀
+
+      -- a walk that was done
+      record Done : Type 0 where
+        painted-is : run whole s₀ ≡ run ends t
+        counted : Counted m base slots t left
+        last-is : l ≡ last (slotsOf steps)
+        length-is : length (slotsOf steps) + left ≡ left₀
+
+      done : r ≡ true → Done
+      unfolding going
+      done e = go r w e
+        where
+          go : (r : Bool) → Walks m base slots steps s₀ left₀ r left l t → r ≡ true → Done
+          go false (spoils q) e = absurd (unlike e)
+          go true (passes q c d n) e = record { painted-is = after ∙ ap (λ (o : Outcome). going o ends) q; counted = c; last-is = d; length-is = n }
 
       pub queue-bad : r ≡ false → {x : ℕ} {u : List ℕ} → Runs m base slots whole s₀ false x u
-      unfolding going run
+      unfolding going
       queue-bad e = go r w e
         where
-          go : (r : Bool) → Walks m base slots steps s₀ r left l t → r ≡ false → {x : ℕ} {u : List ℕ} → Runs m base slots whole s₀ false x u
-          go false (spoils q) e = spoils (after ∙ ap (λ (o : Outcome). going o (check (eqb (last (slotsOf steps)) (at m (from + lastOffset))) ∷ [])) q)
-          go true (passes q c d) e = absurd (unlike (sym e))
+          go : (r : Bool) → Walks m base slots steps s₀ left₀ r left l t → r ≡ false → {x : ℕ} {u : List ℕ} → Runs m base slots whole s₀ false x u
+          go false (spoils q) e = spoils (after ∙ ap (λ (o : Outcome). going o ends) q)
+          go true (passes q c d n) e = absurd (unlike (sym e))
 
-      pub queue-wrong : r ≡ true → (l ≡ at m (from + lastOffset) → ⊥) → {x : ℕ} {u : List ℕ} → Runs m base slots whole s₀ false x u
-      unfolding going run
-      queue-wrong e h = go r w e
-        where
-          go : (r : Bool) → Walks m base slots steps s₀ r left l t → r ≡ true → {x : ℕ} {u : List ℕ} → Runs m base slots whole s₀ false x u
-          go false (spoils q) e = absurd (unlike e)
-          go true (passes q c d) e =
-              spoils (after ∙ ap (λ (o : Outcome). going o (check (eqb (last (slotsOf steps)) (at m (from + lastOffset))) ∷ [])) q
-              ∙ ap (λ (b : Bool). run (check b ∷ []) t) (ne-eqb _ _ (λ y. h (d ∙ y))))
+      module _ (e : r ≡ true) where
+        pub queue-fewer : left ≤ left₀
+        queue-fewer = omega (arith, done e .length-is)
 
-      pub queue-good : r ≡ true → l ≡ at m (from + lastOffset) → Runs m base slots whole s₀ true left t
-      unfolding going run
-      queue-good e h = go r w e
-        where
-          go : (r : Bool) → Walks m base slots steps s₀ r left l t → r ≡ true → Runs m base slots whole s₀ true left t
-          go false (spoils q) e = absurd (unlike e)
-          go true (passes q c d) e =
-              passes (after ∙ ap (λ (o : Outcome). going o (check (eqb (last (slotsOf steps)) (at m (from + lastOffset))) ∷ [])) q
-              ∙ ap (λ (b : Bool). run (check b ∷ []) t) (eq-eqb _ _ (sym d ∙ h))) c
+        pub queue-wrong : (l ≡ at m (from + lastOffset) → ⊥) → {x : ℕ} {u : List ℕ} → Runs m base slots whole s₀ false x u
+        unfolding run
+        queue-wrong h = spoils (done e .painted-is ∙ rw (ne-eqb (last (slotsOf steps)) (at m (from + lastOffset)) (λ y. h (done e .last-is ∙ y)), run))
+
+        module _ (h : l ≡ at m (from + lastOffset)) where
+          last-told : eqb (last (slotsOf steps)) (at m (from + lastOffset)) ≡ true
+          last-told = eq-eqb _ _ (sym (done e .last-is) ∙ h)
+
+          pub queue-miscounted : (left₀ - left ≡ at m (from + lengthOffset) → ⊥) → {x : ℕ} {u : List ℕ} → Runs m base slots whole s₀ false x u
+          unfolding run
+          queue-miscounted k =
+              spoils (done e .painted-is
+              ∙ rw (last-told, ne-eqb (length (slotsOf steps)) (at m (from + lengthOffset)) (λ y. k (omega (arith, y, done e .length-is))), run))
+
+          pub queue-good : left₀ - left ≡ at m (from + lengthOffset) → Runs m base slots whole s₀ true left t
+          unfolding run
+          queue-good k =
+              passes {t = t} (done e .painted-is
+              ∙ rw (last-told, eq-eqb (length (slotsOf steps)) (at m (from + lengthOffset)) (omega (arith, k, done e .length-is)), run)) (done e .counted)
 
   -- ---- one list of steps after the other
 

@@ -8,7 +8,7 @@ use lib.ListN.{getD, set, length, take}
 use lib.Dec.{leb, eqb}
 use Rattle.model.specs.Word.{none}
 use Rattle.model.specs.Lists.{last}
-use Rattle.model.specs.Layout.{maxSlots, headsAt, lastOffset, queueWidth, queuesAt, slotLength, chainLinkAt, queueLinkAt}
+use Rattle.model.specs.Layout.{maxSlots, headsAt, lastOffset, lengthOffset, queueWidth, queuesAt, slotLength, chainLinkAt, queueLinkAt}
 use Rattle.model.specs.Memory.{at}
 use Rattle.distinct_codes.specs.Cells.{cellsOf, spread, codeAt, Held, clash, held, meets, Room}
 use Rattle.words.specs.Links.{slotOrNone}
@@ -66,13 +66,17 @@ module _ (m : List ℕ) (base slots : ℕ) where
   abbrev pub chainSteps : ℕ → List Step
   chainSteps k = walks m (base + chainLinkAt) slots (chainedFits m base k) (at m (headsAt + k)) (slots + 1)
 
-  -- the slots of the queue whose ends stand at a, free or retired ones
+  -- the slots of the queue whose words stand at a, free or retired ones
   abbrev pub linkSteps : Bool → ℕ → List Step
   linkSteps free a = walks m (base + queueLinkAt) slots (queuedFits m base slots free) (at m a) (slots + 1)
 
-  -- and its last is the one given
+  -- its last and its length are those given, xs being its slots
+  abbrev pub endSteps : ℕ → List ℕ → List Step
+  endSteps a xs = check (eqb (last xs) (at m (a + lastOffset))) ∷ check (eqb (length xs) (at m (a + lengthOffset))) ∷ []
+
+  -- the queue
   abbrev pub queueSteps : Bool → ℕ → List Step
-  queueSteps free a = linkSteps free a ++ (check (eqb (last (slotsOf (linkSteps free a))) (at m (a + lastOffset))) ∷ [])
+  queueSteps free a = linkSteps free a ++ endSteps a (slotsOf (linkSteps free a))
 
   -- next, current and done
   abbrev pub retiredSteps : ℕ → List Step
@@ -101,10 +105,11 @@ pub data Runs (m : List ℕ) (base slots : ℕ) (ps : List Step) (s : List ℕ) 
   spoils : {left : ℕ} {t : List ℕ} → run ps s ≡ spoilt → Runs m base slots ps s false left t
   passes : {left : ℕ} {t : List ℕ} → run ps s ≡ painted t → Counted m base slots t left → Runs m base slots ps s true left t
 
--- and the last slot of a walk is l
-pub data Walks (m : List ℕ) (base slots : ℕ) (ps : List Step) (s : List ℕ) : Bool → ℕ → ℕ → List ℕ → Type 0 where
-  spoils : {left l : ℕ} {t : List ℕ} → run ps s ≡ spoilt → Walks m base slots ps s false left l t
-  passes : {left l : ℕ} {t : List ℕ} → run ps s ≡ painted t → Counted m base slots t left → l ≡ last (slotsOf ps) → Walks m base slots ps s true left l t
+-- and of a walk, before which as many slots as `all` had no mark, the last slot is l
+pub data Walks (m : List ℕ) (base slots : ℕ) (ps : List Step) (s : List ℕ) (all : ℕ) : Bool → ℕ → ℕ → List ℕ → Type 0 where
+  spoils : {left l : ℕ} {t : List ℕ} → run ps s ≡ spoilt → Walks m base slots ps s all false left l t
+  passes : {left l : ℕ} {t : List ℕ} → run ps s ≡ painted t → Counted m base slots t left → l ≡ last (slotsOf ps) → length (slotsOf ps) + left ≡ all
+      → Walks m base slots ps s all true left l t
 
 -- cells and aside are large enough for the slots that are left
 pub record Ready (m : List ℕ) (base slots : ℕ) (few : Bool) (k a : List ℕ) (n left : ℕ) : Type 0 where

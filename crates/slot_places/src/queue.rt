@@ -1,10 +1,10 @@
-// The queues, one at a time: a queue's slots by their links, and then its last. A free slot and a retired
-// one have tests of their own.
+// The queues, one at a time: a queue's slots by their links, and then its last and its length. A free slot
+// and a retired one have tests of their own.
 ghost use mathlib.Core.Path.{_≡_};
 ghost use Prim.Native.Nat.{ℕ, _+_, _*_, _<_, _≤_};
 ghost use mathlib.Core.Bool.{true, false};
 ghost use lib.ListN.{length};
-ghost use Rattle.model.specs.Layout.{lastOffset, queueWidth, laneLength};
+ghost use Rattle.model.specs.Layout.{queueWidth, laneLength};
 ghost use Rattle.slot_places.specs.WalkSteps.{linkSteps, queueSteps, laneSteps, several, Counted, Runs, Walks};
 
 // the mark of a slot that was met
@@ -36,8 +36,8 @@ fn walk_queue(
     marks: &mut [u8],
 ) -> Walked
     requires { ⌜ Counted (now m) base slots (now marks) left × (at < length (now m)) ⌝ }
-    ensures { λ r. ⌜ Walks (now (m .entry)) base slots (linkSteps (now (m .entry)) base slots free at) (now (marks .entry)) (r .ok) (r .left)
-        (r .last) (now (marks .exit)) ⌝ }
+    ensures { λ r. ⌜ Walks (now (m .entry)) base slots (linkSteps (now (m .entry)) base slots free at) (now (marks .entry)) left (r .ok)
+        (r .left) (r .last) (now (marks .exit)) ⌝ }
 {
     let mut cur = m[at];
     let mut last = words::NONE;
@@ -77,7 +77,7 @@ fn walk_queue(
     }
 }
 
-// The queue whose ends stand at at: its slots, and that its last is the one given.
+// The queue whose words stand at at: its slots, and that its last and its length are those given.
 fn queue(
     m: &[u32],
     base: usize,
@@ -87,7 +87,7 @@ fn queue(
     left: u32,
     marks: &mut [u8],
 ) -> Queued
-    requires { ⌜ Counted (now m) base slots (now marks) left × (at + lastOffset < length (now m)) ⌝ }
+    requires { ⌜ Counted (now m) base slots (now marks) left × (at + queueWidth ≤ length (now m)) ⌝ }
     ensures { λ r. ⌜ Runs (now (m .entry)) base slots (queueSteps (now (m .entry)) base slots free at) (now (marks .entry)) (r .ok) (r .left)
         (now (marks .exit)) ⌝ }
 {
@@ -98,13 +98,16 @@ fn queue(
     if w.last != m[at + words::LAST_OFFSET] {
         return Queued { ok: false, left };
     }
+    if left - w.left != m[at + words::LENGTH_OFFSET] {
+        return Queued { ok: false, left };
+    }
     Queued {
         ok: true,
         left: w.left,
     }
 }
 
-// n queues, their ends from first on.
+// n queues, their words from first on.
 pub fn queues(
     m: &[u32],
     base: usize,

@@ -6,9 +6,10 @@ use mathlib.Core.Bool.{true, false}
 use mathlib.Core.List.{List, [], _∷_, _++_, map}
 use lib.ListN.{take, drop}
 use Rattle.model.specs.Rules.{add, replace, delete, begin, end, start, step, pass, clock, on, off, hand-back, awaited}
-use Rattle.model.specs.Layout.{codeAt, slotAddress, lookupAt, laneAddress}
+use Rattle.model.specs.Layout.{versionAt, codeAt, slotAddress, lookupAt, laneAddress}
 use Rattle.model.specs.Calls.{set-up, sized}
 use Rattle.scripts.specs.Scripts.{Line, line, op, setUp111, setUp112, setUp123, setUp124, setUp811, largestTotal, listing}
+use Rattle.scripts.specs.Scripts.{twoQueuesMoved, countedAfter, offUntold}
 use Rattle.scripts.specs.Scripts.{Row, script, poked, order, digit, reads, writes, expected, run}
 
 -- replace with code missing and no free slot
@@ -239,7 +240,7 @@ droppedThenOff =
     ∷ op (end 1) 0 0 0 0 0
     ∷ op (off 1) 0 0 0 0 0
     ∷ op (step 1) 5 0 0 0 0
-    ∷ op (clock 0) 0 2 1 0 0
+    ∷ op (clock 0) 0 2 1 0 1
     ∷ op (hand-back 0) 0 0 0 0 0
     ∷ op (on 1) 0 0 0 0 0
     ∷ op (step 1) 10 0 0 0 0
@@ -274,6 +275,12 @@ lastStepNeeded =
     ∷ op (step 0) 0 2 0 0 0
     ∷ []
 
+-- ---- request 6: line lengths kept; its lists are those of `scripts`, and `cases` Tallies adds up what they move
+
+-- a table of version 1 is refused
+abbrev pub olderVersion : List Line
+olderVersion = op awaited 3 0 0 0 0 ∷ op (clock 0) 3 0 0 0 0 ∷ op (add 0 17 25 1) 3 0 0 0 0 ∷ []
+
 -- ---- all of them
 
 abbrev pub stars : List Row
@@ -303,6 +310,9 @@ stars =
     ∷ script 200 droppedThenOff
     ∷ script 300 lastCabinets
     ∷ script 200 lastStepNeeded
+    ∷ script 300 (twoQueuesMoved ++ countedAfter)
+    ∷ script 300 offUntold
+    ∷ poked 200 (setUp123 ∷ []) versionAt 1 olderVersion
     ∷ (labelDigits ++ labelsRead ++ labelsWritten)
 
 -- each row comes out. That no generation at all is later than itself is a law (`laws` Generations `later-self`)

@@ -53,7 +53,7 @@ run (timed ls ts) = results (eventsOf ls) ts
 -- ---- the figure is attained: lookups of code 0, which has no record, with 0 to 6 records on its chain
 
 abbrev pub setUp116 : Line
-setUp116 = line (set-up 1 1 6) 0 144 0 0 0
+setUp116 = line (set-up 1 1 6) 0 151 0 0 0
 
 -- lane i's step that goes, and that finds the code absent
 abbrev pub goes : ℕ → Line
@@ -154,7 +154,7 @@ besideHandBack =
     ∷ op (clock 0) 0 1 1 1 0
     ∷ op (pass 1 0) 0 0 0 0 0
     ∷ op (clock 1) 0 2 1 0 0
-    ∷ op (clock 0) 0 2 1 0 0
+    ∷ op (clock 0) 0 2 1 0 1
     ∷ op (add 0 512 1 1) 0 1 0 0 0
     ∷ beginsAt1
     ∷ startsAt1

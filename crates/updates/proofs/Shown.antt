@@ -1,5 +1,5 @@
 -- What a legal memory shows of a code, by the search for it, and of a queue, by its first word.
-use Prim.Native.Nat.{ℕ, _+_, _<_}
+use Prim.Native.Nat.{ℕ, _+_, _≤_, _<_}
 use mathlib.Core.Path.{_≡_, refl, ap, sym, subst, _∙_}
 use mathlib.Core.Bool.{Bool, true, false, not}
 use mathlib.Core.List.{List}
@@ -9,7 +9,7 @@ use lib.Dec.{ltb, eqb}
 use borrow.Author.Tests.{ltb-true, not-false}
 use Rattle.model.specs.Word.{none}
 use Rattle.model.specs.Lists.{isEmpty, first}
-use Rattle.model.specs.Layout.{lastOffset, freeAt, headsAt, slotsBody}
+use Rattle.model.specs.Layout.{queueWidth, freeAt, headsAt, slotsBody}
 use Rattle.model.specs.State.{Sizes as TableSizes}
 use Rattle.model.specs.Table.{chainNumber, slotOf, present}
 use Rattle.model.specs.Memory.{at, sizes, state}
@@ -70,10 +70,10 @@ module _ (m : List ℕ) (z : Sizes) (k : TableIn m z) where
     queue-first = ap (at m) ee ∙ first-shown (state m) m (shown m (k .sound)) q named
 
     -- its ends are in the memory
-    pub queue-inside : ends + lastOffset < length m
+    pub queue-inside : ends + queueWidth ≤ length m
     queue-inside = omega (arith, ee, go q named, long m (k .sound))
       where
-        go : (q : Queue) → Named (sizes m) q → endsAt (sizes m) q + lastOffset < slotsBody (sizes m)
+        go : (q : Queue) → Named (sizes m) q → endsAt (sizes m) q + queueWidth ≤ slotsBody (sizes m)
         go free h = omega arith
         go (global next) h = omega arith
         go (global current) h = omega arith

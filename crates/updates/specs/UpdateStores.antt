@@ -1,11 +1,11 @@
 -- What the stores of the updates need, and what they leave, in words of a memory with a table of sizes z.
-use Prim.Native.Nat.{ℕ, _+_, _<_}
+use Prim.Native.Nat.{ℕ, _+_, _≤_, _<_}
 use mathlib.Core.Path.{_≡_}
 use mathlib.Core.Bool.{cond}
 use mathlib.Core.List.{List}
 use lib.ListN.{length}
 use Rattle.model.specs.State.{Sizes, State}
-use Rattle.model.specs.Layout.{lastOffset, freeAt, slotAddress}
+use Rattle.model.specs.Layout.{queueWidth, freeAt, slotAddress}
 use Rattle.model.specs.Rules.{fromGlobal}
 use Rattle.model.specs.Memory.{at}
 use Rattle.words.specs.Lent.{Lent}
@@ -17,14 +17,14 @@ use Rattle.changes.specs.Queues.{Queue, global, lane, done}
 -- the queue whose ends stand at `ends` has a first slot
 pub record FirstIn (m : List ℕ) (z : Sizes) (ends : ℕ) : Type 0 where
   pub lent : Lent m z
-  pub queue : ends + lastOffset < length m
+  pub queue : ends + queueWidth ≤ length m
   pub first : at m ends < z .slots
 
 -- the slot that was found can leave the chain with its head at `head` for the queue at `ends`
 pub record Leaves (m : List ℕ) (z : Sizes) (head ends : ℕ) (f : Found) : Type 0 where
   pub lent : Lent m z
   pub chain : head < length m
-  pub queue : ends + lastOffset < length m
+  pub queue : ends + queueWidth ≤ length m
   pub inside : f .slot < z .slots
 
 -- slot r was taken from the free queue and holds the product; n is left

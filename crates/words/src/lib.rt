@@ -7,12 +7,13 @@ pub mod links;
 ghost use mathlib.Core.Path.{_≡_};
 ghost use Prim.Native.Nat.{_+_, _<_, _≤_};
 ghost use lib.ListN.{length};
-ghost use Rattle.model.specs.Word.{wordLimit};
+ghost use Rattle.model.specs.Word.{wordLimit, less as differenceOf};
 ghost use Rattle.model.specs.State.{laneCount};
 ghost use Rattle.model.specs.Layout.{contentsLength, laneAddress, slotsBody, slotAddress};
 ghost use Rattle.model.specs.Legal.{sizesFit};
 ghost use Rattle.model.specs.Memory.{wide, wholeOf, low as lowWord, high as highWord};
 ghost use Rattle.words.specs.Lent.{sizesOf, sizesIn, Few};
+ghost use Rattle.words.specs.Sums.{plus as sumOf};
 
 // one more than the largest word
 pub const WORD_LIMIT: u64 = 4294967296;
@@ -38,7 +39,7 @@ pub const KINDS: usize = 4;
 pub const CHAIN_COUNT: usize = 64;
 
 // ---- contents: addresses
-pub const VERSION: u32 = 1;
+pub const VERSION: u32 = 2;
 
 pub const VERSION_AT: usize = 0;
 
@@ -52,10 +53,12 @@ pub const BODIES_AT: usize = SLOTS_AT + 1;
 
 pub const CONTENTS_LENGTH: usize = BODIES_AT + 2 * 4;
 
-// ---- queues in a record: first and last of next, current and done
+// ---- queues in a record: first, last and length of next, current and done
 pub const LAST_OFFSET: usize = 1;
 
-pub const QUEUE_WIDTH: usize = LAST_OFFSET + 1;
+pub const LENGTH_OFFSET: usize = LAST_OFFSET + 1;
+
+pub const QUEUE_WIDTH: usize = LENGTH_OFFSET + 1;
 
 pub const CURRENT_OFFSET: usize = QUEUE_WIDTH;
 
@@ -189,6 +192,20 @@ pub fn index(x: u32) -> usize
     ensures { λ r. ⌜ r ≡ x ⌝ }
 {
     x as usize
+}
+
+// The sum of two words, which wraps.
+pub fn plus(a: u32, b: u32) -> u32
+    ensures { λ r. ⌜ r ≡ sumOf a b ⌝ }
+{
+    std::num::wrapping_add_u32(a, b)
+}
+
+// The first word less the second, which wraps.
+pub fn less(a: u32, b: u32) -> u32
+    ensures { λ r. ⌜ r ≡ differenceOf a b ⌝ }
+{
+    std::num::wrapping_sub_u32(a, b)
 }
 
 // The 64-bit number with these words.

@@ -1,8 +1,7 @@
--- Each of the four words is counted by one function, and no word of the memory is written.
+-- Each of the four words is counted by one function or stands in the memory, of which no word is written.
 use native.Mathlib.Omega.{arith}
 use Rattle.access.proofs.Ways.{long}
 use Rattle.access.proofs.TableReads.{table-read}
-use Rattle.awaited.proofs.OwnerLengths.{free-short}
 use Rattle.awaited.proofs.AwaitedAnswer.{answered}
 use borrow.Author.Needs.{needs}
 use Rattle.awaited.proofs.awaited.Statement.{statement}
@@ -13,17 +12,16 @@ read-sizes-requires c κs =
     let entry : tie.Start = search in
     omega (arith, long _ (entry .pre))
 
-slice-reshared-read-queue-length : tie.Need-slice-reshared-read-queue-length
-slice-reshared-read-queue-length c =
+add-free : tie.Need-add-free
+add-free c = search needs
+
+mul-free : tie.Need-mul-free
+mul-free c = search needs
+
+slice-read-free : tie.Need-slice-read-free
+slice-read-free c =
     let entry : tie.Start = search in
     omega (arith, long _ (entry .pre))
-
-queue-length-requires : tie.Need-queue-length-requires
-queue-length-requires c κs =
-    let at-read-sizes : tie.After-read-sizes = search in
-    let entry : tie.Start = search in
-    let table = table-read _ (entry .pre) _ (at-read-sizes .read-sizes .ensures) in
-    (table, free-short _ _ table)
 
 retired-length-requires : tie.Need-retired-length-requires
 retired-length-requires c κs = search (needs, table-read)
@@ -48,8 +46,9 @@ awaited-spec =
     tie.close
     (tie.spec
     read-sizes-requires
-    slice-reshared-read-queue-length
-    queue-length-requires
+    add-free
+    mul-free
+    slice-read-free
     retired-length-requires
     pending-count-requires
     lowest-pending-requires

@@ -1,16 +1,16 @@
--- The loop's invariant: the slots of the lanes before i are counted, and the ends of lane i stand at ends. The measure: the lanes left.
+-- The loop's invariant: the slots of the lanes before i are counted, and the words of lane i's queues stand from ends on. The measure: the lanes left.
 use Prim.Native.Nat.{_-_}
 use native.Mathlib.Omega.{arith}
-use Rattle.awaited.proofs.OwnerLengths.{LanesCounted, lanes-start, lanes-next, lanes-on, lanes-done}
+use Rattle.awaited.proofs.OwnerLengths.{LanesCounted, lanes-start, lanes-next, lanes-small, lanes-on, lanes-done}
 use borrow.Author.Needs.{needs}
 use Rattle.awaited.proofs.lanes_length.Statement.{statement}
 use Rattle.awaited.proofs.lanes_length.Tie as tie
 
 abbrev Inv-loop : tie.InvT-loop
-Inv-loop m z lanes ends₀ n₀ i₀ ends n i = LanesCounted m z ends n i
+Inv-loop m lanes ends₀ n₀ i₀ ends n i = LanesCounted m ends n i
 
 abbrev μ-loop : tie.MeasureT-loop
-μ-loop m z lanes ends₀ n₀ i₀ ends n i = lanes - i
+μ-loop m lanes ends₀ n₀ i₀ ends n i = lanes - i
 
 lane-count-requires : tie.Need-lane-count-requires Inv-loop μ-loop
 lane-count-requires c κs = search needs
@@ -38,7 +38,12 @@ add-n c =
     omega (arith, next .few, count, entry .pre .lent .few .lanes)
 
 add-ends-2 : tie.Need-add-ends-2 Inv-loop μ-loop
-add-ends-2 c = search needs
+add-ends-2 c =
+    let at-loop-test : tie.In-loop Inv-loop μ-loop = search in
+    let at-loop : tie.At-loop Inv-loop μ-loop = search in
+    let at-lane-count : tie.After-lane-count Inv-loop μ-loop = search in
+    let entry : tie.Start Inv-loop μ-loop = search in
+    omega (arith, lanes-small _ _ (entry .pre) _ _ _ _ (at-lane-count .lane-count .ensures) (at-loop .loop .inv) (at-loop-test .loop-test .taken))
 
 add-i : tie.Need-add-i Inv-loop μ-loop
 add-i c = search needs

@@ -1,24 +1,26 @@
 -- What the word-level functions of queues do to a state that the memory shows, over the queue's name: the test for an empty queue, and append.
 use Prim.Native.Nat.{ℕ, _+_, _<_, _≤_}
-use mathlib.Core.Bool.{Bool, true, not, cond}
+use mathlib.Core.Bool.{Bool, true, false, not, cond}
 use mathlib.Core.Path.{_≡_, refl, ap, _∙_}
 use mathlib.Core.Logic.{_≢_}
 use mathlib.Core.List.{List, [], _∷_, _++_}
 use native.Mathlib.Omega.{arith}
-use lib.ListN.{set}
+use lib.ListN.{length, set, length-append}
 use lib.Dec.{ltb, eqb}
 use borrow.Author.Tests.{lt-ltb, le-ltb, ltb-true, ne-eqb}
-use Rattle.model.specs.Word.{none}
+use Rattle.model.specs.Word.{wordLimit, none}
 use Rattle.model.specs.Lists.{isEmpty, concat, first, last, count, successorIn}
 use Rattle.model.specs.State.{Sizes, State}
-use Rattle.model.specs.Layout.{lastOffset, queueLinkAt}
+use Rattle.model.specs.Layout.{lastOffset, lengthOffset, queueWidth, queueLinkAt}
 use Rattle.model.specs.Memory.{at, allQueues, slotWords}
 use Rattle.model.specs.Calls.{stored}
 use Rattle.laws.specs.Counts.{count-self}
+use Rattle.laws.specs.Repeats.{length-at-most}
 use Rattle.laws.specs.Successors.{count-last-cons, first-append, last-snoc}
 use Rattle.representation.proofs.Addresses.Fields.{Field, slot, Inside, value}
 use Rattle.representation.proofs.Addresses.Writes.{Writes, put, writes-none, writes-put, writes-if, writes-done}
-use Rattle.queues.specs.Queue.{linkAddress, followed, appendedRun, appended}
+use Rattle.words.specs.Sums.{plus}
+use Rattle.queues.specs.Queue.{linkAddress, cleared, followed, appendedRun, appended}
 use Rattle.queues.proofs.AllQueues.{append-links}
 use Rattle.changes.proofs.Shows.{Shows}
 use Rattle.changes.proofs.Shape.{Shape, queued}
@@ -26,8 +28,8 @@ use Rattle.changes.proofs.Puts.{linked, linked-put-one, linked-same, pu
 use Rattle.changes.specs.Queues.{Queue, Named, queueOf, withQueue, endsAt}
 use Rattle.changes.proofs.OfQueues.QueuePlaces.{position, allQueues-at, position-inside}
 use Rattle.changes.proofs.OfQueues.QueueStates.{queue-le}
-use Rattle.changes.proofs.OfQueues.QueueEnds.{firstField, lastField, first-address, last-address, first-inside, last-inside, value-first}
-use Rattle.changes.proofs.OfQueues.QueueEnds.{first-slot, first-shown, last-shown}
+use Rattle.changes.proofs.OfQueues.QueueEnds.{firstField, wordField, lastField, lengthField, first-address, word-address, first-inside, word-inside}
+use Rattle.changes.proofs.OfQueues.QueueEnds.{value-first, value-length, word-first, length-last, first-slot, word-slot, first-shown, last-shown}
 use Rattle.changes.proofs.OfQueues.QueueFields.{linksWith, value-withQueue}
 
 -- ---- a state's queues: each slot once, and none is no slot
@@ -48,6 +50,9 @@ module _ (s : State) (w : Shape s) where
 
   pub first-below : (q : Queue) (x : ℕ) (xs : List ℕ) → queueOf s q ≡ x ∷ xs → x < s .sizes .slots
   first-below q x xs e = queue-below q x (rw e (omega (arith, count-self x xs)))
+
+  pub queue-few : (q : Queue) → length (queueOf s q) ≤ s .sizes .slots
+  queue-few q = length-at-most (s .sizes .slots) (queueOf s q) (queue-below q) (λ x. omega (arith, queue-le s q x, w .once x))
 
   pub last-below : (q : Queue) (x : ℕ) (xs : List ℕ) → queueOf s q ≡ x ∷ xs → last (x ∷ xs) < s .sizes .slots
   last-below q x xs e = queue-below q (last (x ∷ xs)) (rw e (count-last-cons x xs))
@@ -74,20 +79,60 @@ module _ (s : State) (m : List ℕ) (shows : Shows m s) (w : Shape s) (q : Queue
   last-inside-slot : ltb (last (queueOf s q)) (z .slots) ≡ true → Inside z (slot (last (queueOf s q)) queueLinkAt)
   last-inside-slot t = (ltb-true (last (queueOf s q)) (z .slots) t, omega arith)
 
-  pub run-writes : (x y : ℕ) → Writes z m (appendedRun m z (endsAt z q) x y) (put (followedValue x) (lastField q) y)
-  unfolding appendedRun followed
-  run-writes x y =
-      writes-put z m (shows .long) (followed m z (endsAt z q) x) (followedValue x) (lastField q) (endsAt z q + lastOffset) y
-      (last-address z q) (last-inside z q named)
+  -- a store to the queue's first, and to its word at offset o
+  pub first-writes : (n : List ℕ) (v : Field → ℕ) (x : ℕ) → Writes z m n v → Writes z m (set n (endsAt z q) x) (put v (firstField q) x)
+  first-writes n v x p = writes-put z m (shows .long) n v (firstField q) (endsAt z q) x (first-address z q) (first-inside z q named) p
+
+  pub word-writes : (o : ℕ) → o < queueWidth → (n : List ℕ) (v : Field → ℕ) (x : ℕ) → Writes z m n v → Writes z m (set n (endsAt z q + o) x) (put v (wordField q o) x)
+  word-writes o h n v x p = writes-put z m (shows .long) n v (wordField q o) (endsAt z q + o) x (word-address z q o) (word-inside z q named o h) p
+
+  -- a queue that is empty
+  pub cleared-writes : (n : List ℕ) (v : Field → ℕ) → Writes z m n v
+      → Writes z m (cleared n (endsAt z q)) (put (put (put v (firstField q) none) (lastField q) none) (lengthField q) 0)
+  cleared-writes n v p =
+      word-writes lengthOffset (omega arith) (set (set n (endsAt z q) none) (endsAt z q + lastOffset) none) (put (put v (firstField q) none) (lastField q) none) 0
+      (word-writes lastOffset (omega arith) (set n (endsAt z q) none) (put v (firstField q) none) none (first-writes n v none p))
+
+  -- its length, where the stores so far left it alone
+  pub stored-length : (n : List ℕ) (v : Field → ℕ) → Writes z m n v → v (lengthField q) ≡ value s (lengthField q)
+      → at n (endsAt z q + lengthOffset) ≡ length (queueOf s q)
+  stored-length n v p e =
+      ap (at n) (word-address z q lengthOffset) ∙ p .image (lengthField q) (word-inside z q named lengthOffset (omega arith)) ∙ e ∙ value-length s q
+
+  abbrev followedWith : ℕ → ℕ → List ℕ
+  followedWith x y = set (followed m z (endsAt z q) x) (endsAt z q + lastOffset) y
+
+  followed-writes : (x y : ℕ) → Writes z m (followedWith x y) (put (followedValue x) (lastField q) y)
+  unfolding followed
+  followed-writes x y =
+      word-writes lastOffset (omega arith) (followed m z (endsAt z q) x) (followedValue x) y
       (rw (last-shown s m shows q named)
       (writes-if z m (shows .long) (ltb (last (queueOf s q)) (z .slots)) (set m (linkAddress z (last (queueOf s q))) x) (set m (endsAt z q) x)
       (put (value s) (slot (last (queueOf s q)) queueLinkAt) x) (put (value s) (firstField q) x)
       (λ t. writes-put z m (shows .long) m (value s) (slot (last (queueOf s q)) queueLinkAt) (linkAddress z (last (queueOf s q))) x refl
       (last-inside-slot t) none-yet)
-      (λ t. writes-put z m (shows .long) m (value s) (firstField q) (endsAt z q) x (first-address z q) (first-inside z q named) none-yet)))
+      (λ t. first-writes m (value s) x none-yet)))
     where
       none-yet : Writes z m m (value s)
       none-yet = writes-none z m (shows .long) (value s) (shows .image)
+
+  -- they leave the length alone
+  followed-length : (x y : ℕ) → put (followedValue x) (lastField q) y (lengthField q) ≡ value s (lengthField q)
+  followed-length x y = rw (length-last q, word-slot (last (queueOf s q)) queueLinkAt q lengthOffset, word-first q lengthOffset (omega arith)) (go (ltb (last (queueOf s q)) (z .slots)))
+    where
+      go : (b : Bool) → cond b (value s (lengthField q)) (value s (lengthField q)) ≡ value s (lengthField q)
+      go true = refl
+      go false = refl
+
+  -- n slots more are the sum
+  pub run-writes : (x y n : ℕ) → length (queueOf s q) + n < wordLimit
+      → Writes z m (appendedRun m z (endsAt z q) x y n) (put (put (followedValue x) (lastField q) y) (lengthField q) (length (queueOf s q) + n))
+  unfolding appendedRun
+  run-writes x y n few =
+      let e : plus (at (followedWith x y) (endsAt z q + lengthOffset)) n ≡ length (queueOf s q) + n =
+      ap (λ (k : ℕ). plus k n) (stored-length (followedWith x y) (put (followedValue x) (lastField q) y) (followed-writes x y) (followed-length x y)) ∙ omega arith in
+      rw e
+      (word-writes lengthOffset (omega arith) (followedWith x y) (put (followedValue x) (lastField q) y) (length (queueOf s q) + n) (followed-writes x y))
 
   -- they are the links h and the first of the longer queue
   pub followed-values : (x : ℕ) (h : ℕ → ℕ) → ((j : ℕ) → j ≢ none → h j ≡ cond (eqb j (last (queueOf s q))) x (successorIn (allQueues s) j none))
@@ -118,13 +163,15 @@ module _ (s : State) (m : List ℕ) (shows : Shows m s) (w : Shape s) (q : Queue
     unfolding first
     append-queue =
         writes-done (withQueue q (λ xs. xs ++ (o ∷ [])) s) m (appended m z (endsAt z q) o)
-        (put (followedValue o) (lastField q) o) (shows .long)
-        (run-writes o o)
+        (put (put (followedValue o) (lastField q) o) (lengthField q) (length (queueOf s q) + 1)) (shows .long)
+        (run-writes o o 1 (omega (arith, queue-few s w q, w .few)))
         (λ f b. value-withQueue s (λ xs. xs ++ (o ∷ [])) q (w .lanes) named f
-        ∙ rw (last-snoc (queueOf s q) o, first-append (queueOf s q) (o ∷ []))
+        ∙ rw (last-snoc (queueOf s q) o, first-append (queueOf s q) (o ∷ []), length-append (queueOf s q) (o ∷ []))
+        (put-over (put (put (linked queueLinkAt links (value s)) (firstField q) (cond (isEmpty (queueOf s q)) o (first (queueOf s q)))) (lastField q) o)
+        (put (followedValue o) (lastField q) o) (lengthField q) (length (queueOf s q) + 1) f
         (put-over (put (linked queueLinkAt links (value s)) (firstField q) (cond (isEmpty (queueOf s q)) o (first (queueOf s q))))
         (followedValue o) (lastField q) o f
-        (followed-values o links link-of f b)))
+        (followed-values o links link-of f b))))
       where
         links : ℕ → ℕ
         links = linksWith s (λ xs. xs ++ (o ∷ [])) q

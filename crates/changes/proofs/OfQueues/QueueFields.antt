@@ -1,4 +1,4 @@
--- The fields of a state with one queue changed: the queue's ends, and the queue links.
+-- The fields of a state with one queue changed: the queue's words, and the queue links.
 use Prim.Native.Nat.{ℕ, _+_, _<_}
 use mathlib.Core.Bool.{Bool, true, false, cond, _&&_, and-true}
 use mathlib.Core.Path.{_≡_, refl, ap, _∙_}
@@ -9,7 +9,7 @@ use lib.Dec.{eqb}
 use Rattle.model.specs.Word.{none}
 use Rattle.model.specs.Lists.{update, first, last, successorIn}
 use Rattle.model.specs.State.{Lane, Engine, State}
-use Rattle.model.specs.Layout.{lastOffset, queueWidth, queuesAt, queueLinkAt}
+use Rattle.model.specs.Layout.{lastOffset, lengthOffset, queueWidth, queuesAt, queueLinkAt}
 use Rattle.model.specs.Engine.{freshLane, laneAt, atLane}
 use Rattle.model.specs.Memory.{allQueues, flags, laneWords, slotWords}
 use Rattle.laws.specs.Tests.{and-false-right, eqb-self, same, other, decide}
@@ -22,7 +22,7 @@ use Rattle.changes.proofs.Puts.{linked}
 use Rattle.changes.specs.Queues.{Part, next, current, done, Queue, free, global, lane as ofLane, Named, partOf, partAt, atPart, queueOf}
 use Rattle.changes.specs.Queues.{withQueue}
 use Rattle.changes.proofs.OfQueues.QueuePlaces.{position, allQueues-withQueue}
-use Rattle.changes.proofs.OfQueues.QueueEnds.{firstField, lastField, slot-first, slot-last}
+use Rattle.changes.proofs.OfQueues.QueueEnds.{firstField, lastField, lengthField, slot-first, slot-word}
 
 -- ---- pending bits stay where a changed lane keeps its own
 
@@ -32,27 +32,33 @@ pending-kept e i g h = update-cases freshLane (λ (j : ℕ) (l : Lane). l .pendi
 
 -- ---- the fields after a change
 
--- the values v, with the ends of queue q those of xs, and the queue links h
+-- the values v, with the words of queue q those of xs, and the queue links h
 abbrev pub queueValue : Queue → List ℕ → (ℕ → ℕ) → (Field → ℕ) → Field → ℕ
-queueValue q xs h v = put (put (linked queueLinkAt h v) (firstField q) (first xs)) (lastField q) (last xs)
+queueValue q xs h v = put (put (put (linked queueLinkAt h v) (firstField q) (first xs)) (lastField q) (last xs)) (lengthField q) (length xs)
 
--- two words of a record stored
-ends-set : (ws : List ℕ) (i k a b : ℕ) → i + lastOffset < length ws
-    → getD (set (set ws i a) (i + lastOffset) b) k 0 ≡ cond (eqb k (i + lastOffset) && true) b (cond (eqb k i && true) a (getD ws k 0))
-ends-set ws i k a b h =
-    getD-set (set ws i a) (i + lastOffset) k b 0 (omega (arith, length-set ws i a))
-    ∙ rw (and-true (eqb k (i + lastOffset)), and-true (eqb k i)) (ap (cond (eqb k (i + lastOffset)) b) (getD-set ws i k a 0 (omega arith)))
+-- the words of a queue stored in a record
+abbrev wordsSet : List ℕ → ℕ → List ℕ → List ℕ
+wordsSet ws i xs = set (set (set ws i (first xs)) (i + lastOffset) (last xs)) (i + lengthOffset) (length xs)
 
-lane-ends : (l : Lane) (p : Part) (f : List ℕ → List ℕ) (k : ℕ) (xs : List ℕ) → xs ≡ f (partOf (l .queues) p)
+words-set : (ws : List ℕ) (i k : ℕ) (xs : List ℕ) → i + lengthOffset < length ws
+    → getD (wordsSet ws i xs) k 0
+    ≡ cond (eqb k (i + lengthOffset) && true) (length xs) (cond (eqb k (i + lastOffset) && true) (last xs) (cond (eqb k i && true) (first xs) (getD ws k 0)))
+words-set ws i k xs h =
+    getD-set (set (set ws i (first xs)) (i + lastOffset) (last xs)) (i + lengthOffset) k (length xs) 0
+    (omega (arith, length-set (set ws i (first xs)) (i + lastOffset) (last xs), length-set ws i (first xs)))
+    ∙ rw (and-true (eqb k (i + lengthOffset)), and-true (eqb k (i + lastOffset)), and-true (eqb k i))
+    (ap (cond (eqb k (i + lengthOffset)) (length xs))
+    (getD-set (set ws i (first xs)) (i + lastOffset) k (last xs) 0 (omega (arith, length-set ws i (first xs)))
+    ∙ ap (cond (eqb k (i + lastOffset)) (last xs)) (getD-set ws i k (first xs) 0 (omega arith))))
+
+lane-words : (l : Lane) (p : Part) (f : List ℕ → List ℕ) (k : ℕ) (xs : List ℕ) → xs ≡ f (partOf (l .queues) p)
     → getD (laneWords (atPart p f l)) k 0
-    ≡ cond (eqb k (partAt queuesAt p + lastOffset) && true) (last xs) (cond (eqb k (partAt queuesAt p) && true) (first xs) (getD (laneWords l) k 0))
+    ≡ cond (eqb k (partAt queuesAt p + lengthOffset) && true) (length xs)
+    (cond (eqb k (partAt queuesAt p + lastOffset) && true) (last xs) (cond (eqb k (partAt queuesAt p) && true) (first xs) (getD (laneWords l) k 0)))
 unfolding laneWords flags
-lane-ends l next f k xs e =
-    rw e (ends-set (laneWords l) (partAt queuesAt next) k (first (f (l .queues .next))) (last (f (l .queues .next))) (omega arith))
-lane-ends l current f k xs e =
-    rw e (ends-set (laneWords l) (partAt queuesAt current) k (first (f (l .queues .current))) (last (f (l .queues .current))) (omega arith))
-lane-ends l done f k xs e =
-    rw e (ends-set (laneWords l) (partAt queuesAt done) k (first (f (l .queues .done))) (last (f (l .queues .done))) (omega arith))
+lane-words l next f k xs e = rw e (words-set (laneWords l) (partAt queuesAt next) k (f (l .queues .next)) (omega arith))
+lane-words l current f k xs e = rw e (words-set (laneWords l) (partAt queuesAt current) k (f (l .queues .current)) (omega arith))
+lane-words l done f k xs e = rw e (words-set (laneWords l) (partAt queuesAt done) k (f (l .queues .done)) (omega arith))
 
 module _ (s : State) (f : List ℕ → List ℕ) where
   -- the queue links then
@@ -82,10 +88,14 @@ module _ (s : State) (f : List ℕ → List ℕ) where
           | same q t u ↦
               rw q
               (rw (getD-update-same freshLane (s .engine .lanes) i (atPart p f) h, eqb-self i)
-              (lane-ends (laneAt (s .engine) i) p f k (f (queueOf s (ofLane i p))) refl))
+              (lane-words (laneAt (s .engine) i) p f k (f (queueOf s (ofLane i p))) refl))
           | other q t u ↦
               rw (getD-update-other freshLane (s .engine .lanes) i (atPart p f) j q, t)
-              (rw (and-false-right (eqb k (partAt queuesAt p + lastOffset)), and-false-right (eqb k (partAt queuesAt p))))
+              (rw (
+                and-false-right (eqb k (partAt queuesAt p + lengthOffset)),
+                and-false-right (eqb k (partAt queuesAt p + lastOffset)),
+                and-false-right (eqb k (partAt queuesAt p)),
+              ))
         ]
 
   pub value-withQueue : (q : Queue) → LaneAtEach s → Named (s .sizes) q → (g : Field) → value (withQueue q f s) g ≡ changedValue q g
@@ -96,13 +106,10 @@ module _ (s : State) (f : List ℕ → List ℕ) where
   value-withQueue free w h (head k) = refl
   value-withQueue (global p) w h (head k) = refl
   value-withQueue (ofLane i p) w h (head k) = refl
-  value-withQueue free w h (end k) = ends-set (endWords s) 0 k (first (f (s .table .free))) (last (f (s .table .free))) (omega arith)
-  value-withQueue (global next) w h (end k) =
-      ends-set (endWords s) (partAt queueWidth next) k (first (f (s .engine .global .next))) (last (f (s .engine .global .next))) (omega arith)
-  value-withQueue (global current) w h (end k) =
-      ends-set (endWords s) (partAt queueWidth current) k (first (f (s .engine .global .current))) (last (f (s .engine .global .current))) (omega arith)
-  value-withQueue (global done) w h (end k) =
-      ends-set (endWords s) (partAt queueWidth done) k (first (f (s .engine .global .done))) (last (f (s .engine .global .done))) (omega arith)
+  value-withQueue free w h (end k) = words-set (endWords s) 0 k (f (s .table .free)) (omega arith)
+  value-withQueue (global next) w h (end k) = words-set (endWords s) (partAt queueWidth next) k (f (s .engine .global .next)) (omega arith)
+  value-withQueue (global current) w h (end k) = words-set (endWords s) (partAt queueWidth current) k (f (s .engine .global .current)) (omega arith)
+  value-withQueue (global done) w h (end k) = words-set (endWords s) (partAt queueWidth done) k (f (s .engine .global .done)) (omega arith)
   value-withQueue (ofLane i p) w h (end k) = refl
   value-withQueue free w h (mask c) = refl
   value-withQueue (global p) w h (mask c) = refl
@@ -123,8 +130,8 @@ linked-over q xs h k v w e (end j) = e (end j)
 linked-over q xs h k v w e (mask j) = e (mask j)
 linked-over q xs h k v w e (lane i j) = e (lane i j)
 linked-over q xs h k v w e (slot i j) =
-    rw (slot-first i j q, slot-last i j q)
-    (ap (cond (eqb j queueLinkAt) (k i)) (e (slot i j) ∙ rw (slot-first i j q, slot-last i j q)) ∙ pick (eqb j queueLinkAt))
+    rw (slot-first i j q, slot-word i j q lastOffset, slot-word i j q lengthOffset)
+    (ap (cond (eqb j queueLinkAt) (k i)) (e (slot i j) ∙ rw (slot-first i j q, slot-word i j q lastOffset, slot-word i j q lengthOffset)) ∙ pick (eqb j queueLinkAt))
   where
     pick : (b : Bool) → cond b (k i) (cond b (h i) (v (slot i j))) ≡ cond b (k i) (v (slot i j))
     pick true = refl

@@ -1,10 +1,11 @@
--- One queue appended to another: the state after it.
-use Prim.Native.Nat.{ℕ}
+-- One queue appended to another: the state after it has their slots in order, and the sum of their lengths.
+use Prim.Native.Nat.{ℕ, _+_, _≤_}
 use mathlib.Core.Bool.{cond}
-use mathlib.Core.Path.{_≡_, refl, ap, ap₂, sym, _∙_}
+use mathlib.Core.Path.{_≡_, refl, ap, sym, _∙_}
 use mathlib.Core.Logic.{_≢_}
 use mathlib.Core.List.{List, [], _∷_, _++_, append-nil}
-use lib.ListN.{set}
+use native.Mathlib.Omega.{arith}
+use lib.ListN.{length, length-append}
 use lib.Dec.{ltb, eqb}
 use borrow.Author.Tests.{lt-ltb, le-ltb}
 use Rattle.model.specs.Word.{none}
@@ -16,7 +17,7 @@ use Rattle.model.specs.Calls.{stored}
 use Rattle.laws.specs.Successors.{first-append, last-append}
 use Rattle.representation.proofs.Addresses.Fields.{Field, Inside, value}
 use Rattle.representation.proofs.Addresses.Writes.{put, writes-done}
-use Rattle.queues.specs.Queue.{endsSet, appendedRun, joined}
+use Rattle.queues.specs.Queue.{cleared, appendedRun, joined}
 use Rattle.queues.proofs.AllQueues.{join-links}
 use Rattle.laws.specs.Updates.{update-commutes}
 use Rattle.changes.proofs.Shows.{Shows, stored-shown}
@@ -26,10 +27,9 @@ use Rattle.changes.specs.Queues.{Queue, Named, queueOf, withQueue, joine
 use Rattle.changes.proofs.OfQueues.QueuePlaces.{position, position-apart, allQueues-withQueue, allQueues-at}
 use Rattle.changes.proofs.OfQueues.QueuePlaces.{position-inside}
 use Rattle.changes.proofs.OfQueues.QueueStates.{withQueue-same, lanes-withQueue}
-use Rattle.changes.proofs.OfQueues.QueueEnds.{firstField, lastField, first-shown, last-shown}
+use Rattle.changes.proofs.OfQueues.QueueEnds.{firstField, lastField, lengthField, first-shown, last-shown, length-shown}
 use Rattle.changes.proofs.OfQueues.QueueFields.{linksWith, value-withQueue, linked-over}
-use Rattle.changes.proofs.OfQueues.QueueChanges.{few-none, queues-once, first-below, followedValue, run-writes, followed-values}
-use Rattle.changes.proofs.OfQueues.QueueTakes.{first-writes, last-writes}
+use Rattle.changes.proofs.OfQueues.QueueChanges.{few-none, queues-once, first-below, queue-few, followedValue, run-writes, cleared-writes, followed-values}
 
 -- queue r is appended to queue q, and is empty afterwards
 module _ (s : State) (m : List ℕ) (shows : Shows m s) (w : Shape s) (q r : Queue) (namedQ : Named (s .sizes) q) (namedR : Named (s .sizes) r)
@@ -55,8 +55,12 @@ module _ (s : State) (m : List ℕ) (shows : Shows m s) (w : Shape s) (q r : Que
       ∙ rw (allQueues-at s q, allQueues-at s r)
 
   module _ (y : ℕ) (ys : List ℕ) (is : queueOf s r ≡ y ∷ ys) where
+    -- order and sum
+    abbrev lastValue : Field → ℕ
+    lastValue = put (followedValue s m shows w q namedQ y) (lastField q) (last (y ∷ ys))
+
     abbrev runValue : Field → ℕ
-    runValue = put (followedValue s m shows w q namedQ y) (lastField q) (last (y ∷ ys))
+    runValue = put lastValue (lengthField q) (length (queueOf s q) + length (y ∷ ys))
 
     -- the fields of the longer queue, with those links
     value-longer : (f : Field) → Inside z f → linked queueLinkAt (linksWith longer (λ xs. []) r) (value longer) f ≡ runValue f
@@ -64,10 +68,12 @@ module _ (s : State) (m : List ℕ) (shows : Shows m s) (w : Shape s) (q r : Que
     value-longer f b =
         linked-over q (queueOf s q ++ queueOf s r) (linksWith s (λ xs. xs ++ queueOf s r) q) (linksWith longer (λ xs. []) r) (value s) (value longer)
         (value-withQueue s (λ xs. xs ++ queueOf s r) q (w .lanes) namedQ) f
-        ∙ rw (last-is, first-is)
+        ∙ rw (last-is, first-is, length-is)
+        (put-over (put (put (linked queueLinkAt (linksWith longer (λ xs. []) r) (value s)) (firstField q) (cond (isEmpty (queueOf s q)) y (first (queueOf s q)))) (lastField q) (last (y ∷ ys)))
+        lastValue (lengthField q) (length (queueOf s q) + length (y ∷ ys)) f
         (put-over (put (linked queueLinkAt (linksWith longer (λ xs. []) r) (value s)) (firstField q) (cond (isEmpty (queueOf s q)) y (first (queueOf s q))))
         (followedValue s m shows w q namedQ y) (lastField q) (last (y ∷ ys)) f
-        (followed-values s m shows w q namedQ y (linksWith longer (λ xs. []) r) link-is f b))
+        (followed-values s m shows w q namedQ y (linksWith longer (λ xs. []) r) link-is f b)))
       where
         last-is : last (queueOf s q ++ queueOf s r) ≡ last (y ∷ ys)
         last-is = ap (λ (xs : List ℕ). last (queueOf s q ++ xs)) is ∙ last-append (queueOf s q) (y ∷ ys)
@@ -75,22 +81,31 @@ module _ (s : State) (m : List ℕ) (shows : Shows m s) (w : Shape s) (q r : Que
         first-is : first (queueOf s q ++ queueOf s r) ≡ cond (isEmpty (queueOf s q)) y (first (queueOf s q))
         first-is = ap (λ (xs : List ℕ). first (queueOf s q ++ xs)) is ∙ first-append (queueOf s q) (y ∷ ys)
 
+        length-is : length (queueOf s q ++ queueOf s r) ≡ length (queueOf s q) + length (y ∷ ys)
+        length-is = ap (λ (xs : List ℕ). length (queueOf s q ++ xs)) is ∙ length-append (queueOf s q) (y ∷ ys)
+
         link-is : (j : ℕ) → j ≢ none → linksWith longer (λ xs. []) r j ≡ cond (eqb j (last (queueOf s q))) y (successorIn (allQueues s) j none)
         link-is j n = links-joined j n ∙ ap (λ (xs : List ℕ). cond (eqb j (last (queueOf s q))) (first xs) (successorIn (allQueues s) j none)) is
 
-    run-joined : endsSet (appendedRun m z (endsAt z q) y (last (y ∷ ys))) (endsAt z r) none none ≡ stored (joinedState q r s) m
+    abbrev run : List ℕ
+    run = appendedRun m z (endsAt z q) y (last (y ∷ ys)) (length (y ∷ ys))
+
+    run-joined : cleared run (endsAt z r) ≡ stored (joinedState q r s) m
     unfolding first last
     run-joined =
-        writes-done (joinedState q r s) m (endsSet run (endsAt z r) none none) (put (put runValue (firstField r) none) (lastField r) none) (shows .long)
-        (last-writes s m shows w r namedR (set run (endsAt z r) none) (put runValue (firstField r) none) none
-        (first-writes s m shows w r namedR run runValue none (run-writes s m shows w q namedQ y (last (y ∷ ys)))))
+        writes-done (joinedState q r s) m (cleared run (endsAt z r)) (put (put (put runValue (firstField r) none) (lastField r) none) (lengthField r) 0)
+        (shows .long)
+        (cleared-writes s m shows w r namedR run runValue
+        (run-writes s m shows w q namedQ y (last (y ∷ ys)) (length (y ∷ ys)) (omega (arith, queue-few s w q, few-other, w .few))))
         (λ f b. value-withQueue longer (λ xs. []) r (lanes-withQueue s q (λ xs. xs ++ queueOf s r) (w .lanes)) namedR f
-        ∙ put-over (put (linked queueLinkAt (linksWith longer (λ xs. []) r) (value longer)) (firstField r) none)
+        ∙ put-over (put (put (linked queueLinkAt (linksWith longer (λ xs. []) r) (value longer)) (firstField r) none) (lastField r) none)
+        (put (put runValue (firstField r) none) (lastField r) none) (lengthField r) 0 f
+        (put-over (put (linked queueLinkAt (linksWith longer (λ xs. []) r) (value longer)) (firstField r) none)
         (put runValue (firstField r) none) (lastField r) none f
-        (put-over (linked queueLinkAt (linksWith longer (λ xs. []) r) (value longer)) runValue (firstField r) none f (value-longer f b)))
+        (put-over (linked queueLinkAt (linksWith longer (λ xs. []) r) (value longer)) runValue (firstField r) none f (value-longer f b))))
       where
-        run : List ℕ
-        run = appendedRun m z (endsAt z q) y (last (y ∷ ys))
+        few-other : length (y ∷ ys) ≤ z .slots
+        few-other = rw is at (queue-few s w r)
 
   pub join-queues : joined m z (endsAt z q) (endsAt z r) ≡ stored (joinedState q r s) m
   unfolding joined first
@@ -105,6 +120,5 @@ module _ (s : State) (m : List ℕ) (shows : Shows m s) (w : Shape s) (q r : Que
           ∙ withQueue-same s r (λ xs. []) (sym e))))
       go (y ∷ ys) e =
           rw (ap (λ (x : ℕ). ltb x (z .slots)) (first-shown s m shows r namedR ∙ ap first e) ∙ lt-ltb y (z .slots) (first-below s w r y ys e))
-          (ap₂ (λ (a b : ℕ). endsSet (appendedRun m z (endsAt z q) a b) (endsAt z r) none none)
-          (first-shown s m shows r namedR ∙ ap first e) (last-shown s m shows r namedR ∙ ap last e)
-          ∙ run-joined y ys e)
+          (rw (first-shown s m shows r namedR ∙ ap first e, last-shown s m shows r namedR ∙ ap last e, length-shown s m shows r namedR ∙ ap length e)
+          (run-joined y ys e))

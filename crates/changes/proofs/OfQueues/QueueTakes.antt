@@ -3,12 +3,12 @@ use Prim.Native.Nat.{ℕ, _+_, _<_, _≤_}
 use mathlib.Core.Path.{_≡_, refl, ap, sym, _∙_}
 use mathlib.Core.List.{List, [], _∷_}
 use native.Mathlib.Omega.{arith}
-use lib.ListN.{set}
+use lib.ListN.{length, set}
 use borrow.Author.Tests.{lt-ltb, le-ltb}
-use Rattle.model.specs.Word.{none}
+use Rattle.model.specs.Word.{none, less}
 use Rattle.model.specs.Lists.{first, last, tail, count, successor}
 use Rattle.model.specs.State.{Sizes, State}
-use Rattle.model.specs.Layout.{lastOffset, queueLinkAt}
+use Rattle.model.specs.Layout.{lastOffset, lengthOffset, queueLinkAt}
 use Rattle.model.specs.Memory.{at, allQueues, slotWords}
 use Rattle.model.specs.Calls.{stored}
 use Rattle.laws.specs.Tests.{eqb-self}
@@ -16,7 +16,7 @@ use Rattle.laws.specs.Counts.{count-self}
 use Rattle.laws.specs.Successors.{successorIn-one}
 use Rattle.representation.proofs.Addresses.Fields.{Field, slot, Inside, value}
 use Rattle.representation.proofs.Addresses.Writes.{Writes, put, writes-none, writes-put, writes-done}
-use Rattle.queues.specs.Queue.{linkAddress, endsSet, begunAt, lessFirst}
+use Rattle.queues.specs.Queue.{linkAddress, cleared, shortened, begunAt, lessFirst}
 use Rattle.queues.proofs.AllQueues.{take-links}
 use Rattle.changes.proofs.Shows.{Shows, stored-shown}
 use Rattle.changes.proofs.Shape.{Shape}
@@ -24,10 +24,10 @@ use Rattle.changes.proofs.Puts.{linked, linked-put-one, put-same, put-o
 use Rattle.changes.specs.Queues.{Queue, Named, queueOf, withQueue, endsAt}
 use Rattle.changes.proofs.OfQueues.QueuePlaces.{position, allQueues-at, position-inside}
 use Rattle.changes.proofs.OfQueues.QueueStates.{withQueue-same}
-use Rattle.changes.proofs.OfQueues.QueueEnds.{firstField, lastField, first-address, last-address, first-inside, last-inside, value-last}
-use Rattle.changes.proofs.OfQueues.QueueEnds.{last-first, last-slot, first-shown}
+use Rattle.changes.proofs.OfQueues.QueueEnds.{firstField, wordField, lastField, lengthField, value-last, word-first, word-slot, first-shown}
 use Rattle.changes.proofs.OfQueues.QueueFields.{linksWith, value-withQueue}
-use Rattle.changes.proofs.OfQueues.QueueChanges.{queues-once, slot-real, few-none, queue-below, first-below}
+use Rattle.changes.proofs.OfQueues.QueueChanges.{queues-once, slot-real, few-none, queue-below, first-below, queue-few}
+use Rattle.changes.proofs.OfQueues.QueueChanges.{first-writes, word-writes, cleared-writes, stored-length}
 
 count-tail : (i x : ℕ) (xs : List ℕ) → count i xs ≤ count i (x ∷ xs)
 unfolding count
@@ -70,39 +70,56 @@ module _ (s : State) (m : List ℕ) (shows : Shows m s) (w : Shape s) (q : Queue
       writes-put z m (shows .long) m (value s) (slot x queueLinkAt) (linkAddress z x) none refl (first-below s w q x xs e, omega arith)
       (writes-none z m (shows .long) (value s) (shows .image))
 
-  pub first-writes : (n : List ℕ) (v : Field → ℕ) (x : ℕ) → Writes z m n v → Writes z m (set n (endsAt z q) x) (put v (firstField q) x)
-  first-writes n v x p = writes-put z m (shows .long) n v (firstField q) (endsAt z q) x (first-address z q) (first-inside z q named) p
-
-  pub last-writes : (n : List ℕ) (v : Field → ℕ) (x : ℕ) → Writes z m n v → Writes z m (set n (endsAt z q + lastOffset) x) (put v (lastField q) x)
-  last-writes n v x p = writes-put z m (shows .long) n v (lastField q) (endsAt z q + lastOffset) x (last-address z q) (last-inside z q named) p
-
   begun-taken : (x : ℕ) (xs : List ℕ) → queueOf s q ≡ x ∷ xs → begunAt (lessLink x) z (endsAt z q) (first xs) ≡ stored (withQueue q tail s) m
   unfolding begunAt first last tail
   begun-taken x [] e =
       rw (le-ltb none (z .slots) (few-none s w))
-      (writes-done (withQueue q tail s) m (endsSet (lessLink x) (endsAt z q) none none)
-      (put (put (lessValue x) (firstField q) none) (lastField q) none) (shows .long)
-      (last-writes (set (lessLink x) (endsAt z q) none) (put (lessValue x) (firstField q) none) none
-      (first-writes (lessLink x) (lessValue x) none (link-writes x [] e)))
+      (writes-done (withQueue q tail s) m (cleared (lessLink x) (endsAt z q))
+      (put (put (put (lessValue x) (firstField q) none) (lastField q) none) (lengthField q) 0) (shows .long)
+      (cleared-writes s m shows w q named (lessLink x) (lessValue x) (link-writes x [] e))
       (λ f b. value-withQueue s tail q (w .lanes) named f
       ∙ rw e
+      (put-over (put (put (linked queueLinkAt (linksWith s tail q) (value s)) (firstField q) none) (lastField q) none)
+      (put (put (lessValue x) (firstField q) none) (lastField q) none) (lengthField q) 0 f
       (put-over (put (linked queueLinkAt (linksWith s tail q) (value s)) (firstField q) none) (put (lessValue x) (firstField q) none) (lastField q) none f
-      (put-over (linked queueLinkAt (linksWith s tail q) (value s)) (lessValue x) (firstField q) none f (taken-link x [] e f b)))))
+      (put-over (linked queueLinkAt (linksWith s tail q) (value s)) (lessValue x) (firstField q) none f (taken-link x [] e f b))))))
   begun-taken x (y ∷ ys) e =
       rw (lt-ltb y (z .slots) below)
-      (writes-done (withQueue q tail s) m (set (lessLink x) (endsAt z q) y) (put (lessValue x) (firstField q) y) (shows .long)
-      (first-writes (lessLink x) (lessValue x) y (link-writes x (y ∷ ys) e))
+      (writes-done (withQueue q tail s) m (shortened begun (endsAt z q)) (put beginValue (lengthField q) (length (y ∷ ys))) (shows .long)
+      (rw shorter (word-writes s m shows w q named lengthOffset (omega arith) begun beginValue (length (y ∷ ys)) begins))
       (λ f b. value-withQueue s tail q (w .lanes) named f
       ∙ rw e
-      (put-over (put (linked queueLinkAt (linksWith s tail q) (value s)) (firstField q) y) (put (lessValue x) (firstField q) y) (lastField q) (last (y ∷ ys)) f
+      (put-over (put (put (linked queueLinkAt (linksWith s tail q) (value s)) (firstField q) y) (lastField q) (last (y ∷ ys)))
+      beginValue (lengthField q) (length (y ∷ ys)) f
+      (put-over (put (linked queueLinkAt (linksWith s tail q) (value s)) (firstField q) y) beginValue (lastField q) (last (y ∷ ys)) f
       (put-over (linked queueLinkAt (linksWith s tail q) (value s)) (lessValue x) (firstField q) y f (taken-link x (y ∷ ys) e f b))
-      ∙ put-same (put (lessValue x) (firstField q) y) (lastField q) (last (y ∷ ys)) at-last f)))
+      ∙ put-same beginValue (lastField q) (last (y ∷ ys)) at-last f))))
     where
       below : y < z .slots
       below = queue-below s w q y (rw e (omega (arith, count-tail y x (y ∷ ys), count-self y ys)))
 
+      begun : List ℕ
+      begun = set (lessLink x) (endsAt z q) y
+
+      beginValue : Field → ℕ
+      beginValue = put (lessValue x) (firstField q) y
+
+      begins : Writes z m (set (lessLink x) (endsAt z q) y) (put (lessValue x) (firstField q) y)
+      begins = first-writes s m shows w q named (lessLink x) (lessValue x) y (link-writes x (y ∷ ys) e)
+
+      -- the stores so far leave the other words of the queue alone
+      left-alone : (o : ℕ) → 0 < o → put (lessValue x) (firstField q) y (wordField q o) ≡ value s (wordField q o)
+      left-alone o h = rw (word-first q o h, word-slot x queueLinkAt q o)
+
       at-last : put (lessValue x) (firstField q) y (lastField q) ≡ last (y ∷ ys)
-      at-last = rw (last-first q, last-slot x queueLinkAt q) (value-last s q ∙ rw e)
+      at-last = left-alone lastOffset (omega arith) ∙ value-last s q ∙ rw e
+
+      shorter : less (at (set (lessLink x) (endsAt z q) y) (endsAt z q + lengthOffset)) 1 ≡ length (y ∷ ys)
+      shorter =
+          let k : at (set (lessLink x) (endsAt z q) y) (endsAt z q + lengthOffset) ≡ length (x ∷ (y ∷ ys)) =
+          stored-length s m shows w q named (set (lessLink x) (endsAt z q) y) (put (lessValue x) (firstField q) y) begins (left-alone lengthOffset (omega arith)) ∙ ap length e in
+          let few : length (x ∷ (y ∷ ys)) ≤ z .slots = rw e at (queue-few s w q) in
+          ap (λ (n : ℕ). less n 1) k ∙ omega (arith, w .few)
 
   -- an empty queue stays
   pub take-first : lessFirst m z (endsAt z q) ≡ stored (withQueue q tail s) m

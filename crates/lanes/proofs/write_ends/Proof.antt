@@ -1,4 +1,4 @@
--- Two stores, one after the other.
+-- Three stores, one after another.
 use native.Mathlib.Omega.{arith}
 use lib.ListN.{length-set}
 use native.Mathlib.Numerals.{unary-clauses}
@@ -21,6 +21,15 @@ mul-m-2 c = search needs
 slice-write-m-2 : tie.Need-slice-write-m-2
 slice-write-m-2 c = simp length-set (omega arith)
 
+add-m-2 : tie.Need-add-m-2
+add-m-2 c = search needs
+
+mul-m-3 : tie.Need-mul-m-3
+mul-m-3 c = search needs
+
+slice-write-m-3 : tie.Need-slice-write-m-3
+slice-write-m-3 c = simp length-set (omega arith)
+
 same-length : tie.Need-same-length
 same-length c = search needs
 
@@ -29,4 +38,15 @@ returns c = simp unary-clauses
 
 pub write-ends-spec : {M : Type 1} → statement M
 write-ends-spec =
-    tie.close (tie.spec mul-m slice-write-m add-m mul-m-2 slice-write-m-2 same-length returns)
+    tie.close
+    (tie.spec
+    mul-m
+    slice-write-m
+    add-m
+    mul-m-2
+    slice-write-m-2
+    add-m-2
+    mul-m-3
+    slice-write-m-3
+    same-length
+    returns)

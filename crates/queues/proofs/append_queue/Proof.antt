@@ -21,11 +21,20 @@ mul-last c = search needs
 slice-read-last : tie.Need-slice-read-last
 slice-read-last c = search needs
 
+add-n : tie.Need-add-n
+add-n c = search needs
+
+mul-n : tie.Need-mul-n
+mul-n c = search needs
+
+slice-read-n : tie.Need-slice-read-n
+slice-read-n c = search needs
+
 append-run-requires : tie.Need-append-run-requires
 append-run-requires c κs = search needs
 
-set-ends-requires : tie.Need-set-ends-requires
-set-ends-requires c κs = search needs
+clear-requires : tie.Need-clear-requires
+clear-requires c κs = search needs
 
 same-length : tie.Need-same-length
 same-length c = search needs
@@ -33,10 +42,10 @@ same-length c = search needs
 returns : tie.Need-returns
 unfolding joined
 returns c =
-    let at-set-ends : tie.After-set-ends = search in
+    let at-clear : tie.After-clear = search in
     let at-append-run : tie.After-append-run = search in
     let at-if1 : tie.Then1 = search in
-    at-set-ends .set-ends .ensures
+    at-clear .clear .ensures
     ∙ sym (simp (lt-ltb _ _ (at-if1 .if1 .taken), at-append-run .append-run .ensures))
 
 returns-2 : tie.Need-returns-2
@@ -52,8 +61,11 @@ append-queue-spec =
     add-last
     mul-last
     slice-read-last
+    add-n
+    mul-n
+    slice-read-n
     append-run-requires
-    set-ends-requires
+    clear-requires
     same-length
     returns
     returns-2)

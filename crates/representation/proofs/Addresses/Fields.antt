@@ -5,24 +5,24 @@ use mathlib.Core.Bool.{Bool, true, false, cond, _&&_}
 use mathlib.Core.Path.{_≡_, refl, ap, ap₂, sym, _∙_}
 use mathlib.Core.List.{List, [], _∷_, _++_}
 use native.Mathlib.Omega.{arith}
-use lib.ListN.{getD, length, set}
-use lib.Seq.{getD-set-same, getD-set-other}
+use lib.ListN.{getD, length, set, drop, List·getD-append}
+use lib.Seq.{getD-set-same, getD-set-other, getD-drop}
 use lib.Dec.{eqb}
 use borrow.Author.Tests.{eqb-true}
 use Rattle.model.specs.State.{Sizes, laneCount, State}
-use Rattle.model.specs.Layout.{chainCount, headsAt, freeAt, masksAt, laneLength, slotLength, laneAddress, slotAddress, total}
-use Rattle.model.specs.Memory.{at, contents, ends, queueEnds, laneMask, cabinetMask, laneWordsAt, slotWords, headOf}
+use Rattle.model.specs.Layout.{chainCount, queueWidth, headsAt, freeAt, masksAt, laneLength, slotLength, laneAddress, slotAddress, total}
+use Rattle.model.specs.Memory.{at, contents, queueWords, threeWords, laneMask, cabinetMask, laneWordsAt, slotWords, headOf}
 use Rattle.laws.specs.Tests.{and-true, clash, eqb-self}
 use Rattle.laws.specs.Areas.{Extent, rows, extent, Within, Spot, address as addressIn, address-lt, address-injective, address-onto}
 
 -- ---- fields
 
--- top: the contents and the global words before the chain heads. end: the global words after them, from the ends of the free queue on
+-- top: the contents and the global words before the chain heads. end: the global words after them, from those of the free queue on
 pub data Field : Type 0 where
   top head end mask : ℕ → Field
   lane slot : ℕ → ℕ → Field
 
--- the number of global words from the ends of the free queue on
+-- the number of global words from those of the free queue on
 abbrev pub endsLength : ℕ
 endsLength = masksAt - freeAt
 
@@ -48,7 +48,7 @@ abbrev pub topWords : State → List ℕ
 topWords s = contents (s .sizes) ++ (s .engine .current ∷ s .engine .largest ∷ cabinetMask s ∷ [])
 
 abbrev pub endWords : State → List ℕ
-endWords s = ends (s .table .free) ++ queueEnds (s .engine .global) ++ (s .engine .global .generation ∷ [])
+endWords s = queueWords (s .table .free) ++ threeWords (s .engine .global) ++ (s .engine .global .generation ∷ [])
 
 abbrev pub value : State → Field → ℕ
 value s (top k) = getD (topWords s) k 0
@@ -57,6 +57,10 @@ value s (end k) = getD (endWords s) k 0
 value s (mask c) = laneMask s c
 value s (lane i k) = getD (laneWordsAt s i) k 0
 value s (slot i k) = getD (slotWords s i) k 0
+
+-- a queue's words, where among the words ws those of the queue xs stand from n on
+pub queue-word : (ws rest xs : List ℕ) (n o : ℕ) → drop n ws ≡ queueWords xs ++ rest → o < queueWidth → getD ws (n + o) 0 ≡ getD (queueWords xs) o 0
+queue-word ws rest xs n o is h = sym (getD-drop n ws o 0) ∙ ap (λ (r : List ℕ). getD r o 0) is ∙ List·getD-append (queueWords xs) rest 0 o h
 
 -- ---- the areas of the layout
 

@@ -137,7 +137,7 @@ in-batched x g q h = omega (arith, count-empty x (q .current) (and-true (isEmpty
 frame-queues : (i : ℕ) (q : Queues) (e : Engine) → ((x : ℕ) → inQueues x q ≡ inLane x (laneAt e i)) → Frame e (atLane i (setQueues q) e)
 frame-queues i q e h = frame-lane i (setQueues q) e (record { reading = refl; lookup = refl; online = λ r o. o }) h
 
-frame-advancedLane : (i : ℕ) (e : Engine) → Frame e (advancedLane i e)
+pub frame-advancedLane : (i : ℕ) (e : Engine) → Frame e (advancedLane i e)
 unfolding advancedLane
 frame-advancedLane i e = cond-cases (Frame e) (ready q)
     (λ t. frame-trans (frame-queues i (batched (target e) q) e (λ x. in-batched x (target e) q t ∙ in-settled x (e .current) (laneAt e i .queues)))
@@ -147,7 +147,7 @@ frame-advancedLane i e = cond-cases (Frame e) (ready q)
     q : Queues
     q = settled (e .current) (laneAt e i .queues)
 
-frame-advancedGlobal : (e : Engine) → Frame e (advancedGlobal e)
+pub frame-advancedGlobal : (e : Engine) → Frame e (advancedGlobal e)
 unfolding advancedGlobal
 frame-advancedGlobal e = cond-cases (Frame e) (ready q)
     (λ t. frame-trans (frame-global (batched (target e) q) e (λ x. in-batched x (target e) q t ∙ in-settled x (e .current) (e .global)))

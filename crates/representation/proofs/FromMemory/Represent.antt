@@ -4,11 +4,11 @@ use mathlib.Core.Bool.{Bool, true, false}
 use mathlib.Core.Path.{_≡_, refl, ap, ap₂, sym, _∙_}
 use mathlib.Core.List.{List, [], _∷_, _++_, map}
 use native.Mathlib.Omega.{arith}
-use lib.ListN.{getD}
+use lib.ListN.{length, getD}
 use lib.Arith.{digits-lt, digits-div, digits-mod}
 use Rattle.model.specs.Lists.{first, last, from, mask as maskOf}
 use Rattle.model.specs.State.{Sizes, State, Product, Lane, laneCount}
-use Rattle.model.specs.Layout.{chainCount, kinds, currentOffset, doneOffset, lastOffset, contentsLength, headsAt, freeAt}
+use Rattle.model.specs.Layout.{chainCount, kinds, currentOffset, doneOffset, lastOffset, lengthOffset, contentsLength, headsAt, freeAt}
 use Rattle.model.specs.Layout.{globalQueuesAt, currentGenerationAt, largestGenerationAt, cabinetMaskAt, onlineBit, readingBit}
 use Rattle.model.specs.Layout.{lookupBit, snapshotBit, flagCount, flagsAt, quiescentAt, snapshotAt, generationAt, queuesAt, lookupAt}
 use Rattle.model.specs.Layout.{positionAt, chainLinkAt, queueLinkAt, laneLength, slotLength, slotAddress, laneAddress, total}
@@ -49,13 +49,17 @@ module _ (m : List ℕ) (l : Legal m) (w : WordsTo (total (sizes m)) m) where
   unfolding state from
   ends-are =
       cons (first-is freeAt (f .freeEnds .first))
-      (cons (f .freeLast)
+      (cons (f .lasts .free)
+      (cons (f .lengths .free)
       (cons (first-is globalQueuesAt (f .globalEnds .next .first))
-      (cons (f .globalLasts .next)
+      (cons (f .lasts .global .next)
+      (cons (f .lengths .global .next)
       (cons (first-is (globalQueuesAt + currentOffset) (f .globalEnds .current .first))
-      (cons (f .globalLasts .current)
+      (cons (f .lasts .global .current)
+      (cons (f .lengths .global .current)
       (cons (first-is (globalQueuesAt + doneOffset) (f .globalEnds .done .first))
-      (cons (f .globalLasts .done) refl)))))))
+      (cons (f .lasts .global .done)
+      (cons (f .lengths .global .done) refl)))))))))))
 
   -- ---- masks
 
@@ -144,7 +148,8 @@ module _ (m : List ℕ) (l : Legal m) (w : WordsTo (total (sizes m)) m) where
     unfolding laneWords readLane from
     lane-words =
         let v = at m a in
-        let q = f .laneLasts i b in
+        let q = f .lasts .lanes i b in
+        let n = f .lengths .lanes i b in
         let r = f .laneEnds i b in
         let e = state-lane m i b in
         let k = lookup-is (flag lookupBit v) refl in
@@ -160,13 +165,16 @@ module _ (m : List ℕ) (l : Legal m) (w : WordsTo (total (sizes m)) m) where
         (cons (word _ generationAt (omega arith))
         (cons (end-is queuesAt (r .next .first) _ (omega arith))
         (cons (sym (ap (λ (l : Lane). last (l .queues .next)) e) ∙ q .next ∙ word _ (queuesAt + lastOffset) (omega arith))
+        (cons (sym (ap (λ (l : Lane). length (l .queues .next)) e) ∙ n .next ∙ word _ (queuesAt + lengthOffset) (omega arith))
         (cons (end-is (queuesAt + currentOffset) (r .current .first) _ (omega arith))
         (cons (sym (ap (λ (l : Lane). last (l .queues .current)) e) ∙ q .current ∙ word _ (queuesAt + currentOffset + lastOffset) (omega arith))
+        (cons (sym (ap (λ (l : Lane). length (l .queues .current)) e) ∙ n .current ∙ word _ (queuesAt + currentOffset + lengthOffset) (omega arith))
         (cons (end-is (queuesAt + doneOffset) (r .done .first) _ (omega arith))
         (cons (sym (ap (λ (l : Lane). last (l .queues .done)) e) ∙ q .done ∙ word _ (queuesAt + doneOffset + lastOffset) (omega arith))
+        (cons (sym (ap (λ (l : Lane). length (l .queues .done)) e) ∙ n .done ∙ word _ (queuesAt + doneOffset + lengthOffset) (omega arith))
         (cons (k .low)
         (cons (k .high)
-        (cons (k .position) refl))))))))))))))))))
+        (cons (k .position) refl)))))))))))))))))))))
 
   -- ---- a slot's words
 

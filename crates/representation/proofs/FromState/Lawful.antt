@@ -1,20 +1,20 @@
 -- A memory that holds the words of a well-formed state is legal.
 use Prim.Native.Nat.{ℕ, _+_, _^_, _≤_, _<_}
-use mathlib.Core.Path.{_≡_, sym, ap, _∙_, subst}
+use mathlib.Core.Path.{_≡_, refl, sym, ap, _∙_, subst}
 use mathlib.Core.Bool.{true, false, not}
-use mathlib.Core.List.{List, [], _∷_}
+use mathlib.Core.List.{List, [], _∷_, _++_}
 use native.Mathlib.Omega.{arith}
-use lib.ListN.{length}
+use lib.ListN.{length, getD, drop}
 use lib.Dec.{eqb}
 use Rattle.model.specs.Word.{none}
-use Rattle.model.specs.Lists.{concat, count}
-use Rattle.model.specs.State.{Sizes, isRunning, isHeld, Engine, Product, Table, State}
-use Rattle.model.specs.Layout.{depositAt, materialAt, lastOffset, queueWidth, currentOffset, doneOffset, cabinetMaskAt, lookupBit}
-use Rattle.model.specs.Layout.{snapshotBit, flagsAt, queuesAt, positionAt, chainLinkAt, queueLinkAt, slotAddress, total}
+use Rattle.model.specs.Lists.{last, concat, count}
+use Rattle.model.specs.State.{Sizes, laneCount, isRunning, isHeld, Engine, Product, Table, State}
+use Rattle.model.specs.Layout.{depositAt, materialAt, lastOffset, lengthOffset, queueWidth, currentOffset, doneOffset, cabinetMaskAt, lookupBit}
+use Rattle.model.specs.Layout.{freeAt, snapshotBit, flagsAt, queuesAt, positionAt, chainLinkAt, queueLinkAt, laneLength, laneAddress, slotAddress, total}
 use Rattle.model.specs.Engine.{laneAt, runs}
 use Rattle.model.specs.Table.{productAt}
 use Rattle.model.specs.Memory.{at, sizes, wide, flag, flags, contents, lookupCode, cabinetMask, pendingAt}
-use Rattle.model.specs.Memory.{isNotZero, laneWords, slotWords, slotWord, allQueues, readProduct}
+use Rattle.model.specs.Memory.{isNotZero, queueWords, laneWords, slotWords, slotWord, allQueues, readProduct}
 use Rattle.model.specs.Rules.{wrongCode, wrongProduct}
 use Rattle.model.specs.Legal.{legal, codeOf, periodRuns}
 use Rattle.laws.specs.Tests.{not-not}
@@ -24,9 +24,9 @@ use Rattle.laws.specs.Successors.{successorIn-out}
 use Rattle.laws.specs.Masks.{mask-lt, mask-from-lt}
 use Rattle.representation.proofs.WellFormed.{WellFormed, SlotOrNone}
 use Rattle.representation.proofs.Sentences.Ranges.{code-right, product-right}
-use Rattle.representation.proofs.Sentences.Facts.{Facts, Blank}
+use Rattle.representation.proofs.Sentences.Facts.{Agree, Facts, Blank}
 use Rattle.representation.proofs.Sentences.Split.{facts-legal}
-use Rattle.representation.proofs.Addresses.Fields.{top, end, mask, slot, value}
+use Rattle.representation.proofs.Addresses.Fields.{top, end, mask, slot, value, endsLength, endWords, queue-word}
 use Rattle.representation.proofs.Addresses.Writes.{Image}
 use Rattle.representation.proofs.FromState.Standing.{fit, stands, chain-once, chainLink-range, queueLink-range, position-range}
 use Rattle.representation.proofs.FromState.Periods.{cabinetMask-from, flag-cabinetMask, cabinetMask-runs}
@@ -84,6 +84,32 @@ module _ (e : Engine) (t : Table) (m : List ℕ) (w : WellFormed (sized e t m)) 
   unfolding slotWords
   queueLink-word i b = subst (SlotOrNone (z .slots)) (sym (holds (slot i queueLinkAt) (b, omega arith))) (queueLink-range s w i)
 
+  -- ---- queues
+
+  agree : (f : List ℕ → ℕ) (o : ℕ) → o < queueWidth → ((xs : List ℕ) → getD (queueWords xs) o 0 ≡ f xs) → Agree m s f o
+  unfolding laneWords
+  agree f o h is = record {
+    free = of-global 0 (t .free) _ _ (omega arith) (omega arith) refl;
+    global = record {
+      next = of-global queueWidth (e .global .next) _ _ (omega arith) (omega arith) refl;
+      current = of-global (queueWidth + currentOffset) (e .global .current) _ _ (omega arith) (omega arith) refl;
+      done = of-global (queueWidth + doneOffset) (e .global .done) _ _ (omega arith) (omega arith) refl;
+    };
+    lanes = λ i b. record {
+      next = of-lane i b queuesAt (laneAt e i .queues .next) _ _ (omega arith) (omega arith) refl;
+      current = of-lane i b (queuesAt + currentOffset) (laneAt e i .queues .current) _ _ (omega arith) (omega arith) refl;
+      done = of-lane i b (queuesAt + doneOffset) (laneAt e i .queues .done) _ _ (omega arith) (omega arith) refl;
+    };
+  }
+    where
+      of-global : (n : ℕ) (xs rest : List ℕ) (a : ℕ) → a ≡ freeAt + (n + o) → n + o < endsLength → drop n (endWords s) ≡ queueWords xs ++ rest → f xs ≡ at m a
+      of-global n xs rest a k b d = sym (ap (at m) k ∙ holds (end (n + o)) b ∙ queue-word (endWords s) rest xs n o d h ∙ is xs)
+
+      of-lane : (i : ℕ) → i < laneCount z → (n : ℕ) (xs rest : List ℕ) (a : ℕ) → a ≡ laneAddress z i + (n + o) → n + o < laneLength
+          → drop n (laneWords (laneAt e i)) ≡ queueWords xs ++ rest → f xs ≡ at m a
+      of-lane i b n xs rest a k c d =
+          sym (ap (at m) k ∙ word e t m w holds long i b (n + o) c ∙ queue-word (laneWords (laneAt e i)) rest xs n o d h ∙ is xs)
+
   -- ---- all facts
 
   all-facts : Facts m s
@@ -107,17 +133,8 @@ module _ (e : Engine) (t : Table) (m : List ℕ) (w : WellFormed (sized e t m)) 
     products = product-right-at;
     lookupCodes = λ i b. ap wrongCode (lookup-code e t m w holds long i b) ∙ code-right (lookupCode (laneAt e i .lookup)) (code-fits e t m w holds long i b);
     once = λ i b. omega (arith, count-append i (concat (t .chains)) (concat (allQueues s)), stands s w i, w .once i b);
-    freeLast = sym (holds (end lastOffset) (omega arith));
-    globalLasts = record {
-      next = sym (holds (end (queueWidth + lastOffset)) (omega arith));
-      current = sym (holds (end (queueWidth + currentOffset + lastOffset)) (omega arith));
-      done = sym (holds (end (queueWidth + doneOffset + lastOffset)) (omega arith));
-    };
-    laneLasts = λ i b. record {
-      next = sym (ap (at m) (omega arith) ∙ word e t m w holds long i b (queuesAt + lastOffset) (omega arith));
-      current = sym (ap (at m) (omega arith) ∙ word e t m w holds long i b (queuesAt + currentOffset + lastOffset) (omega arith));
-      done = sym (ap (at m) (omega arith) ∙ word e t m w holds long i b (queuesAt + doneOffset + lastOffset) (omega arith));
-    };
+    lasts = agree last lastOffset (omega arith) (λ xs. refl);
+    lengths = agree length lengthOffset (omega arith) (λ xs. refl);
     onChain = λ k b. w .table .onChain k;
     codes =
         distinct-map-intro (codeOf s) (concat (t .chains)) (chain-once s w)

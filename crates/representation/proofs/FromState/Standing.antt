@@ -6,7 +6,7 @@ use mathlib.Core.Bool.{Bool}
 use mathlib.Core.List.{List, [], _∷_, _++_}
 use native.Mathlib.Omega.{arith}
 use native.Mathlib.Decide.{decLt}
-use lib.ListN.{getD}
+use lib.ListN.{length, getD}
 use Rattle.model.specs.Word.{none}
 use Rattle.model.specs.Lists.{first, last, concat, concatMap, count, successorIn}
 use Rattle.model.specs.State.{Lookup, idle, running, Queues, Lane, Engine, Table, State}
@@ -15,6 +15,7 @@ use Rattle.model.specs.Table.{linkOf}
 use Rattle.model.specs.Memory.{allQueues, queuesOf, laneQueues, lookupPosition, headOf}
 use Rattle.laws.specs.Sums.{sum, sum-getD}
 use Rattle.laws.specs.Counts.{count-append, count-concat, count-concat-getD}
+use Rattle.laws.specs.Repeats.{length-at-most}
 use Rattle.representation.proofs.Discipline.Frame.{inQueues, inLane, queued}
 use Rattle.representation.proofs.Causes.SlotCounts.{inTable}
 use Rattle.representation.proofs.WellFormed.{WellFormed, LookupFits, SlotOrNone, standing, chained}
@@ -114,16 +115,23 @@ module _ (s : State) (w : WellFormed s) where
       go r idle f = inr refl
       go r (running c p) f = f .2
 
-  -- first and last of a queue
+  -- first, last and length of a queue
   pub record EndsFit (xs : List ℕ) : Type 0 where
     pub first : SlotOrNone n (first xs)
     pub last : SlotOrNone n (last xs)
+    pub few : length xs ≤ n
 
-  ends-fit : (xs : List ℕ) → ((x : ℕ) → 0 < count x xs → 0 < standing x s) → EndsFit xs
-  ends-fit xs h = record { first = first-range n xs (λ x b. w .range x (h x b)); last = last-range n xs (λ x b. w .range x (h x b)) }
+  ends-fit : (xs : List ℕ) → ((x : ℕ) → count x xs ≤ standing x s) → EndsFit xs
+  ends-fit xs h = record { first = first-range n xs inside; last = last-range n xs inside; few = length-at-most n xs inside once }
+    where
+      inside : (x : ℕ) → 0 < count x xs → x < n
+      inside x b = w .range x (omega (arith, h x))
+
+      once : (x : ℕ) → count x xs ≤ 1
+      once x = omega (arith, h x, at-most-one x)
 
   pub free-ends : EndsFit (t .free)
-  free-ends = ends-fit (t .free) (λ x b. omega arith)
+  free-ends = ends-fit (t .free) (λ x. omega arith)
 
   -- of the queues of one owner
   pub record QueuesFit (q : Queues) : Type 0 where
@@ -133,9 +141,9 @@ module _ (s : State) (w : WellFormed s) where
 
   queues-fit : (q : Queues) → ((x : ℕ) → inQueues x q ≤ queued x e) → QueuesFit q
   queues-fit q h = record {
-    next = ends-fit (q .next) (λ x b. omega (arith, h x));
-    current = ends-fit (q .current) (λ x b. omega (arith, h x));
-    done = ends-fit (q .done) (λ x b. omega (arith, h x));
+    next = ends-fit (q .next) (λ x. omega (arith, h x));
+    current = ends-fit (q .current) (λ x. omega (arith, h x));
+    done = ends-fit (q .done) (λ x. omega (arith, h x));
   }
 
   pub global-ends : QueuesFit (e .global)

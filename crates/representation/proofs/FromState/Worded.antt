@@ -42,6 +42,9 @@ module _ (s : State) (w : WellFormed s) where
   slot-word x (inl h) = omega (arith, fit s w .fewSlots)
   slot-word x (inr h) = omega arith
 
+  length-word : (x : ℕ) → x ≤ z .slots → Word x
+  length-word x h = omega (arith, fit s w .fewSlots)
+
   mask-word : (g : ℕ → Bool) (n : ℕ) → n ≤ maxPlaces → Word (mask (map g (from 0 n)))
   mask-word g n h = let k : n < wordBits = omega arith in let p : 2 ^ n < 2 ^ wordBits = pow-lt {j = wordBits} k in omega (arith, mask-from-lt g n)
 
@@ -97,10 +100,10 @@ module _ (s : State) (w : WellFormed s) where
   end-words =
       let f = free-ends s w in
       let g = global-ends s w in
-      slot-word _ (f .first) & slot-word _ (f .last)
-      & slot-word _ (g .next .first) & slot-word _ (g .next .last)
-      & slot-word _ (g .current .first) & slot-word _ (g .current .last)
-      & slot-word _ (g .done .first) & slot-word _ (g .done .last)
+      slot-word _ (f .first) & slot-word _ (f .last) & length-word _ (f .few)
+      & slot-word _ (g .next .first) & slot-word _ (g .next .last) & length-word _ (g .next .few)
+      & slot-word _ (g .current .first) & slot-word _ (g .current .last) & length-word _ (g .current .few)
+      & slot-word _ (g .done .first) & slot-word _ (g .done .last) & length-word _ (g .done .few)
       & global-generation (w .generations .global)
       & tt
 
@@ -118,9 +121,9 @@ module _ (s : State) (w : WellFormed s) where
       & c 0 & c 1 & c 2 & c 3
       & d 0 & d 1 & d 2 & d 3
       & lane-generation l (w .generations .lanes i)
-      & slot-word _ (r .next .first) & slot-word _ (r .next .last)
-      & slot-word _ (r .current .first) & slot-word _ (r .current .last)
-      & slot-word _ (r .done .first) & slot-word _ (r .done .last)
+      & slot-word _ (r .next .first) & slot-word _ (r .next .last) & length-word _ (r .next .few)
+      & slot-word _ (r .current .first) & slot-word _ (r .current .last) & length-word _ (r .current .few)
+      & slot-word _ (r .done .first) & slot-word _ (r .done .last) & length-word _ (r .done .few)
       & k .low & k .high & slot-word _ (position-range s w i)
       & extra-words l (f .extra)
 

@@ -1,4 +1,4 @@
--- The sentences of legality (document 01, "The memory", last paragraph) as facts, by name.
+-- The sentences of legality (document 01, "The memory", last paragraph, and document 02, request 6) as facts, by name.
 use Prim.Native.Nat.{ℕ, _+_, _*_, _^_, _≤_, _<_}
 use mathlib.Core.Path.{_≡_}
 use mathlib.Core.Logic.{_⊎_}
@@ -8,7 +8,7 @@ use lib.ListN.{length, getD, take}
 use Rattle.model.specs.Word.{wordLimit, none, up, down, later}
 use Rattle.model.specs.Lists.{isEmpty, last, concat, count, distinct}
 use Rattle.model.specs.State.{Sizes, laneCount, isRunning, isHeld, Queues, Lane, State}
-use Rattle.model.specs.Layout.{maxCabinets, maxPlaces, maxSlots, kinds, chainCount, contentsLength, lastOffset, currentOffset, doneOffset}
+use Rattle.model.specs.Layout.{maxCabinets, maxPlaces, maxSlots, kinds, chainCount, contentsLength, lastOffset, lengthOffset, currentOffset, doneOffset}
 use Rattle.model.specs.Layout.{cabinetMaskAt, headsAt, freeAt, globalQueuesAt, lookupBit, snapshotBit, flagCount, flagsAt, snapshotAt, queuesAt}
 use Rattle.model.specs.Layout.{lookupAt, positionAt, depositAt, materialAt, chainLinkAt, queueLinkAt, laneAddress, slotAddress, total}
 use Rattle.model.specs.Engine.{laneAt}
@@ -47,17 +47,23 @@ pub record EndsInRange (slots : ℕ) (word : ℕ → ℕ) (k : ℕ) : Type 0 whe
   pub first : SlotOrNone slots (word k)
   pub last : SlotOrNone slots (word (k + lastOffset))
 
--- of the queues of one owner, whose ends stand from k on
+-- of the queues of one owner, whose words stand from k on
 pub record QueuesInRange (slots : ℕ) (word : ℕ → ℕ) (k : ℕ) : Type 0 where
   pub next : EndsInRange slots word k
   pub current : EndsInRange slots word (k + currentOffset)
   pub done : EndsInRange slots word (k + doneOffset)
 
--- queues whose ends stand from a on
-pub record Lasts (m : List ℕ) (a : ℕ) (q : Queues) : Type 0 where
-  pub next : last (q .next) ≡ at m (a + lastOffset)
-  pub current : last (q .current) ≡ at m (a + currentOffset + lastOffset)
-  pub done : last (q .done) ≡ at m (a + doneOffset + lastOffset)
+-- what f gives of a queue is its word at offset o: of the queues whose words stand from a on
+pub record AgreeAt (m : List ℕ) (f : List ℕ → ℕ) (o a : ℕ) (q : Queues) : Type 0 where
+  pub next : f (q .next) ≡ at m (a + o)
+  pub current : f (q .current) ≡ at m (a + currentOffset + o)
+  pub done : f (q .done) ≡ at m (a + doneOffset + o)
+
+-- of all queues
+pub record Agree (m : List ℕ) (s : State) (f : List ℕ → ℕ) (o : ℕ) : Type 0 where
+  pub free : f (s .table .free) ≡ at m (freeAt + o)
+  pub global : AgreeAt m f o globalQueuesAt (s .engine .global)
+  pub lanes : (i : ℕ) → i < laneCount (sizes m) → AgreeAt m f o (laneAddress (sizes m) i + queuesAt) (laneAt (s .engine) i .queues)
 
 -- lookup words without a lookup
 pub record LookupRest (m : List ℕ) (i : ℕ) : Type 0 where
@@ -109,9 +115,9 @@ module _ (m : List ℕ) (s : State) where
     -- each slot stands in exactly one chain or queue
     pub once : (i : ℕ) → i < s .sizes .slots → count i (concat (s .table .chains) ++ concat (allQueues s)) ≡ 1
     -- queues agree with first and last
-    pub freeLast : last (s .table .free) ≡ at m (freeAt + lastOffset)
-    pub globalLasts : Lasts m globalQueuesAt (s .engine .global)
-    pub laneLasts : (i : ℕ) → i < laneCount (sizes m) → Lasts m (laneAddress (sizes m) i + queuesAt) (laneAt (s .engine) i .queues)
+    pub lasts : Agree m s last lastOffset
+    -- the lengths agree with the queues
+    pub lengths : Agree m s length lengthOffset
     -- chained slots are on chain (code mod 64), no code twice
     pub onChain : (k : ℕ) → k < chainCount → (x : ℕ) → 0 < count x (getD (s .table .chains) k []) → chainNumber (codeOf s x) ≡ k
     pub codes : distinct (map (codeOf s) (concat (s .table .chains))) ≡ true

@@ -5,21 +5,21 @@ use mathlib.Core.Logic.{inl, inr}
 use mathlib.Core.Bool.{Bool, true, false, not, cond, _&&_, _||_}
 use mathlib.Core.List.{List, [], _∷_}
 use native.Mathlib.Omega.{arith}
-use lib.ListN.{getD}
+use lib.ListN.{length, getD}
 use lib.Dec.{eqb, ltb}
 use borrow.Author.Tests.{eq-eqb, eqb-true, ne-eqb, ltb-true, not-true}
 use Rattle.model.specs.Word.{none, up, down, later}
-use Rattle.model.specs.Lists.{all, every, isEmpty, concat, member}
+use Rattle.model.specs.Lists.{all, every, isEmpty, last, concat, member}
 use Rattle.model.specs.State.{laneCount, isRunning, isHeld, Queues, Lane, State}
-use Rattle.model.specs.Layout.{lastOffset, currentOffset, doneOffset, cabinetMaskAt, headsAt, freeAt, globalQueuesAt}
+use Rattle.model.specs.Layout.{lastOffset, lengthOffset, currentOffset, doneOffset, cabinetMaskAt, headsAt, freeAt, globalQueuesAt}
 use Rattle.model.specs.Layout.{lookupBit, snapshotBit, flagCount, flagsAt, snapshotAt, queuesAt, lookupAt, positionAt}
 use Rattle.model.specs.Layout.{depositAt, materialAt, chainLinkAt, queueLinkAt, laneAddress, slotAddress}
 use Rattle.model.specs.Engine.{freshLane, laneAt}
 use Rattle.model.specs.Rules.{wrongCode, wrongProduct}
 use Rattle.model.specs.Memory.{at, wide, sizes, laneWord, slotWord, maskWord, allQueues, flag, isNotZero}
 use Rattle.model.specs.Legal.{implies, laneNumbers, slotNumbers, slotOrNone, endsInRange, queuesInRange, flagsInRange}
-use Rattle.model.specs.Legal.{masksInRange, linkSentences, linksInRange, fieldsInRange, standsOnce, lastsAt, lastsAgree, onTheirChains}
-use Rattle.model.specs.Legal.{noCodeTwice, snapshotsAtRest, lookupsAtRest, generationAtRest, generationsAtRest, queueLinksAtRest}
+use Rattle.model.specs.Legal.{masksInRange, linkSentences, linksInRange, fieldsInRange, standsOnce, agreesAt, queuesAgree, lastsAgree}
+use Rattle.model.specs.Legal.{lengthsAgree, onTheirChains, noCodeTwice, snapshotsAtRest, lookupsAtRest, generationAtRest, generationsAtRest, queueLinksAtRest}
 use Rattle.model.specs.Legal.{noneQueued, offLanes, lookupsInSections, snapshotsPending, cabinetBits, freeBlank, laneGenerationFits}
 use Rattle.model.specs.Legal.{globalGenerationFits, periodRuns, largestAgrees, laneGenerations, globalGeneration, sentences}
 use Rattle.laws.specs.Tests.{_&_, clash, and-true, and-intro, or-cases, or-else, Every, every-true, every-intro, all-from, all-below, all-getD}
@@ -27,7 +27,7 @@ use Rattle.laws.specs.Elements.{isEmpty-true}
 use Rattle.laws.specs.Counts.{all-count, member-false}
 use Rattle.representation.proofs.ExtraWords.{extra-said}
 use Rattle.representation.proofs.Sentences.Ranges.{slotOrNone-true}
-use Rattle.representation.proofs.Sentences.Facts.{EndsInRange, QueuesInRange, Lasts, LookupRest, Bare, Blank, Near, NearGlobal, Facts}
+use Rattle.representation.proofs.Sentences.Facts.{EndsInRange, QueuesInRange, AgreeAt, Agree, LookupRest, Bare, Blank, Near, NearGlobal, Facts}
 
 implies-true : (a b : Bool) → implies a b ≡ true → a ≡ true → b ≡ true
 implies-true true b h q = h
@@ -50,13 +50,19 @@ module _ (m : List ℕ) (word : ℕ → ℕ) where
       record { next = ends-true k next; current = ends-true (k + currentOffset) current; done = ends-true (k + doneOffset) done }
 
 module _ (m : List ℕ) (s : State) where
-  lasts-true : (a : ℕ) (q : Queues) → lastsAt m a q ≡ true → Lasts m a q
-  lasts-true a q h =
+  agreeAt-true : (f : List ℕ → ℕ) (o a : ℕ) (q : Queues) → agreesAt m f o a q ≡ true → AgreeAt m f o a q
+  agreeAt-true f o a q h =
       let (next, (current, (done, rest))) = every-true _ h in
       record { next = eqb-true _ _ next; current = eqb-true _ _ current; done = eqb-true _ _ done }
 
-  pub lasts-intro : (a : ℕ) (q : Queues) → Lasts m a q → lastsAt m a q ≡ true
-  lasts-intro a q l = every-intro _ (eq-eqb _ _ (l .next) & eq-eqb _ _ (l .current) & eq-eqb _ _ (l .done) & tt)
+  agree-true : (f : List ℕ → ℕ) (o : ℕ) → queuesAgree m f o s ≡ true → Agree m s f o
+  agree-true f o h =
+      let (free, (global, (lanes, rest))) = every-true _ h in
+      record {
+        free = eqb-true _ _ free;
+        global = agreeAt-true f o globalQueuesAt (s .engine .global) global;
+        lanes = λ i b. agreeAt-true f o (laneAddress (sizes m) i + queuesAt) (laneAt (s .engine) i .queues) (all-below _ _ i lanes b);
+      }
 
   lookupRest-true : (i : ℕ) → every (eqb (laneWord m i lookupAt) 0 ∷ eqb (laneWord m i (lookupAt + 1)) 0 ∷ eqb (laneWord m i positionAt) none ∷ []) ≡ true
       → LookupRest m i
@@ -130,15 +136,14 @@ module _ (m : List ℕ) (s : State) where
   lookupRight i = not (wrongCode (wide m (laneAddress (sizes m) i + lookupAt)))
 
   pub facts : Every (sentences m s) → Facts m s
-  unfolding flagsInRange masksInRange linksInRange fieldsInRange standsOnce lastsAgree onTheirChains noCodeTwice snapshotsAtRest lookupsAtRest generationsAtRest
-      queueLinksAtRest offLanes lookupsInSections snapshotsPending cabinetBits freeBlank largestAgrees laneGenerations globalGeneration isEmpty isRunning isHeld
+  unfolding flagsInRange masksInRange linksInRange fieldsInRange standsOnce lastsAgree lengthsAgree onTheirChains noCodeTwice snapshotsAtRest lookupsAtRest
+      generationsAtRest queueLinksAtRest offLanes lookupsInSections snapshotsPending cabinetBits freeBlank largestAgrees laneGenerations globalGeneration isEmpty isRunning isHeld
   facts said =
-      let (flagged, (masked, (linked, (fielded, (once, (lasts, (chains, (codes, others)))))))) = said in
+      let (flagged, (masked, (linked, (fielded, (once, (lasts, (lengths, (chains, (codes, others))))))))) = said in
       let (snapshots, (lookups, (rests, (lines, (off, (sections, (helds, (bits, (free, (largest, (lanes, (global, extra)))))))))))) = others in
       let masks = and-true _ _ masked in
       let (heads, (freeEnds, (globalEnds, (laneLinks, (chainLinks, (queueLinks, rest)))))) = every-true (linkSentences m) linked in
       let fields = and-true (all productRight (slotNumbers m)) (all lookupRight (laneNumbers m)) fielded in
-      let (freeLast, (globalLasts, (laneLasts, rest))) = every-true _ lasts in
       let resting = and-true _ _ rests in
       let ofLane : (i : ℕ) → i < laneCount (sizes m) → (queuesInRange m (laneWord m i) queuesAt ≡ true) × (slotOrNone m (laneWord m i positionAt) ≡ true) =
       λ i b. and-true _ _ (all-below _ _ i laneLinks b) in
@@ -156,9 +161,8 @@ module _ (m : List ℕ) (s : State) where
         products = λ i b. not-true _ (all-below _ _ i (fields .0) b);
         lookupCodes = λ i b. not-true _ (all-below _ _ i (fields .1) b);
         once = λ i b. eqb-true _ 1 (all-below _ _ i once b);
-        freeLast = eqb-true _ _ freeLast;
-        globalLasts = lasts-true globalQueuesAt (s .engine .global) globalLasts;
-        laneLasts = λ i b. lasts-true (laneAddress (sizes m) i + queuesAt) (laneAt (s .engine) i .queues) (all-below _ _ i laneLasts b);
+        lasts = agree-true last lastOffset lasts;
+        lengths = agree-true length lengthOffset lengths;
         onChain = λ k b x c. eqb-true _ k (all-count _ (getD (s .table .chains) k []) (all-below _ _ k chains b) x c);
         codes = codes;
         snapshotsRest =

@@ -6,27 +6,27 @@ use mathlib.Core.Bool.{Bool, true, false, not, cond, _&&_, _||_}
 use mathlib.Core.List.{List, [], _∷_}
 use native.Mathlib.Omega.{arith}
 use native.Mathlib.Decide.{decLt}
-use lib.ListN.{getD}
+use lib.ListN.{length, getD}
 use lib.Dec.{eqb, ltb}
 use borrow.Author.Tests.{eq-eqb, eqb-true, lt-ltb, not-false}
 use Rattle.model.specs.Word.{none, up, down, later}
-use Rattle.model.specs.Lists.{every, isEmpty, concat, count, member}
+use Rattle.model.specs.Lists.{every, isEmpty, last, concat, count, member}
 use Rattle.model.specs.State.{isRunning, isHeld, Queues, Lane, State}
-use Rattle.model.specs.Layout.{lastOffset, currentOffset, doneOffset, cabinetMaskAt, headsAt, freeAt, globalQueuesAt, lookupBit, snapshotBit}
-use Rattle.model.specs.Layout.{flagCount, flagsAt, snapshotAt, queuesAt, lookupAt, positionAt, chainLinkAt, queueLinkAt, laneAddress}
+use Rattle.model.specs.Layout.{lastOffset, lengthOffset, currentOffset, doneOffset, cabinetMaskAt, headsAt, freeAt, globalQueuesAt, lookupBit}
+use Rattle.model.specs.Layout.{snapshotBit, flagCount, flagsAt, snapshotAt, queuesAt, lookupAt, positionAt, chainLinkAt, queueLinkAt, laneAddress}
 use Rattle.model.specs.Engine.{freshLane, laneAt}
 use Rattle.model.specs.Memory.{at, sizes, laneWord, slotWord, maskWord, allQueues, flag, isNotZero}
 use Rattle.model.specs.Legal.{implies, endsInRange, queuesInRange, flagsInRange, masksInRange, linkSentences, linksInRange, fieldsInRange, standsOnce}
-use Rattle.model.specs.Legal.{lastsAgree, onTheirChains, noCodeTwice, snapshotsAtRest, lookupsAtRest, generationAtRest, generationsAtRest}
-use Rattle.model.specs.Legal.{queueLinksAtRest, noneQueued, offLanes, lookupsInSections, snapshotsPending, cabinetBits, freeBlank, laneGenerationFits}
+use Rattle.model.specs.Legal.{agreesAt, queuesAgree, lastsAgree, lengthsAgree, onTheirChains, noCodeTwice, snapshotsAtRest, lookupsAtRest}
+use Rattle.model.specs.Legal.{generationAtRest, generationsAtRest, queueLinksAtRest, noneQueued, offLanes, lookupsInSections, snapshotsPending, cabinetBits, freeBlank, laneGenerationFits}
 use Rattle.model.specs.Legal.{globalGenerationFits, periodRuns, largestAgrees, laneGenerations, globalGeneration, sentences}
 use Rattle.laws.specs.Tests.{_&_, and-true, and-intro, or-left, or-right, or-else-intro, Every, every-intro}
 use Rattle.laws.specs.Tests.{all-from-intro, all-below-intro, all-getD-intro, same, other, decide}
 use Rattle.laws.specs.Counts.{all-count-intro, member-true}
 use Rattle.representation.proofs.ExtraWords.{extra-hold}
 use Rattle.representation.proofs.Sentences.Ranges.{slotOrNone-intro}
-use Rattle.representation.proofs.Sentences.Facts.{EndsInRange, QueuesInRange, LookupRest, Bare, Near, NearGlobal, Facts}
-use Rattle.representation.proofs.Sentences.FactsSaid.{implies-intro, lasts-intro}
+use Rattle.representation.proofs.Sentences.Facts.{EndsInRange, QueuesInRange, AgreeAt, Agree, LookupRest, Bare, Near, NearGlobal, Facts}
+use Rattle.representation.proofs.Sentences.FactsSaid.{implies-intro}
 
 module _ (m : List ℕ) (s : State) where
   bare-intro : (l : Lane) → Bare l → (not (l .reading) && noneQueued (l .queues) && not (l .pending)) ≡ true
@@ -103,17 +103,19 @@ module _ (m : List ℕ) (s : State) where
       & all-below-intro _ _ (λ i b. slotOrNone-intro (sizes m .slots) (slotWord m queueLinkAt i) (f .queueLinks i b))
       & tt)
 
-  lasts-hold : Facts m s → lastsAgree m s ≡ true
-  unfolding lastsAgree
-  lasts-hold f =
+  agreeAt-intro : (g : List ℕ → ℕ) (o a : ℕ) (q : Queues) → AgreeAt m g o a q → agreesAt m g o a q ≡ true
+  agreeAt-intro g o a q l = every-intro _ (eq-eqb _ _ (l .next) & eq-eqb _ _ (l .current) & eq-eqb _ _ (l .done) & tt)
+
+  agree-intro : (g : List ℕ → ℕ) (o : ℕ) → Agree m s g o → queuesAgree m g o s ≡ true
+  agree-intro g o l =
       every-intro _
-      (eq-eqb _ _ (f .freeLast)
-      & lasts-intro m s globalQueuesAt (s .engine .global) (f .globalLasts)
-      & all-below-intro _ _ (λ i b. lasts-intro m s (laneAddress (sizes m) i + queuesAt) (laneAt (s .engine) i .queues) (f .laneLasts i b))
+      (eq-eqb _ _ (l .free)
+      & agreeAt-intro g o globalQueuesAt (s .engine .global) (l .global)
+      & all-below-intro _ _ (λ i b. agreeAt-intro g o (laneAddress (sizes m) i + queuesAt) (laneAt (s .engine) i .queues) (l .lanes i b))
       & tt)
 
   pub sentences-hold : Facts m s → Every (sentences m s)
-  unfolding flagsInRange masksInRange fieldsInRange standsOnce onTheirChains noCodeTwice snapshotsAtRest lookupsAtRest generationsAtRest queueLinksAtRest
+  unfolding flagsInRange masksInRange fieldsInRange standsOnce lastsAgree lengthsAgree onTheirChains noCodeTwice snapshotsAtRest lookupsAtRest generationsAtRest queueLinksAtRest
       offLanes lookupsInSections snapshotsPending cabinetBits freeBlank largestAgrees laneGenerations globalGeneration
   sentences-hold f =
       all-below-intro _ _ (λ i b. lt-ltb (laneWord m i flagsAt) (2 ^ flagCount) (f .flags i b))
@@ -122,7 +124,8 @@ module _ (m : List ℕ) (s : State) where
       & links-hold f
       & and-intro _ _ (all-below-intro _ _ (λ i b. ap not (f .products i b))) (all-below-intro _ _ (λ i b. ap not (f .lookupCodes i b)))
       & all-below-intro _ _ (λ i b. eq-eqb _ 1 (f .once i b))
-      & lasts-hold f
+      & agree-intro last lastOffset (f .lasts)
+      & agree-intro length lengthOffset (f .lengths)
       & all-below-intro _ _ (λ k b. all-count-intro _ (getD (s .table .chains) k []) (λ x c. eq-eqb _ k (f .onChain k b x c)))
       & f .codes
       & all-below-intro _ _ (λ i b. or-else-intro (flag snapshotBit (laneWord m i flagsAt)) _

@@ -6,7 +6,7 @@ use Rattle.model.specs.Lists.{first, last, mask, bit}
 use Rattle.model.specs.State.{isRunning, isHeld}
 use Rattle.model.specs.Layout.{flagsAt, queuesAt, positionAt}
 use Rattle.model.specs.Memory.{laneWords, flags, snapshotCount, lookupCode, lookupPosition}
-use Rattle.set_up.specs.FreshWords.{freshLaneWords}
+use Rattle.set_up.specs.FreshWords.{emptyQueues, freshLaneWords}
 use Rattle.set_up.proofs.WrittenLaws.{inside, renamed}
 use Rattle.set_up.proofs.write_lane.Statement.{statement}
 use Rattle.set_up.proofs.write_lane.Tie as tie
@@ -17,32 +17,32 @@ fill-requires c κs = search needs
 fill-requires-2 : tie.Need-fill-requires-2
 fill-requires-2 c κs = search needs
 
+add-write-queues : tie.Need-add-write-queues
+add-write-queues c = search needs
+
+write-queues-requires : tie.Need-write-queues-requires
+write-queues-requires c κs = search needs
+
 add-fill : tie.Need-add-fill
 add-fill c = search needs
 
 fill-requires-3 : tie.Need-fill-requires-3
 fill-requires-3 c κs = search needs
 
-add-fill-2 : tie.Need-add-fill-2
-add-fill-2 c = search needs
-
-fill-requires-4 : tie.Need-fill-requires-4
-fill-requires-4 c κs = search needs
-
 same-length : tie.Need-same-length
 same-length c = search needs
 
 returns : tie.Need-returns
-unfolding freshLaneWords laneWords flags mask bit snapshotCount lookupCode lookupPosition first last isRunning isHeld
+unfolding emptyQueues freshLaneWords laneWords flags mask bit snapshotCount lookupCode lookupPosition first last isRunning isHeld
 returns c =
-    let at-fill4 : tie.After-fill4 = search in
     let at-fill3 : tie.After-fill3 = search in
+    let at-write-queues : tie.After-write-queues = search in
     let at-fill2 : tie.After-fill2 = search in
     let at-fill : tie.After-fill = search in
     renamed (inside positionAt (inside queuesAt (inside flagsAt (at-fill .fill .ensures)
     (at-fill2 .fill2 .ensures) (omega arith) (omega arith))
-    (at-fill3 .fill3 .ensures) refl (omega arith))
-    (at-fill4 .fill4 .ensures) refl (omega arith)) refl
+    (at-write-queues .write-queues .ensures) refl (omega arith))
+    (at-fill3 .fill3 .ensures) refl (omega arith)) refl
 
 pub write-lane-spec : {M : Type 1} → statement M
 write-lane-spec =
@@ -50,9 +50,9 @@ write-lane-spec =
     (tie.spec
     fill-requires
     fill-requires-2
+    add-write-queues
+    write-queues-requires
     add-fill
     fill-requires-3
-    add-fill-2
-    fill-requires-4
     same-length
     returns)

@@ -1,4 +1,4 @@
--- The loop's invariant: the slots from cur on lead where all lead, and their last is that of all (`Queueing`). The measure: the slots that have no mark.
+-- The loop's invariant: the slots from cur on lead where all lead, and their last and number are those of all (`Queueing`). The measure: the slots that have no mark.
 use Prim.Native.Nat.{_-_}
 use mathlib.Core.Path.{_≡_, refl}
 use native.Mathlib.Omega.{arith}
@@ -11,7 +11,7 @@ use Rattle.slot_places.proofs.queue.walk_queue.Tie as tie
 
 abbrev Inv-loop : tie.InvT-loop
 Inv-loop m base slots at free left marks₀ cur₀ last₀ rest₀ marks cur last rest =
-    Queueing m base slots free at marks₀ cur marks last rest × (length marks ≡ length marks₀)
+    Queueing m base slots free at marks₀ left cur marks last rest × (length marks ≡ length marks₀)
 
 abbrev μ-loop : tie.MeasureT-loop
 μ-loop m base slots at free left marks₀ cur₀ last₀ rest₀ marks cur last rest =
@@ -44,7 +44,7 @@ returns : tie.Need-returns Inv-loop μ-loop
 returns c =
     let at-loop-test : tie.In-loop Inv-loop μ-loop = search in
     let at-loop : tie.At-loop Inv-loop μ-loop = search in
-    queue-twice _ _ _ _ _ _ _ _ _ _ (at-loop .loop .inv .0) (at-loop-test .loop-test .taken) (c .if1 .taken)
+    queue-twice _ _ _ _ _ _ _ _ _ _ _ (at-loop .loop .inv .0) (at-loop-test .loop-test .taken) (c .if1 .taken)
 
 mul-queued-fits : tie.Need-mul-queued-fits Inv-loop μ-loop
 mul-queued-fits c = search needs
@@ -64,7 +64,7 @@ returns-2 c =
     let at-if1 : tie.Else1 Inv-loop μ-loop = search in
     let at-loop-test : tie.In-loop Inv-loop μ-loop = search in
     let at-loop : tie.At-loop Inv-loop μ-loop = search in
-    queue-unfit _ _ _ _ _ _ _ _ _ _ (at-loop .loop .inv .0) (at-loop-test .loop-test .taken) (at-if1 .if1 .left) _ (at-queued-fits .queued-fits .ensures)
+    queue-unfit _ _ _ _ _ _ _ _ _ _ _ (at-loop .loop .inv .0) (at-loop-test .loop-test .taken) (at-if1 .if1 .left) _ (at-queued-fits .queued-fits .ensures)
     (not-true _ (c .if2 .taken))
 
 slice-write-marks : tie.Need-slice-write-marks Inv-loop μ-loop
@@ -75,7 +75,7 @@ sub-rest c =
     let at-if1 : tie.Else1 Inv-loop μ-loop = search in
     let at-loop-test : tie.In-loop Inv-loop μ-loop = search in
     let at-loop : tie.At-loop Inv-loop μ-loop = search in
-    omega (arith, queue-less _ _ _ _ _ _ _ _ _ _ (at-loop .loop .inv .0) (at-loop-test .loop-test .taken) (at-if1 .if1 .left))
+    omega (arith, queue-less _ _ _ _ _ _ _ _ _ _ _ (at-loop .loop .inv .0) (at-loop-test .loop-test .taken) (at-if1 .if1 .left))
 
 mul-cur-2 : tie.Need-mul-cur-2 Inv-loop μ-loop
 mul-cur-2 c = search needs
@@ -97,7 +97,7 @@ loop-less c =
     let at-if1 : tie.Else1 Inv-loop μ-loop = search in
     let at-loop-test : tie.In-loop Inv-loop μ-loop = search in
     let at-loop : tie.At-loop Inv-loop μ-loop = search in
-    queue-less _ _ _ _ _ _ _ _ _ _ (at-loop .loop .inv .0) (at-loop-test .loop-test .taken) (at-if1 .if1 .left)
+    queue-less _ _ _ _ _ _ _ _ _ _ _ (at-loop .loop .inv .0) (at-loop-test .loop-test .taken) (at-if1 .if1 .left)
 
 loop-again : tie.Need-loop-again Inv-loop μ-loop
 loop-again c =
@@ -106,7 +106,7 @@ loop-again c =
     let at-if1 : tie.Else1 Inv-loop μ-loop = search in
     let at-loop-test : tie.In-loop Inv-loop μ-loop = search in
     let at-loop : tie.At-loop Inv-loop μ-loop = search in (
-      queue-on _ _ _ _ _ _ _ _ _ _ (at-loop .loop .inv .0) (at-loop-test .loop-test .taken) (at-if1 .if1 .left) _ (at-queued-fits .queued-fits .ensures)
+      queue-on _ _ _ _ _ _ _ _ _ _ _ (at-loop .loop .inv .0) (at-loop-test .loop-test .taken) (at-if1 .if1 .left) _ (at-queued-fits .queued-fits .ensures)
           (not-false _ (at-if2 .if2 .left)) _ refl,
       search needs,
     )
@@ -118,7 +118,7 @@ returns-3 : tie.Need-returns-3 Inv-loop μ-loop
 returns-3 c =
     let at-loop : tie.At-loop Inv-loop μ-loop = search in
     let after : tie.After-loop Inv-loop μ-loop = search in
-    queue-astray _ _ _ _ _ _ _ _ _ _ (at-loop .loop .inv .0) (after .loop-test .left) (c .if3 .taken)
+    queue-astray _ _ _ _ _ _ _ _ _ _ _ (at-loop .loop .inv .0) (after .loop-test .left) (c .if3 .taken)
 
 same-length-4 : tie.Need-same-length-4 Inv-loop μ-loop
 same-length-4 c = search needs
@@ -128,7 +128,7 @@ returns-4 c =
     let at-loop : tie.At-loop Inv-loop μ-loop = search in
     let after : tie.After-loop Inv-loop μ-loop = search in
     let at-if3 : tie.Else3 Inv-loop μ-loop = search in
-    queue-done _ _ _ _ _ _ _ _ _ _ (at-loop .loop .inv .0) (after .loop-test .left) (at-if3 .if3 .left)
+    queue-done _ _ _ _ _ _ _ _ _ _ _ (at-loop .loop .inv .0) (after .loop-test .left) (at-if3 .if3 .left)
 
 pub walk-queue-spec : {M : Type 1} → statement M
 walk-queue-spec =
