@@ -17,9 +17,9 @@ use Rattle.laws.specs.ListLaws.{length-update}
 use Rattle.laws.specs.Stores.{getD-sets-below, map-sets, sets-same}
 use Rattle.masks.proofs.BitLaws.{withBit-mask, withoutBit-mask}
 use Rattle.lanes.proofs.Offsets.{plus-after}
-use Rattle.lanes.specs.Record.{endsAt, endsWords, lookupWordsAt, lookupWords, recordAt, recordWith, recordWords, recordLength}
+use Rattle.lanes.specs.Record.{queueAt, queueWords, lookupWordsAt, lookupWords, recordAt, recordWith, recordWords, recordLength}
 use Rattle.lanes.specs.Record.{recordStored, recordOf, withQuiescent, withSnapshot, countedRecord, sampledRecord, droppedRecord}
-use Rattle.lanes.specs.declared.Ends.{Ends}
+use Rattle.lanes.specs.declared.Queue.{Queue}
 use Rattle.lanes.specs.declared.Lookup.{Lookup}
 use Rattle.lanes.specs.declared.LaneRecord.{LaneRecord}
 
@@ -65,8 +65,8 @@ recordAt-recordStored m a r fits hq hs =
     ∙ recordAt-recordWords r hq hs
 
 -- a record is read part by part
-pub recordAt-parts : (m : List ℕ) (a : ℕ) (q s : List ℕ) (n c d : Ends) (l : Lookup) → q ≡ readCounts m (a + quiescentAt) → s ≡ readCounts m (a + snapshotAt)
-    → n ≡ endsAt m (a + queuesAt) → c ≡ endsAt m (a + queuesAt + currentOffset) → d ≡ endsAt m (a + queuesAt + doneOffset) → l ≡ lookupWordsAt m (a + lookupAt)
+pub recordAt-parts : (m : List ℕ) (a : ℕ) (q s : List ℕ) (n c d : Queue) (l : Lookup) → q ≡ readCounts m (a + quiescentAt) → s ≡ readCounts m (a + snapshotAt)
+    → n ≡ queueAt m (a + queuesAt) → c ≡ queueAt m (a + queuesAt + currentOffset) → d ≡ queueAt m (a + queuesAt + doneOffset) → l ≡ lookupWordsAt m (a + lookupAt)
     → recordWith m a q s n c d l ≡ recordAt m a
 unfolding recordAt
 recordAt-parts m a q s n c d l eq es en ec ed el = rw (eq, es, en, ec, ed, el)
@@ -75,9 +75,9 @@ recordAt-parts m a q s n c d l eq es en ec ed el = rw (eq, es, en, ec, ed, el)
 pub recordStored-parts : (m : List ℕ) (a : ℕ) (r : LaneRecord) (x y n c d l : List ℕ) → x ≡ sets (set m a (r .flags)) (a + quiescentAt)
     (readCounts (r .quiescent) 0)
     → y ≡ sets x (a + snapshotAt) (readCounts (r .snapshot) 0)
-    → n ≡ sets (set y (a + generationAt) (r .generation)) (a + queuesAt) (endsWords (r .next))
-    → c ≡ sets n (a + queuesAt + currentOffset) (endsWords (r .current))
-    → d ≡ sets c (a + queuesAt + doneOffset) (endsWords (r .done))
+    → n ≡ sets (set y (a + generationAt) (r .generation)) (a + queuesAt) (queueWords (r .next))
+    → c ≡ sets n (a + queuesAt + currentOffset) (queueWords (r .current))
+    → d ≡ sets c (a + queuesAt + doneOffset) (queueWords (r .done))
     → l ≡ sets d (a + lookupAt) (lookupWords (r .lookup))
     → l ≡ recordStored m a r
 unfolding recordWords

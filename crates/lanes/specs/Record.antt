@@ -12,18 +12,18 @@ use Rattle.model.specs.Layout.{countLimit, lastOffset, lengthOffset, currentOff
 use Rattle.model.specs.Layout.{generationAt, queuesAt, lookupAt, onlineBit, snapshotBit}
 use Rattle.model.specs.Memory.{at, flag, readCounts, laneWords}
 use Rattle.masks.specs.Bits.{withBit, withoutBit}
-use Rattle.lanes.specs.declared.Ends.{Ends}
+use Rattle.lanes.specs.declared.Queue.{Queue}
 use Rattle.lanes.specs.declared.Lookup.{Lookup}
 use Rattle.lanes.specs.declared.LaneRecord.{LaneRecord}
 
 -- ---- the record in its words
 
 -- a queue's words from a on
-abbrev pub endsAt : List ℕ → ℕ → Ends
-endsAt m a = record { first = at m a; last = at m (a + lastOffset); length = at m (a + lengthOffset) }
+abbrev pub queueAt : List ℕ → ℕ → Queue
+queueAt m a = record { first = at m a; last = at m (a + lastOffset); length = at m (a + lengthOffset) }
 
-abbrev pub endsWords : Ends → List ℕ
-endsWords e = e .first ∷ e .last ∷ e .length ∷ []
+abbrev pub queueWords : Queue → List ℕ
+queueWords e = e .first ∷ e .last ∷ e .length ∷ []
 
 -- a lookup from a on, and its words
 abbrev pub lookupWidth : ℕ
@@ -40,7 +40,7 @@ abbrev pub lookupWords : Lookup → List ℕ
 lookupWords l = l .low ∷ l .high ∷ l .position ∷ []
 
 -- a record of these parts, whose flags and generation stand in m from a on
-abbrev pub recordWith : List ℕ → ℕ → List ℕ → List ℕ → Ends → Ends → Ends → Lookup → LaneRecord
+abbrev pub recordWith : List ℕ → ℕ → List ℕ → List ℕ → Queue → Queue → Queue → Lookup → LaneRecord
 recordWith m a q s n c d l =
     record {
       flags = at m a;
@@ -56,8 +56,8 @@ recordWith m a q s n c d l =
 -- the record that stands in m from a on
 unfoldable pub recordAt : List ℕ → ℕ → LaneRecord
 recordAt m a =
-    recordWith m a (readCounts m (a + quiescentAt)) (readCounts m (a + snapshotAt)) (endsAt m (a + queuesAt)) (endsAt m (a + queuesAt + currentOffset))
-    (endsAt m (a + queuesAt + doneOffset))
+    recordWith m a (readCounts m (a + quiescentAt)) (readCounts m (a + snapshotAt)) (queueAt m (a + queuesAt)) (queueAt m (a + queuesAt + currentOffset))
+    (queueAt m (a + queuesAt + doneOffset))
     (lookupWordsAt m (a + lookupAt))
 
 -- its words

@@ -8,7 +8,7 @@ ghost use Rattle.model.specs.Word.{upTo};
 ghost use Rattle.model.specs.Lists.{update};
 ghost use Rattle.model.specs.Layout.{kinds, countLimit, queueWidth, laneLength};
 ghost use Rattle.model.specs.Memory.{readCounts};
-ghost use Rattle.lanes.specs.Record.{lookupWidth, endsAt, endsWords, lookupWordsAt, lookupWords};
+ghost use Rattle.lanes.specs.Record.{lookupWidth, queueAt, queueWords, lookupWordsAt, lookupWords};
 ghost use Rattle.lanes.specs.Record.{recordAt, recordStored, countedRecord, sampledRecord, droppedRecord, offlineRecord};
 ghost use Rattle.lanes.specs.Record.{sameCounts, isHolding, movedOn};
 ghost use Rattle.lanes.specs.RecordChanges.{Fits, changedRecord};
@@ -16,7 +16,7 @@ ghost use Rattle.lanes.specs.RecordChanges.{Fits, changedRecord};
 pub mod cabinet;
 
 // The words of a queue: its first slot, its last, and how many there are.
-pub struct Ends {
+pub struct Queue {
     pub first: u32,
     pub last: u32,
     pub length: u32,
@@ -36,9 +36,9 @@ pub struct LaneRecord {
     pub quiescent: [u32; 4],
     pub snapshot: [u32; 4],
     pub generation: u32,
-    pub next: Ends,
-    pub current: Ends,
-    pub done: Ends,
+    pub next: Queue,
+    pub current: Queue,
+    pub done: Queue,
     pub lookup: Lookup,
 }
 
@@ -71,11 +71,11 @@ pub fn write_counts(m: &mut [u32], at: usize, counts: [u32; 4])
 }
 
 // A queue's words that stand from at on.
-fn read_ends(m: &[u32], at: usize) -> Ends
+fn read_queue(m: &[u32], at: usize) -> Queue
     requires { ⌜ at + queueWidth ≤ length (now m) ⌝ }
-    ensures { λ r. ⌜ r ≡ endsAt (now (m .entry)) at ⌝ }
+    ensures { λ r. ⌜ r ≡ queueAt (now (m .entry)) at ⌝ }
 {
-    Ends {
+    Queue {
         first: m[at],
         last: m[at + words::LAST_OFFSET],
         length: m[at + words::LENGTH_OFFSET],
@@ -83,13 +83,13 @@ fn read_ends(m: &[u32], at: usize) -> Ends
 }
 
 // Writes a queue's words from at on. All other words stay.
-fn write_ends(m: &mut [u32], at: usize, ends: Ends)
+fn write_queue(m: &mut [u32], at: usize, queue: Queue)
     requires { ⌜ at + queueWidth ≤ length (now m) ⌝ }
-    ensures { λ _. ⌜ now (m .exit) ≡ sets (now (m .entry)) at (endsWords ends) ⌝ }
+    ensures { λ _. ⌜ now (m .exit) ≡ sets (now (m .entry)) at (queueWords queue) ⌝ }
 {
-    m[at] = ends.first;
-    m[at + words::LAST_OFFSET] = ends.last;
-    m[at + words::LENGTH_OFFSET] = ends.length;
+    m[at] = queue.first;
+    m[at + words::LAST_OFFSET] = queue.last;
+    m[at + words::LENGTH_OFFSET] = queue.length;
 }
 
 // The lookup that stands from at on.
@@ -125,9 +125,9 @@ pub fn read_lane(m: &[u32], at: usize) -> LaneRecord
         quiescent: read_counts(m, at + words::QUIESCENT_AT),
         snapshot: read_counts(m, at + words::SNAPSHOT_AT),
         generation: m[at + words::GENERATION_AT],
-        next: read_ends(m, queues),
-        current: read_ends(m, queues + words::CURRENT_OFFSET),
-        done: read_ends(m, queues + words::DONE_OFFSET),
+        next: read_queue(m, queues),
+        current: read_queue(m, queues + words::CURRENT_OFFSET),
+        done: read_queue(m, queues + words::DONE_OFFSET),
         lookup: read_lookup(m, at + words::LOOKUP_AT),
     }
 }
@@ -148,9 +148,9 @@ pub fn write_lane(m: &mut [u32], at: usize, r: LaneRecord)
     write_counts(m, at + words::QUIESCENT_AT, quiescent);
     write_counts(m, at + words::SNAPSHOT_AT, snapshot);
     m[at + words::GENERATION_AT] = r.generation;
-    write_ends(m, queues, next);
-    write_ends(m, queues + words::CURRENT_OFFSET, current);
-    write_ends(m, queues + words::DONE_OFFSET, done);
+    write_queue(m, queues, next);
+    write_queue(m, queues + words::CURRENT_OFFSET, current);
+    write_queue(m, queues + words::DONE_OFFSET, done);
     write_lookup(m, at + words::LOOKUP_AT, lookup);
 }
 

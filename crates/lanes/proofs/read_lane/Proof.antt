@@ -34,20 +34,20 @@ mul-t12 c = search needs
 shared-slice-read-t14 : tie.Need-shared-slice-read-t14
 shared-slice-read-t14 c = search needs
 
-read-ends-requires : tie.Need-read-ends-requires
-read-ends-requires c κs = search needs
+read-queue-requires : tie.Need-read-queue-requires
+read-queue-requires c κs = search needs
 
-add-read-ends : tie.Need-add-read-ends
-add-read-ends c = search needs
+add-read-queue : tie.Need-add-read-queue
+add-read-queue c = search needs
 
-read-ends-requires-2 : tie.Need-read-ends-requires-2
-read-ends-requires-2 c κs = search needs
+read-queue-requires-2 : tie.Need-read-queue-requires-2
+read-queue-requires-2 c κs = search needs
 
-add-read-ends-2 : tie.Need-add-read-ends-2
-add-read-ends-2 c = search needs
+add-read-queue-2 : tie.Need-add-read-queue-2
+add-read-queue-2 c = search needs
 
-read-ends-requires-3 : tie.Need-read-ends-requires-3
-read-ends-requires-3 c κs = search needs
+read-queue-requires-3 : tie.Need-read-queue-requires-3
+read-queue-requires-3 c κs = search needs
 
 add-read-lookup : tie.Need-add-read-lookup
 add-read-lookup c = search needs
@@ -72,11 +72,11 @@ read-lane-spec =
     add-t11
     mul-t12
     shared-slice-read-t14
-    read-ends-requires
-    add-read-ends
-    read-ends-requires-2
-    add-read-ends-2
-    read-ends-requires-3
+    read-queue-requires
+    add-read-queue
+    read-queue-requires-2
+    add-read-queue-2
+    read-queue-requires-3
     add-read-lookup
     read-lookup-requires
     returns)

@@ -62,65 +62,65 @@ slice-write-m-2 c =
     let second : tie.After-write-counts2 = search in
     omega (arith, room second)
 
-write-ends-requires : tie.Need-write-ends-requires
-write-ends-requires c κs =
+write-queue-requires : tie.Need-write-queue-requires
+write-queue-requires c κs =
     let second : tie.After-write-counts2 = search in
     simp length-set (omega (arith, room second))
 
-add-write-ends : tie.Need-add-write-ends
-add-write-ends c = search needs
+add-write-queue : tie.Need-add-write-queue
+add-write-queue c = search needs
 
-write-ends-requires-2 : tie.Need-write-ends-requires-2
-write-ends-requires-2 c κs =
-    let third : tie.After-write-ends = search in
+write-queue-requires-2 : tie.Need-write-queue-requires-2
+write-queue-requires-2 c κs =
+    let third : tie.After-write-queue = search in
     let second : tie.After-write-counts2 = search in
-    let e : length (third .write-ends .last .0) ≡ length (second .write-counts2 .last .0) = third .write-ends .kept .0 ∙ simp length-set in
+    let e : length (third .write-queue .last .0) ≡ length (second .write-counts2 .last .0) = third .write-queue .kept .0 ∙ simp length-set in
     omega (arith, room second, e)
 
-add-write-ends-2 : tie.Need-add-write-ends-2
-add-write-ends-2 c = search needs
+add-write-queue-2 : tie.Need-add-write-queue-2
+add-write-queue-2 c = search needs
 
-write-ends-requires-3 : tie.Need-write-ends-requires-3
-write-ends-requires-3 c κs =
-    let fourth : tie.After-write-ends2 = search in
-    let third : tie.After-write-ends = search in
+write-queue-requires-3 : tie.Need-write-queue-requires-3
+write-queue-requires-3 c κs =
+    let fourth : tie.After-write-queue2 = search in
+    let third : tie.After-write-queue = search in
     let second : tie.After-write-counts2 = search in
-    let e : length (third .write-ends .last .0) ≡ length (second .write-counts2 .last .0) = third .write-ends .kept .0 ∙ simp length-set in
-    omega (arith, room second, e, fourth .write-ends2 .kept .0)
+    let e : length (third .write-queue .last .0) ≡ length (second .write-counts2 .last .0) = third .write-queue .kept .0 ∙ simp length-set in
+    omega (arith, room second, e, fourth .write-queue2 .kept .0)
 
 add-write-lookup : tie.Need-add-write-lookup
 add-write-lookup c = search needs
 
 write-lookup-requires : tie.Need-write-lookup-requires
 write-lookup-requires c κs =
-    let fifth : tie.After-write-ends3 = search in
-    let fourth : tie.After-write-ends2 = search in
-    let third : tie.After-write-ends = search in
+    let fifth : tie.After-write-queue3 = search in
+    let fourth : tie.After-write-queue2 = search in
+    let third : tie.After-write-queue = search in
     let second : tie.After-write-counts2 = search in
-    let e : length (third .write-ends .last .0) ≡ length (second .write-counts2 .last .0) = third .write-ends .kept .0 ∙ simp length-set in
-    omega (arith, room second, e, fourth .write-ends2 .kept .0, fifth .write-ends3 .kept .0)
+    let e : length (third .write-queue .last .0) ≡ length (second .write-counts2 .last .0) = third .write-queue .kept .0 ∙ simp length-set in
+    omega (arith, room second, e, fourth .write-queue2 .kept .0, fifth .write-queue3 .kept .0)
 
 same-length : tie.Need-same-length
 same-length c =
     let sixth : tie.After-write-lookup = search in
-    let fifth : tie.After-write-ends3 = search in
-    let fourth : tie.After-write-ends2 = search in
-    let third : tie.After-write-ends = search in
+    let fifth : tie.After-write-queue3 = search in
+    let fourth : tie.After-write-queue2 = search in
+    let third : tie.After-write-queue = search in
     let second : tie.After-write-counts2 = search in
-    let e : length (third .write-ends .last .0) ≡ length (second .write-counts2 .last .0) = third .write-ends .kept .0 ∙ simp length-set in
-    sixth .write-lookup .kept .0 ∙ fifth .write-ends3 .kept .0 ∙ fourth .write-ends2 .kept .0 ∙ e ∙ same-second second
+    let e : length (third .write-queue .last .0) ≡ length (second .write-counts2 .last .0) = third .write-queue .kept .0 ∙ simp length-set in
+    sixth .write-lookup .kept .0 ∙ fifth .write-queue3 .kept .0 ∙ fourth .write-queue2 .kept .0 ∙ e ∙ same-second second
 
 returns : tie.Need-returns
 returns c =
     let sixth : tie.After-write-lookup = search in
-    let fifth : tie.After-write-ends3 = search in
-    let fourth : tie.After-write-ends2 = search in
-    let third : tie.After-write-ends = search in
+    let fifth : tie.After-write-queue3 = search in
+    let fourth : tie.After-write-queue2 = search in
+    let third : tie.After-write-queue = search in
     let second : tie.After-write-counts2 = search in
     let first : tie.After-write-counts = search in
     let entry = entry-first first in
     recordStored-parts (now (entry .args .m)) (entry .args .at) (entry .args .r) _ _ _ _ _ _ (first .write-counts .ensures) (second .write-counts2 .ensures)
-    (third .write-ends .ensures) (fourth .write-ends2 .ensures) (fifth .write-ends3 .ensures) (sixth .write-lookup .ensures)
+    (third .write-queue .ensures) (fourth .write-queue2 .ensures) (fifth .write-queue3 .ensures) (sixth .write-lookup .ensures)
 
 pub write-lane-spec : {M : Type 1} → statement M
 write-lane-spec =
@@ -136,11 +136,11 @@ write-lane-spec =
     add-m
     mul-m-2
     slice-write-m-2
-    write-ends-requires
-    add-write-ends
-    write-ends-requires-2
-    add-write-ends-2
-    write-ends-requires-3
+    write-queue-requires
+    add-write-queue
+    write-queue-requires-2
+    add-write-queue-2
+    write-queue-requires-3
     add-write-lookup
     write-lookup-requires
     same-length

@@ -3,8 +3,8 @@ use native.Mathlib.Omega.{arith}
 use lib.ListN.{length-set}
 use native.Mathlib.Numerals.{unary-clauses}
 use borrow.Author.Needs.{needs}
-use Rattle.lanes.proofs.write_ends.Statement.{statement}
-use Rattle.lanes.proofs.write_ends.Tie as tie
+use Rattle.lanes.proofs.write_queue.Statement.{statement}
+use Rattle.lanes.proofs.write_queue.Tie as tie
 
 mul-m : tie.Need-mul-m
 mul-m c = search needs
@@ -36,8 +36,8 @@ same-length c = search needs
 returns : tie.Need-returns
 returns c = simp unary-clauses
 
-pub write-ends-spec : {M : Type 1} → statement M
-write-ends-spec =
+pub write-queue-spec : {M : Type 1} → statement M
+write-queue-spec =
     tie.close
     (tie.spec
     mul-m
