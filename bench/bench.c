@@ -22,7 +22,7 @@
 #include "layout.h"
 #include "reference.h"
 
-enum { WORDS = 7456, ANSWER = 5, ROUNDS = 200, ROUND_NANOSECONDS = 200000, CHANGES = 64, CODES = 1025 };
+enum { WORDS = PT_WORDS(PT_MAX_CABINETS, PT_MAX_LANES, PT_MAX_SLOTS), ANSWER = PT_ANSWER_WORDS, ROUNDS = 200, ROUND_NANOSECONDS = 200000, CHANGES = 64, CODES = 1025 };
 
 /*
  * How the slots of a table are used; the last ones have codes that the check's spreading function puts into one cell,
@@ -261,7 +261,7 @@ static uint32_t follow(uint32_t at, uint32_t field, uint32_t slots)
 
 	while (at < slots) {
 		sum += at;
-		at = memory[field + 6 * at];
+		at = memory[field + SLOT_WORDS * at];
 	}
 	return sum;
 }
@@ -269,24 +269,25 @@ static uint32_t follow(uint32_t at, uint32_t field, uint32_t slots)
 /* Every word once, every link once. */
 static uint32_t plain(void)
 {
-	uint32_t lanes = memory[1] * memory[2];
-	uint32_t slots = memory[3];
-	uint32_t lane = memory[8];
-	uint32_t base = memory[10];
+	uint32_t lanes = memory[CONTENTS_CABINETS] * memory[CONTENTS_LANES];
+	uint32_t slots = memory[CONTENTS_SLOTS];
+	uint32_t global = memory[CONTENTS_BODIES + 2 * BODY_GLOBAL];
+	uint32_t lane = memory[CONTENTS_BODIES + 2 * BODY_LANES];
+	uint32_t base = memory[CONTENTS_BODIES + 2 * BODY_SLOTS];
 	uint32_t sum = 0;
 	uint32_t n;
 	size_t i;
 
 	for (i = 0; i < total; i++)
 		sum += memory[i];
-	for (n = 0; n < 64; n++)
-		sum += follow(memory[15 + n], base + 4, slots);
-	for (n = 0; n < 4; n++)
-		sum += follow(memory[79 + 2 * n], base + 5, slots);
-	for (n = 0; n < lanes; n++) {
-		sum += follow(memory[lane + 19 * n + 10], base + 5, slots);
-		sum += follow(memory[lane + 19 * n + 12], base + 5, slots);
-		sum += follow(memory[lane + 19 * n + 14], base + 5, slots);
+	for (n = 0; n < CHAINS; n++)
+		sum += follow(memory[global + GLOBAL_CHAINS + n], base + SLOT_CHAIN_LINK, slots);
+	for (n = GLOBAL_FREE; n <= GLOBAL_DONE; n += QUEUE_WORDS)
+		sum += follow(memory[global + n + QUEUE_FIRST], base + SLOT_QUEUE_LINK, slots);
+	for (n = 0; n < lanes; n++, lane += LANE_WORDS) {
+		sum += follow(memory[lane + LANE_NEXT + QUEUE_FIRST], base + SLOT_QUEUE_LINK, slots);
+		sum += follow(memory[lane + LANE_CURRENT + QUEUE_FIRST], base + SLOT_QUEUE_LINK, slots);
+		sum += follow(memory[lane + LANE_DONE + QUEUE_FIRST], base + SLOT_QUEUE_LINK, slots);
 	}
 	return sum;
 }

@@ -72,7 +72,7 @@ static void take_bottle(uint32_t lane, const char *label, size_t bytes, uint32_t
 static void pass_and_clock(uint32_t lane)
 {
 	expect("pass: a bottle was dropped", pt_pass(LENT, lane, PT_BOTTLE_DROPPED), PT_OK);
-	expect("clock: current, largest, whether one runs", pt_clock(LENT, lane), PT_OK);
+	expect("clock: current, largest, runs, slots moved", pt_clock(LENT, lane), PT_OK);
 }
 
 int main(void)
@@ -102,7 +102,8 @@ int main(void)
 	expect("step is refused: no lookup is running", pt_step(LENT, 1), PT_NO_LOOKUP);
 	pass_and_clock(1);
 
-	say("Lane 0's next clock moves the slot to its done queue, and it is handed back.");
+	say("Lane 0's next clock moves the slot to its done queue, and says so: its last number is how\n"
+		"many it moved. The slot is handed back.");
 	expect("clock of lane 0", pt_clock(LENT, 0), PT_OK);
 	expect("hand_back: the slot", pt_hand_back(LENT, 0), PT_OK);
 	expect("awaited: lanes, lowest, free, retired", pt_awaited(LENT), PT_OK);

@@ -187,13 +187,15 @@ def main(path):
     table("end", CUSTOMER)
     print_try(table, "step", CUSTOMER)
 
-    print("The lanes pass and make clocks until no slot is retired.")
+    print("The lanes pass and make clocks until no slot is retired. A display adds up what the clocks say they moved.")
+    moved = 0
     while print_slots(table):
         for lane in range(LANES):
             table("pass", lane, IDLE)
-            table("clock", lane)
+            moved += table("clock", lane)[3]
         for slot in hand_back_all(table, OFFICE):
             print(f"  slot {slot} is handed back")
+    print(f"  {moved} slots came to done queues")
 
     print("The memory is kept in a file overnight, and is another one in the morning: no word is a pointer.")
     with tempfile.TemporaryFile() as file:

@@ -28,8 +28,9 @@ uint32_t header_memory[PT_WORDS(PT_MAX_CABINETS, PT_MAX_LANES, PT_MAX_SLOTS)];
 uint32_t header_answer[PT_ANSWER_WORDS];
 uint8_t header_text[PT_LABEL_14];
 
-_Static_assert(sizeof header_memory / sizeof header_memory[0] == 7456, "full size");
-_Static_assert(PT_WORDS(1, 2, 3) == 145 && PT_WORDS(1, 1 + 1, 2 + 1) == 145, "total");
+_Static_assert(sizeof header_memory / sizeof header_memory[0] == 7652, "full size");
+_Static_assert(PT_WORDS(1, 2, 3) == 155 && PT_WORDS(1, 1 + 1, 2 + 1) == 155, "total");
+_Static_assert(PT_VERSION == 2, "version");
 _Static_assert(sizeof header_answer / sizeof header_answer[0] == 5, "answer");
 
 _Static_assert(PT_OK == 0 && PT_BAD_SIZE == 1 && PT_SHORT_MEMORY == 2 && PT_NOT_LEGAL == 3 &&

@@ -40,7 +40,8 @@ const header_calls header_calls_of_library = {
 
 uint32_t header_memory[PT_WORDS(PT_MAX_CABINETS, PT_MAX_LANES, PT_MAX_SLOTS)];
 
-static_assert(sizeof header_memory / sizeof header_memory[0] == 7456, "full size");
+static_assert(sizeof header_memory / sizeof header_memory[0] == 7652, "full size");
+static_assert(PT_VERSION == 2, "version");
 static_assert(PT_MAX_CODE == 99999999999999, "codes");
 static_assert(PT_WRONG_LABEL == 18, "refusals");
 static_assert(PT_LABEL_8 == 8 && PT_LABEL_13 == 13 && PT_LABEL_14 == 14, "labels");

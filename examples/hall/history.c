@@ -6,7 +6,9 @@
  * before the sections that were open at its removal had ended. A lookup that was dropped,
  * since the customer took the bottle back, had no answer and held nothing up. Every other one
  * was answered by step n + 1 of its lane, n being the records on the chain when it started,
- * whatever the office and the other lanes did meanwhile; some took as many.
+ * whatever the office and the other lanes did meanwhile; some took as many. After every call
+ * the fourth numbers of all clocks, which a display may add up, and the slots that offs
+ * brought to the global done queue are the slots in done queues and those handed back.
  *
  * A lane maker needs nothing of this file.
  */
@@ -25,9 +27,12 @@ struct event {
 	uint32_t answer[PT_ANSWER_WORDS];
 };
 
+enum { WORDS = PT_WORDS(CABINETS, LANES_OF_A_CABINET, SLOTS) };
+
 static struct event *events;
 static size_t length, room;
 static struct ledger ledger;
+static uint32_t memory[WORDS], before[WORDS]; /* the C version's, and as it was before the call */
 
 void history_note(const struct call *call, const uint32_t *answer)
 {
@@ -48,6 +53,7 @@ void history_note(const struct call *call, const uint32_t *answer)
 struct tally {
 	uint64_t accepted[CALLS], refused, mistyped, lookups[3], taken_back, periods;
 	uint64_t attained; /* lookups that step n + 1 answered, and none before it */
+	uint64_t moved[CALLS]; /* slots that clocks and offs brought to done queues */
 	uint64_t added[3]; /* by labels of 8, 13 and 14 digits */
 };
 
@@ -63,6 +69,7 @@ static void tally_event(struct tally *tally, const struct event *event, uint32_t
 		return;
 	}
 	tally->accepted[event->call.name]++;
+	tally->moved[event->call.name] += ledger_moved(&event->call, event->answer, before, memory);
 	if (event->call.name == CALL_ADD) {
 		uint64_t code = call_argument(&event->call, KIND_CODE, 0);
 
@@ -84,17 +91,15 @@ static bool takes_back(const struct event *event)
 }
 
 /* The fault of one call, on the C version's memory, or NULL. */
-static const char *judge_event(uint32_t *memory, const struct event *event)
+static const char *judge_event(const struct event *event)
 {
 	uint32_t answer[PT_ANSWER_WORDS];
-	const char *fault;
 
-	call_make(&reference, memory, PT_WORDS(CABINETS, LANES_OF_A_CABINET, SLOTS), answer,
-		PT_ANSWER_WORDS, &event->call);
+	memcpy(before, memory, sizeof before);
+	call_make(&reference, memory, WORDS, answer, PT_ANSWER_WORDS, &event->call);
 	if (memcmp(answer, event->answer, sizeof answer) != 0)
 		return "the C version answers otherwise";
-	fault = ledger_feed(&ledger, &event->call, event->answer);
-	return fault != NULL ? fault : ledger_kept(&ledger, memory);
+	return ledger_judge(&ledger, &event->call, event->answer, before, memory);
 }
 
 static void print_tally(const struct tally *tally)
@@ -107,13 +112,22 @@ static void print_tally(const struct tally *tally)
 	for (int name = 0; name < CALLS; name++)
 		printf(" %s %" PRIu64, call_forms[name].command, tally->accepted[name]);
 	printf(", refused %" PRIu64 ", %" PRIu64 " of them mistyped codes\n", tally->refused, tally->mistyped);
+	printf("hall: slots that came to done queues: %" PRIu64 " by clocks, as they say, and %" PRIu64
+		" by offs; handed back: %" PRIu64 "\n",
+		tally->moved[CALL_CLOCK], tally->moved[CALL_OFF], tally->accepted[CALL_HAND_BACK]);
 	printf("hall: added by labels of 8, 13 and 14 digits %" PRIu64 ", %" PRIu64 ", %" PRIu64 "\n",
 		tally->added[0], tally->added[1], tally->added[2]);
 }
 
+/* At the end, with no slot in a done queue: all that came there were handed back. */
+static bool all_back(const struct tally *tally)
+{
+	return tally->moved[CALL_CLOCK] > 0 &&
+		tally->moved[CALL_CLOCK] + tally->moved[CALL_OFF] == tally->accepted[CALL_HAND_BACK];
+}
+
 bool history_judge(void)
 {
-	static uint32_t memory[PT_WORDS(CABINETS, LANES_OF_A_CABINET, SLOTS)];
 	struct tally tally = { .refused = 0 };
 	uint32_t generation = 1;
 	const char *fault = NULL;
@@ -122,7 +136,7 @@ bool history_judge(void)
 	for (size_t n = 0; n < length && fault == NULL; n++) {
 		tally.taken_back += takes_back(&events[n]) ? 1 : 0;
 		tally.attained += ledger_attains(&ledger, &events[n].call, events[n].answer) ? 1 : 0;
-		fault = judge_event(memory, &events[n]);
+		fault = judge_event(&events[n]);
 		tally_event(&tally, &events[n], &generation);
 		if (fault != NULL)
 			printf( "hall: FAULT in call %zu, %s of lane %" PRIu64 ": %s\n", n,
@@ -132,13 +146,15 @@ bool history_judge(void)
 	print_tally(&tally);
 	if (fault == NULL)
 		printf("hall: %zu calls judged: one instant explains each answered lookup, step n + 1 answers it\n"
-			"hall: at the latest, finds were kept, no slot was handed back early, and the C version\n"
-			"hall: answers alike\n",
+			"hall: at the latest, finds were kept, no slot was handed back early, clocks' numbers add up,\n"
+			"hall: and the C version answers alike\n",
 			length);
 	if (tally.taken_back == 0)
 		printf("hall: NO bottle was taken back\n");
 	if (tally.attained == 0)
 		printf("hall: NO lookup took n + 1 steps\n");
+	if (!all_back(&tally))
+		printf("hall: NOT as many slots were handed back as came to done queues\n");
 	free(events);
-	return fault == NULL && tally.taken_back > 0 && tally.attained > 0;
+	return fault == NULL && tally.taken_back > 0 && tally.attained > 0 && all_back(&tally);
 }

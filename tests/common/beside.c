@@ -109,7 +109,7 @@ static enum difference make_tried(struct beside *beside)
 		outside_kept(left->answer, left->answer_words, beside->at_start) ? SAME : DIFFERS_OUTSIDE;
 }
 
-/* Demand 3 and the figure of lookups, on tables that the ledger has room for. */
+/* Demand 3, the figure of lookups and what comes to done queues, on tables that the ledger has room for. */
 static enum difference judged(struct beside *beside, const struct left *left)
 {
 	if (left->status == PT_SHORT_ANSWER)
@@ -120,9 +120,9 @@ static enum difference judged(struct beside *beside, const struct left *left)
 	if (!beside->fed || beside->words < total_of(beside->memory)) /* lent short: none of the list */
 		return SAME;
 	beside->attained = ledger_attains(&beside->ledger, &beside->call, left->answer);
-	beside->fault = ledger_feed(&beside->ledger, &beside->call, left->answer);
-	if (beside->fault == NULL)
-		beside->fault = ledger_kept(&beside->ledger, beside->memory);
+	beside->moved = ledger_moved(&beside->call, left->answer, beside->before, beside->memory);
+	beside->fault = ledger_judge(&beside->ledger, &beside->call, left->answer, beside->before,
+			beside->memory);
 	return beside->fault == NULL ? SAME : DIFFERS_LEDGER;
 }
 
@@ -143,6 +143,7 @@ enum difference beside_call(struct beside *beside, const struct call *call)
 
 	beside->call = *call;
 	beside->attained = false;
+	beside->moved = 0;
 	memcpy(beside->before, beside->memory, beside->words * sizeof beside->before[0]);
 	if (beside->judge != NULL)
 		make_expected(beside);

@@ -44,6 +44,7 @@ struct beside {
 	enum difference difference;
 	const char *fault; /* of the ledger */
 	bool attained; /* it was step n + 1 of its lookup, and answered it */
+	uint32_t moved; /* slots that it brought to done queues, by the ledger */
 };
 
 /* A memory of no meaning, all of it lent. */

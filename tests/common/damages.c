@@ -16,6 +16,16 @@ enum { CODE_BEYOND_LOW = 276447232, CODE_BEYOND_HIGH = 23283 };
 
 #define NONE PT_NONE
 
+/* The three words of a queue at an address, as pokes. */
+#define QUEUE(at, first, last, length) \
+	{ (at) + QUEUE_FIRST, first }, { (at) + QUEUE_LAST, last }, { (at) + QUEUE_LENGTH, length }
+#define EMPTY(at) QUEUE(at, NONE, NONE, 0)
+
+/* Slot 0 is taken out of the fresh table's free queue. */
+#define FIRST_TAKEN \
+	{ GLOBAL(GLOBAL_FREE + QUEUE_FIRST), 1 }, { GLOBAL(GLOBAL_FREE + QUEUE_LENGTH), 15 }, \
+	{ SLOT(0, SLOT_QUEUE_LINK), NONE }
+
 /*
  * The rich table, generations 3 and 4: lane 0 reads with a lookup on slot 2, is
  * pending, and has slot 6 done; lane 1 is pending with a snapshot, slot 3 current
@@ -39,7 +49,8 @@ const char *const rich_calls[] = {
 const size_t rich_count = sizeof rich_calls / sizeof rich_calls[0];
 
 const struct damage damages[] = {
-	{ BASE_RICH, LEGAL_CONTENTS, "contents agree", { { CONTENTS_VERSION, 2 } } },
+	{ BASE_RICH, LEGAL_CONTENTS, "contents agree", { { CONTENTS_VERSION, 1 } } },
+	{ BASE_RICH, LEGAL_CONTENTS, "contents agree", { { CONTENTS_VERSION, 3 } } },
 	{ BASE_RICH, LEGAL_CONTENTS, "contents agree", { { CONTENTS_CABINETS, 0 } } },
 	{ BASE_RICH, LEGAL_CONTENTS, "contents agree", { { CONTENTS_CABINETS, 1 } } },
 	{ BASE_RICH, LEGAL_CONTENTS, "contents agree", { { CONTENTS_CABINETS, 9 } } },
@@ -51,12 +62,12 @@ const struct damage damages[] = {
 	{ BASE_RICH, LEGAL_CONTENTS, "contents agree", { { CONTENTS_SLOTS, 1025 } } },
 	{ BASE_RICH, LEGAL_CONTENTS, "contents agree", { { CONTENTS_SLOTS, NONE } } },
 	{ BASE_RICH, LEGAL_CONTENTS, "contents agree", { { CONTENTS_BODIES + 0, 13 } } },
-	{ BASE_RICH, LEGAL_CONTENTS, "contents agree", { { CONTENTS_BODIES + 1, 75 } } },
+	{ BASE_RICH, LEGAL_CONTENTS, "contents agree", { { CONTENTS_BODIES + 1, 79 } } },
 	{ BASE_RICH, LEGAL_CONTENTS, "contents agree", { { CONTENTS_BODIES + 2, 0 } } },
 	{ BASE_RICH, LEGAL_CONTENTS, "contents agree", { { CONTENTS_BODIES + 3, 3 } } },
 	{ BASE_RICH, LEGAL_CONTENTS, "contents agree", { { CONTENTS_BODIES + 4, NONE } } },
-	{ BASE_RICH, LEGAL_CONTENTS, "contents agree", { { CONTENTS_BODIES + 5, 77 } } },
-	{ BASE_RICH, LEGAL_CONTENTS, "contents agree", { { CONTENTS_BODIES + 6, 165 } } },
+	{ BASE_RICH, LEGAL_CONTENTS, "contents agree", { { CONTENTS_BODIES + 5, 89 } } },
+	{ BASE_RICH, LEGAL_CONTENTS, "contents agree", { { CONTENTS_BODIES + 6, 181 } } },
 	{ BASE_RICH, LEGAL_CONTENTS, "contents agree", { { CONTENTS_BODIES + 7, 95 } } },
 
 	{ BASE_RICH, LEGAL_FLAGS, "flags in range", { { LANE(2, LANE_FLAGS), 17 } } },
@@ -68,14 +79,14 @@ const struct damage damages[] = {
 
 	{ BASE_RICH, LEGAL_LINKS, "links in range", { { GLOBAL(GLOBAL_CHAINS + 2), 16 } } },
 	{ BASE_RICH, LEGAL_LINKS, "links in range", { { GLOBAL(GLOBAL_CHAINS + 63), NONE - 1 } } },
-	{ BASE_RICH, LEGAL_LINKS, "links in range", { { GLOBAL(GLOBAL_FREE + END_FIRST), 16 } } },
-	{ BASE_RICH, LEGAL_LINKS, "links in range", { { GLOBAL(GLOBAL_FREE + END_LAST), 16 } } },
-	{ BASE_RICH, LEGAL_LINKS, "links in range", { { GLOBAL(GLOBAL_NEXT + END_FIRST), 16 } } },
-	{ BASE_RICH, LEGAL_LINKS, "links in range", { { GLOBAL(GLOBAL_CURRENT + END_FIRST), 16 } } },
-	{ BASE_RICH, LEGAL_LINKS, "links in range", { { GLOBAL(GLOBAL_DONE + END_FIRST), 16 } } },
-	{ BASE_RICH, LEGAL_LINKS, "links in range", { { LANE(3, LANE_NEXT + END_FIRST), 16 } } },
-	{ BASE_RICH, LEGAL_LINKS, "links in range", { { LANE(3, LANE_CURRENT + END_LAST), NONE - 1 } } },
-	{ BASE_RICH, LEGAL_LINKS, "links in range", { { LANE(0, LANE_DONE + END_FIRST), 16 } } },
+	{ BASE_RICH, LEGAL_LINKS, "links in range", { { GLOBAL(GLOBAL_FREE + QUEUE_FIRST), 16 } } },
+	{ BASE_RICH, LEGAL_LINKS, "links in range", { { GLOBAL(GLOBAL_FREE + QUEUE_LAST), 16 } } },
+	{ BASE_RICH, LEGAL_LINKS, "links in range", { { GLOBAL(GLOBAL_NEXT + QUEUE_FIRST), 16 } } },
+	{ BASE_RICH, LEGAL_LINKS, "links in range", { { GLOBAL(GLOBAL_CURRENT + QUEUE_FIRST), 16 } } },
+	{ BASE_RICH, LEGAL_LINKS, "links in range", { { GLOBAL(GLOBAL_DONE + QUEUE_FIRST), 16 } } },
+	{ BASE_RICH, LEGAL_LINKS, "links in range", { { LANE(3, LANE_NEXT + QUEUE_FIRST), 16 } } },
+	{ BASE_RICH, LEGAL_LINKS, "links in range", { { LANE(3, LANE_CURRENT + QUEUE_LAST), NONE - 1 } } },
+	{ BASE_RICH, LEGAL_LINKS, "links in range", { { LANE(0, LANE_DONE + QUEUE_FIRST), 16 } } },
 	{ BASE_RICH, LEGAL_LINKS, "links in range", { { LANE(0, LANE_POSITION), 16 } } },
 	{ BASE_RICH, LEGAL_LINKS, "links in range", { { SLOT(6, SLOT_CHAIN_LINK), 16 } } },
 	{ BASE_RICH, LEGAL_LINKS, "links in range", { { SLOT(6, SLOT_CHAIN_LINK), NONE - 1 } } },
@@ -100,22 +111,48 @@ const struct damage damages[] = {
 	{ BASE_RICH, LEGAL_ONCE, "each slot in one place", { { SLOT(0, SLOT_CHAIN_LINK), 6 } } },
 	{ BASE_RICH, LEGAL_ONCE, "each slot in one place", { { SLOT(15, SLOT_QUEUE_LINK), 11 } } },
 	{ BASE_RICH, LEGAL_ONCE, "each slot in one place", { { SLOT(9, SLOT_QUEUE_LINK), 10 } } },
+	{ BASE_RICH, LEGAL_ONCE, "each slot in one place", { { SLOT(9, SLOT_QUEUE_LINK), 10 },
+			QUEUE(GLOBAL(GLOBAL_CURRENT), 8, 10, 3) } },
 	{ BASE_RICH, LEGAL_ONCE, "each slot in one place", { { SLOT(6, SLOT_QUEUE_LINK), 0 } } },
-	{ BASE_RICH, LEGAL_ONCE, "each slot in one place", { { SLOT(13, SLOT_QUEUE_LINK), 15 } } },
-	{ BASE_RICH, LEGAL_ONCE, "each slot in one place", { { LANE(0, LANE_NEXT + END_FIRST), 2 },
-			{ LANE(0, LANE_NEXT + END_LAST), 2 } } },
-	{ BASE_RICH, LEGAL_ONCE, "each slot in one place", { { LANE(0, LANE_DONE + END_FIRST), NONE },
-			{ LANE(0, LANE_DONE + END_LAST), NONE } } },
+	{ BASE_RICH, LEGAL_ONCE, "each slot in one place", { { SLOT(6, SLOT_QUEUE_LINK), 0 },
+			QUEUE(LANE(0, LANE_DONE), 6, 0, 2) } },
+	{ BASE_RICH, LEGAL_ONCE, "each slot in one place", { { SLOT(13, SLOT_QUEUE_LINK), 15 },
+			{ GLOBAL(GLOBAL_FREE + QUEUE_LENGTH), 4 } } },
+	{ BASE_RICH, LEGAL_ONCE, "each slot in one place", { QUEUE(LANE(0, LANE_NEXT), 2, 2, 1) } },
+	{ BASE_RICH, LEGAL_ONCE, "each slot in one place", { EMPTY(LANE(0, LANE_DONE)) } },
 
-	{ BASE_RICH, LEGAL_LASTS, "queues agree with last", { { GLOBAL(GLOBAL_FREE + END_LAST), 14 } } },
-	{ BASE_RICH, LEGAL_LASTS, "queues agree with last", { { GLOBAL(GLOBAL_FREE + END_LAST), NONE } } },
-	{ BASE_RICH, LEGAL_LASTS, "queues agree with last", { { GLOBAL(GLOBAL_CURRENT + END_LAST), 8 } } },
-	{ BASE_RICH, LEGAL_LASTS, "queues agree with last", { { GLOBAL(GLOBAL_NEXT + END_LAST), 9 } } },
-	{ BASE_RICH, LEGAL_LASTS, "queues agree with last", { { GLOBAL(GLOBAL_DONE + END_LAST), NONE } } },
-	{ BASE_RICH, LEGAL_LASTS, "queues agree with last", { { LANE(0, LANE_DONE + END_LAST), NONE } } },
-	{ BASE_RICH, LEGAL_EMPTY_ENDS, "ends of an empty queue", { { LANE(0, LANE_NEXT + END_LAST), 6 } } },
-	{ BASE_RICH, LEGAL_EMPTY_ENDS, "ends of an empty queue", { { LANE(3, LANE_CURRENT + END_LAST), 0 } } },
-	{ BASE_RICH, LEGAL_LASTS, "queues agree with last", { { LANE(1, LANE_NEXT + END_LAST), 3 } } },
+	{ BASE_RICH, LEGAL_LASTS, "queues agree with last", { { GLOBAL(GLOBAL_FREE + QUEUE_LAST), 14 } } },
+	{ BASE_RICH, LEGAL_LASTS, "queues agree with last", { { GLOBAL(GLOBAL_FREE + QUEUE_LAST), NONE } } },
+	{ BASE_RICH, LEGAL_LASTS, "queues agree with last", { { GLOBAL(GLOBAL_CURRENT + QUEUE_LAST), 8 } } },
+	{ BASE_RICH, LEGAL_LASTS, "queues agree with last", { { GLOBAL(GLOBAL_NEXT + QUEUE_LAST), 9 } } },
+	{ BASE_RICH, LEGAL_LASTS, "queues agree with last", { { GLOBAL(GLOBAL_DONE + QUEUE_LAST), NONE } } },
+	{ BASE_RICH, LEGAL_LASTS, "queues agree with last", { { LANE(0, LANE_DONE + QUEUE_LAST), NONE } } },
+	{ BASE_RICH, LEGAL_EMPTY_ENDS, "ends of an empty queue", { { LANE(0, LANE_NEXT + QUEUE_LAST), 6 } } },
+	{ BASE_RICH, LEGAL_EMPTY_ENDS, "ends of an empty queue", { { LANE(3, LANE_CURRENT + QUEUE_LAST), 0 } } },
+	{ BASE_RICH, LEGAL_LASTS, "queues agree with last", { { LANE(1, LANE_NEXT + QUEUE_LAST), 3 } } },
+
+	/* The rich table's lines, one more each; damaged.c tries other lengths of each. */
+	{ BASE_RICH, LEGAL_LENGTHS, "length of a queue", { { GLOBAL(GLOBAL_FREE + QUEUE_LENGTH), 6 } } },
+	{ BASE_RICH, LEGAL_LENGTHS, "length of a queue", { { GLOBAL(GLOBAL_NEXT + QUEUE_LENGTH), 2 } } },
+	{ BASE_RICH, LEGAL_LENGTHS, "length of a queue", { { GLOBAL(GLOBAL_CURRENT + QUEUE_LENGTH), 3 } } },
+	{ BASE_RICH, LEGAL_LENGTHS, "length of a queue", { { GLOBAL(GLOBAL_DONE + QUEUE_LENGTH), 2 } } },
+	{ BASE_RICH, LEGAL_LENGTHS, "length of a queue", { { LANE(0, LANE_NEXT + QUEUE_LENGTH), 1 } } },
+	{ BASE_RICH, LEGAL_LENGTHS, "length of a queue", { { LANE(0, LANE_CURRENT + QUEUE_LENGTH), 1 } } },
+	{ BASE_RICH, LEGAL_LENGTHS, "length of a queue", { { LANE(0, LANE_DONE + QUEUE_LENGTH), 2 } } },
+	{ BASE_RICH, LEGAL_LENGTHS, "length of a queue", { { LANE(1, LANE_NEXT + QUEUE_LENGTH), 2 } } },
+	{ BASE_RICH, LEGAL_LENGTHS, "length of a queue", { { LANE(1, LANE_CURRENT + QUEUE_LENGTH), 2 } } },
+	{ BASE_RICH, LEGAL_LENGTHS, "length of a queue", { { LANE(1, LANE_DONE + QUEUE_LENGTH), 1 } } },
+	{ BASE_RICH, LEGAL_LENGTHS, "length of a queue", { { LANE(2, LANE_NEXT + QUEUE_LENGTH), 1 } } },
+	{ BASE_RICH, LEGAL_LENGTHS, "length of a queue", { { LANE(2, LANE_CURRENT + QUEUE_LENGTH), 2 } } },
+	{ BASE_RICH, LEGAL_LENGTHS, "length of a queue", { { LANE(2, LANE_DONE + QUEUE_LENGTH), 1 } } },
+	{ BASE_RICH, LEGAL_LENGTHS, "length of a queue", { { LANE(3, LANE_NEXT + QUEUE_LENGTH), 1 } } },
+	{ BASE_RICH, LEGAL_LENGTHS, "length of a queue", { { LANE(3, LANE_CURRENT + QUEUE_LENGTH), 1 } } },
+	{ BASE_RICH, LEGAL_LENGTHS, "length of a queue", { { LANE(3, LANE_DONE + QUEUE_LENGTH), 1 } } },
+	/* As many in all, and in other lines. */
+	{ BASE_RICH, LEGAL_LENGTHS, "length of a queue", { { GLOBAL(GLOBAL_FREE + QUEUE_LENGTH), 4 },
+			{ GLOBAL(GLOBAL_NEXT + QUEUE_LENGTH), 2 } } },
+	{ BASE_RICH, LEGAL_LENGTHS, "length of a queue", { { LANE(0, LANE_NEXT + QUEUE_LENGTH), 1 },
+			{ LANE(0, LANE_DONE + QUEUE_LENGTH), 0 } } },
 
 	{ BASE_RICH, LEGAL_CHAINS, "chain of the code", { { SLOT(4, SLOT_CODE + CODE_LOW), 18 } } },
 	{ BASE_RICH, LEGAL_CHAINS, "chain of the code", { { SLOT(0, SLOT_CODE + CODE_LOW), 63 } } },
@@ -138,15 +175,12 @@ const struct damage damages[] = {
 	{ BASE_RICH, LEGAL_OFFLINE, "offline: no section", { { LANE(3, LANE_FLAGS), FLAG_READING } } },
 	{ BASE_RICH, LEGAL_OFFLINE, "offline: no mask bit", { { GLOBAL(GLOBAL_PENDING), 3 }, { CABINET(1), 2 } } },
 	{ BASE_RICH, LEGAL_OFFLINE, "offline: no next queue", {
-		{ LANE(0, LANE_DONE + END_FIRST), NONE }, { LANE(0, LANE_DONE + END_LAST), NONE },
-		{ LANE(3, LANE_NEXT + END_FIRST), 6 }, { LANE(3, LANE_NEXT + END_LAST), 6 } } },
+		EMPTY(LANE(0, LANE_DONE)), QUEUE(LANE(3, LANE_NEXT), 6, 6, 1) } },
 	{ BASE_RICH, LEGAL_OFFLINE, "offline: no current queue", {
-		{ LANE(0, LANE_DONE + END_FIRST), NONE }, { LANE(0, LANE_DONE + END_LAST), NONE },
-		{ LANE(3, LANE_CURRENT + END_FIRST), 6 }, { LANE(3, LANE_CURRENT + END_LAST), 6 },
+		EMPTY(LANE(0, LANE_DONE)), QUEUE(LANE(3, LANE_CURRENT), 6, 6, 1),
 		{ LANE(3, LANE_GENERATION), 3 } } },
 	{ BASE_RICH, LEGAL_OFFLINE, "offline: no done queue", {
-		{ LANE(0, LANE_DONE + END_FIRST), NONE }, { LANE(0, LANE_DONE + END_LAST), NONE },
-		{ LANE(3, LANE_DONE + END_FIRST), 6 }, { LANE(3, LANE_DONE + END_LAST), 6 } } },
+		EMPTY(LANE(0, LANE_DONE)), QUEUE(LANE(3, LANE_DONE), 6, 6, 1) } },
 
 	{ BASE_RICH, LEGAL_LOOKUP_IN_SECTION, "lookup in a section", { { LANE(0, LANE_FLAGS), FLAG_ONLINE | FLAG_LOOKUP } } },
 	{ BASE_RICH, LEGAL_SNAPSHOT_PENDING, "snapshot with a bit", { { LANE(2, LANE_FLAGS), FLAG_ONLINE | FLAG_SNAPSHOT } } },
@@ -178,7 +212,11 @@ const struct damage damages[] = {
 		{ GLOBAL(GLOBAL_LARGEST_GENERATION), 3 }, { LANE(1, LANE_GENERATION), 3 },
 		{ LANE(2, LANE_GENERATION), 3 } } },
 
-	{ BASE_FRESH, LEGAL_CONTENTS, "contents agree", { { CONTENTS_VERSION, 0x01000000 } } },
+	{ BASE_FRESH, LEGAL_CONTENTS, "contents agree", { { CONTENTS_VERSION, 0x02000000 } } },
+	{ BASE_FRESH, LEGAL_LENGTHS, "length of a queue", { { GLOBAL(GLOBAL_FREE + QUEUE_LENGTH), 15 } } },
+	{ BASE_FRESH, LEGAL_LENGTHS, "length of a queue", { { GLOBAL(GLOBAL_FREE + QUEUE_LENGTH), 0 } } },
+	{ BASE_FRESH, LEGAL_LENGTHS, "length of a queue", { { GLOBAL(GLOBAL_FREE + QUEUE_LENGTH), NONE } } },
+	{ BASE_FRESH, LEGAL_LENGTHS, "length of a queue", { { LANE(0, LANE_DONE + QUEUE_LENGTH), NONE } } },
 	{ BASE_FRESH, LEGAL_GENERATIONS_REST, "generation at rest", { { GLOBAL(GLOBAL_GENERATION), 1 } } },
 	{ BASE_FRESH, LEGAL_OFFLINE, "offline: no section", { { LANE(0, LANE_FLAGS), FLAG_READING } } },
 	{ BASE_FRESH, LEGAL_SNAPSHOT_PENDING, "snapshot with a bit", { { LANE(0, LANE_FLAGS), FLAG_ONLINE | FLAG_SNAPSHOT } } },
@@ -192,13 +230,9 @@ const struct damage damages[] = {
 	{ BASE_FRESH, LEGAL_LARGEST, "largest requested", { { GLOBAL(GLOBAL_PENDING), 1 }, { CABINET(0), 1 } } },
 	/* With no grace period running, a lane's current queue is one before at most. */
 	{ BASE_FRESH, LEGAL_LANE_GENERATION, "lane generation not later than the largest", {
-		{ GLOBAL(GLOBAL_FREE + END_FIRST), 1 }, { SLOT(0, SLOT_QUEUE_LINK), NONE },
-		{ LANE(0, LANE_CURRENT + END_FIRST), 0 }, { LANE(0, LANE_CURRENT + END_LAST), 0 },
-		{ LANE(0, LANE_GENERATION), 1 } } },
+		FIRST_TAKEN, QUEUE(LANE(0, LANE_CURRENT), 0, 0, 1), { LANE(0, LANE_GENERATION), 1 } } },
 	{ BASE_FRESH, LEGAL_GLOBAL_GENERATION, "global generation", {
-		{ GLOBAL(GLOBAL_FREE + END_FIRST), 1 }, { SLOT(0, SLOT_QUEUE_LINK), NONE },
-		{ GLOBAL(GLOBAL_CURRENT + END_FIRST), 0 }, { GLOBAL(GLOBAL_CURRENT + END_LAST), 0 },
-		{ GLOBAL(GLOBAL_GENERATION), 0 } } },
+		FIRST_TAKEN, QUEUE(GLOBAL(GLOBAL_CURRENT), 0, 0, 1), { GLOBAL(GLOBAL_GENERATION), 0 } } },
 
 	{ BASE_RICH, LEGAL_SENTENCES, "retired slots in a cycle of chain links", {
 		{ SLOT(2, SLOT_CHAIN_LINK), 3 }, { SLOT(3, SLOT_CHAIN_LINK), 2 },
@@ -229,12 +263,9 @@ const struct damage damages[] = {
 	{ BASE_FRESH, LEGAL_SENTENCES, "all lanes offline", { { LANE(0, LANE_FLAGS), 0 }, { LANE(1, LANE_FLAGS), 0 },
 		{ LANE(2, LANE_FLAGS), 0 }, { LANE(3, LANE_FLAGS), 0 } } },
 	{ BASE_FRESH, LEGAL_SENTENCES, "no grace period and a global next queue", {
-		{ GLOBAL(GLOBAL_FREE + END_FIRST), 1 }, { SLOT(0, SLOT_QUEUE_LINK), NONE },
-		{ GLOBAL(GLOBAL_NEXT + END_FIRST), 0 }, { GLOBAL(GLOBAL_NEXT + END_LAST), 0 } } },
+		FIRST_TAKEN, QUEUE(GLOBAL(GLOBAL_NEXT), 0, 0, 1) } },
 	{ BASE_FRESH, LEGAL_SENTENCES, "a current queue of generation 0", {
-		{ GLOBAL(GLOBAL_FREE + END_FIRST), 1 }, { SLOT(0, SLOT_QUEUE_LINK), NONE },
-		{ LANE(0, LANE_CURRENT + END_FIRST), 0 },
-		{ LANE(0, LANE_CURRENT + END_LAST), 0 } } },
+		FIRST_TAKEN, QUEUE(LANE(0, LANE_CURRENT), 0, 0, 1) } },
 	{ BASE_FRESH, LEGAL_SENTENCES, "any current generation", { { GLOBAL(GLOBAL_CURRENT_GENERATION), 2147483648u },
 		{ GLOBAL(GLOBAL_LARGEST_GENERATION), 2147483647u } } },
 };

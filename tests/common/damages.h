@@ -1,5 +1,5 @@
 /*
- * damages.h - memories with changed words: for each sentence of document 01 on legal
+ * damages.h - memories with changed words: for each sentence of documents 01 and 02 on legal
  * memories, words that break it and, where one can be found, no other; and odd memories
  * that are legal all the same.
  */
@@ -20,7 +20,7 @@ extern const size_t rich_count;
 
 enum base { BASE_FRESH, BASE_RICH };
 
-enum { POKES = 6 };
+enum { POKES = 8 };
 
 /* Words that are changed; no poke has address 0 and value 0 but the unused ones. */
 struct damage {

@@ -106,6 +106,59 @@ struct call draw_call(uint64_t *seed, const struct list *list)
 	return draw_arguments(seed, list, name);
 }
 
+/* ---- a lane that leaves */
+
+/* Calls that are gathered. */
+struct gathered {
+	struct call *calls;
+	uint32_t count;
+};
+
+static void gather(struct gathered *gathered, enum call_name name, uint32_t lane, uint64_t argument)
+{
+	gathered->calls[gathered->count++] = (struct call){ name, { lane, argument } };
+}
+
+/* A lane removes some records, as far as they are there, and makes a call. */
+static void gather_removal(struct gathered *gathered, uint64_t *seed, const struct list *list, uint32_t lane,
+		enum call_name then)
+{
+	enum { CODES = 3 };
+
+	for (uint32_t n = 0; n < CODES; n++)
+		gather(gathered, CALL_DELETE, lane, draw_right_code(seed, list));
+	gather(gathered, then, lane, 0);
+}
+
+static void gather_pass(struct gathered *gathered, uint32_t lane, enum call_name then)
+{
+	gather(gathered, CALL_CLOCK, lane, 0);
+	gather(gathered, CALL_PASS, lane, PT_IDLE);
+	gather(gathered, then, lane, 0);
+}
+
+uint32_t draw_leaving(uint64_t *seed, const struct list *list, struct call calls[LEAVING_CALLS])
+{
+	uint32_t lanes = list->cabinets * list->lanes, first = draw_below(seed, lanes);
+	uint32_t last = (first + 1 + draw_below(seed, lanes - 1)) % lanes;
+	struct gathered gathered = { calls, 0 };
+
+	for (uint32_t l = 0; l < lanes; l++)
+		gather(&gathered, CALL_END, l, 0);
+	gather_removal(&gathered, seed, list, first, CALL_CLOCK);
+	gather_removal(&gathered, seed, list, first, CALL_OFF);
+	gather_removal(&gathered, seed, list, last, CALL_CLOCK);
+	for (uint32_t round = 0; round < 2; round++) {
+		for (uint32_t l = 0; l < lanes; l++)
+			if (l != first && l != last)
+				gather_pass(&gathered, l, CALL_CLOCK);
+		gather_pass(&gathered, last, round == 1 && draw_below(seed, 2) == 0 ? CALL_OFF : CALL_CLOCK);
+	}
+	gather(&gathered, CALL_ON, first, 0);
+	gather(&gathered, CALL_ON, last, 0);
+	return gathered.count;
+}
+
 uint32_t draw_word(uint64_t *seed, const uint32_t *memory, size_t total, size_t at)
 {
 	static const uint32_t edges[] = {
@@ -229,6 +282,16 @@ static void ahead_lanes(struct drawer *drawer)
 			ahead_lane(drawer, l);
 }
 
+/* A lane leaves with slots that it removed. */
+static void ahead_leaving(struct drawer *drawer)
+{
+	static struct call calls[LEAVING_CALLS];
+	uint32_t count = draw_leaving(&drawer->seed, drawer->list, calls);
+
+	for (uint32_t n = 0; n < count; n++)
+		ahead_call(drawer, &calls[n]);
+}
+
 /*
  * A customer takes a bottle back: a lane's section ends with its lookup unfinished, after
  * some steps, and perhaps on a slot that another lane has just removed.
@@ -337,6 +400,8 @@ struct step drawer_next(struct drawer *drawer, const uint32_t *memory, size_t wo
 			drawer->step[drawer->ahead++] = draw_label(&drawer->seed);
 		if (draw_below(&drawer->seed, 20 + 10 * lanes) == 0)
 			ahead_lanes(drawer);
+		if (lanes > 1 && draw_below(&drawer->seed, 40 + 20 * lanes) == 0)
+			ahead_leaving(drawer);
 		if (!drawer->calls_only && draw_below(&drawer->seed, 12) == 0)
 			ahead_damage(drawer, memory, total);
 		if (!drawer->calls_only && draw_below(&drawer->seed, 100) == 0)

@@ -31,6 +31,15 @@ struct call draw_call(uint64_t *seed, const struct list *list);
 /* The same with the call's name chosen. */
 struct call draw_arguments(uint64_t *seed, const struct list *list, enum call_name name);
 
+/*
+ * A lane goes off with slots that it removed, which wait in the global queues then; the
+ * others pass, and pass again, and the last one ends the grace period, by its clock with
+ * slots that it removed itself or by going off as well. Returns how many calls that is. The
+ * table has two lanes or more.
+ */
+enum { LEAVING_CALLS = 16 + 7 * PT_MAX_CABINETS * PT_MAX_LANES };
+uint32_t draw_leaving(uint64_t *seed, const struct list *list, struct call calls[LEAVING_CALLS]);
+
 /* A word for the address @at: near what stands there, about a range, another word's, or any. */
 uint32_t draw_word(uint64_t *seed, const uint32_t *memory, size_t total, size_t at);
 
@@ -38,7 +47,7 @@ uint32_t draw_word(uint64_t *seed, const uint32_t *memory, size_t total, size_t 
 struct step draw_label(uint64_t *seed);
 
 /* Where the drawing of a list's steps stands. */
-enum { DRAWN_AHEAD = 700 };
+enum { DRAWN_AHEAD = 1200 };
 struct drawer {
 	uint64_t seed;
 	const struct list *list;
@@ -55,7 +64,7 @@ void drawer_start(struct drawer *drawer, const struct list *list, uint64_t seed,
  * is too short; calls on a memory of which some words are changed, after which they are as
  * they were; a record that becomes an older one, with a wrong check digit; a label that is
  * read or written; a section that ends with its lookup unfinished; now and then all lanes end
- * their sections, pass and hand back.
+ * their sections, pass and hand back, or a lane leaves with slots that it removed.
  */
 struct step drawer_next(struct drawer *drawer, const uint32_t *memory, size_t words);
 

@@ -138,10 +138,10 @@ uint32_t *lent_slot(uint32_t *memory, uint32_t n)
 	return record(memory, BODY_SLOTS, SLOT_WORDS, n);
 }
 
-uint32_t lent_queue_length(uint32_t *memory, const uint32_t *ends)
+uint32_t lent_queue_length(uint32_t *memory, const uint32_t *queue)
 {
 	uint32_t length = 0;
-	uint32_t slot = ends[END_FIRST];
+	uint32_t slot = queue[QUEUE_FIRST];
 
 	for (; slot != PT_NONE; slot = lent_slot(memory, slot)[SLOT_QUEUE_LINK])
 		length++;

@@ -62,7 +62,7 @@ uint32_t *lent_cabinet(uint32_t *memory, uint32_t n);
 uint32_t *lent_lane(uint32_t *memory, uint32_t n);
 uint32_t *lent_slot(uint32_t *memory, uint32_t n);
 
-/* The number of slots in the queue with these ends, in a legal memory. */
-uint32_t lent_queue_length(uint32_t *memory, const uint32_t *ends);
+/* The number of slots in the queue with these words, counted along the links of a legal memory. */
+uint32_t lent_queue_length(uint32_t *memory, const uint32_t *queue);
 
 #endif /* COMMON_LENT_H */

@@ -27,6 +27,7 @@ static const enum sentence legal_sentences[LEGAL_SENTENCES] = {
 	[LEGAL_EMPTY_ENDS] = SENTENCE_LEGAL_EMPTY_ENDS,
 	[LEGAL_ONCE] = SENTENCE_LEGAL_ONCE,
 	[LEGAL_LASTS] = SENTENCE_LEGAL_LASTS,
+	[LEGAL_LENGTHS] = SENTENCE_LEGAL_LENGTHS,
 	[LEGAL_CHAINS] = SENTENCE_LEGAL_CHAINS,
 	[LEGAL_TWICE] = SENTENCE_LEGAL_TWICE,
 	[LEGAL_SNAPSHOTS_REST] = SENTENCE_LEGAL_SNAPSHOTS_REST,
@@ -85,6 +86,8 @@ static void refused_tries(struct tally *tally, struct tries *tries, const struct
 		enum legal_sentence broken = ref_broken(beside->before, beside->words);
 
 		tries->of[broken < LEGAL_SENTENCES ? legal_sentences[broken] : SENTENCE_LEGAL] = true;
+		tries->of[SENTENCE_VERSION] = beside->words > CONTENTS_VERSION &&
+			beside->before[CONTENTS_VERSION] != LAYOUT_VERSION;
 	}
 	tally->refused[beside->call.name][cause]++;
 	if (cause == PT_NO_LANE && first_past(beside))
@@ -136,6 +139,54 @@ static void period_tries(struct tries *tries, const struct table *then, const st
 	tries->of[SENTENCE_TRAP_SNAPSHOT] = ended && then->lane[lane].flags & FLAG_SNAPSHOT;
 	owner_tries(tries, then, now, &then->lane[lane].retired, &now->lane[lane].retired);
 	owner_tries(tries, then, now, &then->global, &now->global);
+}
+
+static bool grew(struct queue before, struct queue after)
+{
+	return after.length > before.length;
+}
+
+/* Whether slots went to a line that had some, in a clock or an off. */
+static bool joined(const struct table *then, const struct table *now, const struct call *call, uint32_t lane)
+{
+	const struct retired *own = &then->lane[lane].retired;
+	bool to_done = then->global.done.length > 0 && grew(then->global.done, now->global.done);
+
+	if (call->name == CALL_CLOCK)
+		return to_done || (own->done.length > 0 && grew(own->done, now->lane[lane].retired.done));
+	return call->name == CALL_OFF && (to_done ||
+		(then->global.next.length > 0) + (own->current.length > 0) + (own->next.length > 0) >= 2);
+}
+
+/* To which done lines a clock brought slots, or an off besides its lane's own; MOVED: to none. */
+static enum moved where_moved(const struct table *then, const struct table *now, const struct call *call,
+		uint32_t lane)
+{
+	bool to_lane = grew(then->lane[lane].retired.done, now->lane[lane].retired.done);
+	bool to_house = grew(then->global.done, now->global.done);
+
+	if (call->name == CALL_OFF)
+		return now->global.done.length > then->global.done.length + then->lane[lane].retired.done.length ?
+			MOVED_BY_OFF : MOVED;
+	if (call->name != CALL_CLOCK || !(to_lane || to_house))
+		return MOVED;
+	return to_lane && to_house ? MOVED_TO_BOTH : to_lane ? MOVED_TO_LANE : MOVED_TO_HOUSE;
+}
+
+/* What a call tries of the lines' lengths; of a program the words are not seen. */
+static void length_tries(struct tally *tally, struct tries *tries, const struct table *then,
+		const struct table *now, const struct call *call, uint32_t lane, bool seen)
+{
+	enum moved moved = where_moved(then, now, call, lane);
+
+	tries->of[SENTENCE_LENGTHS] = seen && (then->free.length != now->free.length ||
+		retired_differ(&then->lane[lane].retired, &now->lane[lane].retired) ||
+		retired_differ(&then->global, &now->global));
+	tries->of[SENTENCE_JOINED] = seen && joined(then, now, call, lane);
+	tries->of[SENTENCE_MOVED] = call->name == CALL_CLOCK;
+	tries->of[SENTENCE_OFF_ZEROS] = call->name == CALL_OFF;
+	if (moved != MOVED)
+		tally->moved[moved]++;
 }
 
 /* Whether a slot stands in a chain. */
@@ -264,6 +315,13 @@ static void figure_tries(struct tries *tries, const struct call *call, const uin
 	tries->of[SENTENCE_FIGURE_LISTS] = call->name == CALL_STEP && answer[1] != PT_GOING;
 }
 
+/* What an accepted call tries that the ledger judges by the memory: slots come to done lines, or go. */
+static void sum_tries(struct tries *tries, const struct call *call)
+{
+	tries->of[SENTENCE_ADD_UP] = call->name == CALL_CLOCK || call->name == CALL_OFF ||
+		call->name == CALL_HAND_BACK;
+}
+
 static void accepted_tries(struct tally *tally, struct tries *tries, const struct beside *beside)
 {
 	static struct table then, now;
@@ -276,6 +334,8 @@ static void accepted_tries(struct tally *tally, struct tries *tries, const struc
 	if (beside->call.name == CALL_SETUP) {
 		tries->of[SENTENCE_SET_UP] = true;
 		tries->of[SENTENCE_TOTAL] = true;
+		tries->of[SENTENCE_VERSION] = beside->tried != NULL;
+		tries->of[SENTENCE_LENGTHS] = beside->tried != NULL;
 		return;
 	}
 	tries->of[SENTENCE_LEGAL] = true;
@@ -285,8 +345,11 @@ static void accepted_tries(struct tally *tally, struct tries *tries, const struc
 	if (call_argument(&beside->call, KIND_LANE, PT_NONE) != PT_NONE)
 		place_tries(tally, tries, &then, &beside->call, lane);
 	dropped_tries(tally, tries, &then, &beside->call, lane);
-	if (beside->fed)
+	if (beside->fed) {
 		figure_tries(tries, &beside->call, beside->expected_answer);
+		sum_tries(tries, &beside->call);
+	}
+	length_tries(tally, tries, &then, &now, &beside->call, lane, beside->tried != NULL);
 	table_tries(tries, &then, &beside->call, beside->expected_answer, lane);
 	lane_tries(tries, &then, &now, &beside->call, lane);
 }
@@ -333,8 +396,33 @@ static bool goes_by_place(const struct beside *beside, const struct layout *layo
 	return n == own + LANE_FLAGS && beside->call.name == CALL_CLOCK;
 }
 
-/* The records that hold words which differ, and whether these go by a lane's place. */
-static void blame_records(struct tries *broken, const struct tries *tries, const struct beside *beside)
+/* Whether word @at of a record is one of the lines that stand from @first to @end, and which. */
+static bool in_line(uint32_t at, uint32_t first, uint32_t end, uint32_t *word)
+{
+	*word = (at - first) % QUEUE_WORDS;
+	return at >= first && at < end;
+}
+
+/* A word that differs: of a line, or a link by which slots stand in lines. Whether it is a length. */
+static bool blame_lines(struct tries *broken, const struct tries *tries, const struct layout *layout,
+		int body, uint32_t n)
+{
+	uint32_t at = n - layout->first[body], word = 0;
+	bool of_line = body == BODY_GLOBAL ? in_line(at, GLOBAL_FREE, GLOBAL_GENERATION, &word) :
+		body == BODY_LANES && in_line(at % LANE_WORDS, LANE_NEXT, LANE_CODE, &word);
+	bool of_slot = body == BODY_SLOTS && at % SLOT_WORDS == SLOT_QUEUE_LINK;
+	bool length = of_line && word == QUEUE_LENGTH;
+
+	broken->of[SENTENCE_LENGTHS] |= length;
+	broken->of[SENTENCE_JOINED] |= (of_line || of_slot) && tries->of[SENTENCE_JOINED];
+	return length;
+}
+
+/*
+ * The records that hold words which differ, and whether these go by a lane's place. Whether
+ * one differs that is no length.
+ */
+static bool blame_records(struct tries *broken, const struct tries *tries, const struct beside *beside)
 {
 	static const enum sentence records[BODIES] = {
 		[BODY_GLOBAL] = SENTENCE_HOUSE,
@@ -344,6 +432,7 @@ static void blame_records(struct tries *broken, const struct tries *tries, const
 	};
 	struct layout layout = layout_of(beside->memory[CONTENTS_CABINETS],
 			beside->memory[CONTENTS_LANES], beside->memory[CONTENTS_SLOTS]);
+	bool others = false;
 
 	for (uint32_t n = 0; n < layout.total && n < beside->words; n++) {
 		int body = BODIES - 1;
@@ -353,11 +442,16 @@ static void blame_records(struct tries *broken, const struct tries *tries, const
 		while (body >= 0 && n < layout.first[body])
 			body--;
 		broken->of[body < 0 ? SENTENCE_CONTENTS : records[body]] = true;
+		broken->of[SENTENCE_VERSION] |= n == CONTENTS_VERSION;
+		if (body >= 0 && blame_lines(broken, tries, &layout, body, n))
+			continue;
+		others = true;
 		if (!goes_by_place(beside, &layout, n))
 			continue;
 		broken->of[SENTENCE_SUBTRACTED] |= tries->of[SENTENCE_SUBTRACTED];
 		broken->of[SENTENCE_PLACES_SAME] |= tries->of[SENTENCE_PLACES_SAME];
 	}
+	return others;
 }
 
 /* The rules that the call tries: of generations, of the table, of dropped lookups, and the traps. */
@@ -398,19 +492,36 @@ static void blame_status(struct tries *broken, const struct tries *tries, const 
 	} else {
 		broken->of[cause_sentence(expected)] = true;
 		blame_digits(broken, tries, expected);
-		for (int n = SENTENCE_LEGAL_CONTENTS; n <= SENTENCE_LEGAL_GLOBAL_GENERATION; n++)
-			broken->of[n] |= tries->of[n];
+		for (int n = 0; n < LEGAL_SENTENCES; n++)
+			broken->of[legal_sentences[n]] |= tries->of[legal_sentences[n]];
+		broken->of[SENTENCE_VERSION] |= tries->of[SENTENCE_VERSION];
 		broken->of[SENTENCE_CAUSE_FIRST] |= status != PT_OK && status <= LAST_CAUSE &&
 			tries->of[SENTENCE_CAUSE_FIRST];
 	}
 }
 
-/* A fault of the ledger: of how long a lookup can take, or of demand 3. */
-static void blame_ledger(struct tries *broken, bool of_figure)
+/* A fault of the ledger: of how long a lookup can take, of what comes to done lines, or of demand 3. */
+static void blame_ledger(struct tries *broken, enum ledger_fault of)
 {
-	broken->of[SENTENCE_FIGURE] = of_figure;
-	broken->of[SENTENCE_FIGURE_LISTS] = of_figure;
-	broken->of[SENTENCE_LEDGER_DEMAND] = !of_figure;
+	broken->of[SENTENCE_FIGURE] = of == FAULT_OF_FIGURE;
+	broken->of[SENTENCE_FIGURE_LISTS] = of == FAULT_OF_FIGURE;
+	broken->of[SENTENCE_ADD_UP] = of == FAULT_OF_COUNT;
+	broken->of[SENTENCE_LEDGER_DEMAND] = of == FAULT_OF_DEMAND_3;
+}
+
+/* An answer that differs: a clock's fourth number by itself, an off's zeros, or what the rules give. */
+static void blame_answer(struct tries *broken, const struct tries *tries, const struct beside *beside)
+{
+	enum { BEFORE_MOVED = 4 }; /* words */
+	const uint32_t *expected = beside->expected.answer, *answer = beside->left.answer;
+
+	broken->of[SENTENCE_ANSWER] = true;
+	if (beside->call.name == CALL_CLOCK && memcmp(expected, answer, BEFORE_MOVED * sizeof *answer) == 0)
+		broken->of[SENTENCE_MOVED] = true;
+	else if (beside->call.name == CALL_OFF)
+		broken->of[SENTENCE_OFF_ZEROS] = true;
+	else
+		blame_rules(broken, tries, beside);
 }
 
 static void blame(struct tries *broken, const struct tries *tries, const struct beside *beside)
@@ -426,16 +537,13 @@ static void blame(struct tries *broken, const struct tries *tries, const struct 
 	case DIFFERS_REFUSED: broken->of[SENTENCE_CAUSE_RETURNED] = true; break;
 	case DIFFERS_PAST_TOTAL: broken->of[SENTENCE_PAST_TOTAL] = true; break;
 	case DIFFERS_OUTSIDE: broken->of[SENTENCE_CALLED] = true; break;
-	case DIFFERS_ANSWER:
-		broken->of[SENTENCE_ANSWER] = true;
-		blame_rules(broken, tries, beside);
-		break;
+	case DIFFERS_ANSWER: blame_answer(broken, tries, beside); break;
 	case DIFFERS_WORDS:
-		blame_records(broken, tries, beside);
-		blame_rules(broken, tries, beside);
+		if (blame_records(broken, tries, beside))
+			blame_rules(broken, tries, beside);
 		break;
 	case DIFFERS_NOT_LEGAL: broken->of[SENTENCE_LEGAL] = true; break;
-	default: blame_ledger(broken, ledger_fault_of_figure(beside->fault)); break;
+	default: blame_ledger(broken, ledger_fault_of(beside->fault)); break;
 	}
 }
 
@@ -484,13 +592,13 @@ void tally_judged(struct tally *tally, const struct call *call, const uint32_t *
 {
 	struct tries tries = { { false } }, broken = { { false } };
 	bool answered = call->name == CALL_STEP && answer[1] != PT_GOING;
-	bool fault = verdict.fault && !verdict.of_figure;
+	bool fault = verdict.fault && verdict.of == FAULT_OF_DEMAND_3;
 
 	tally->attained += verdict.attained ? 1 : 0;
 	tries.of[SENTENCE_LEDGER_FED] = true;
 	tries.of[SENTENCE_LEDGER_DEMAND] = true;
 	if (verdict.fault)
-		blame_ledger(&broken, verdict.of_figure);
+		blame_ledger(&broken, verdict.of);
 	if (answer[0] != PT_OK) {
 		tries.of[SENTENCE_LEDGER_REFUSED] = true;
 		broken.of[SENTENCE_LEDGER_REFUSED] = fault;
@@ -498,6 +606,8 @@ void tally_judged(struct tally *tally, const struct call *call, const uint32_t *
 		return;
 	}
 	figure_tries(&tries, call, answer);
+	if (verdict.counted)
+		sum_tries(&tries, call);
 	switch (call->name) {
 	case CALL_ADD: tries.of[SENTENCE_LEDGER_ADD] = true; break;
 	case CALL_REPLACE:
@@ -544,6 +654,14 @@ void print_placed(const struct tally *tally)
 void print_attained(const struct tally *tally)
 {
 	printf("lookups answered by step n + 1 and no sooner: %" PRIu64 "\n", tally->attained);
+}
+
+void print_moved(const struct tally *tally)
+{
+	printf("slots came to done lines: by %" PRIu64 " clocks to the lane's, by %" PRIu64 " to the house's, by %" PRIu64
+		" to both; by %" PRIu64 " offs\n",
+		tally->moved[MOVED_TO_LANE], tally->moved[MOVED_TO_HOUSE], tally->moved[MOVED_TO_BOTH],
+		tally->moved[MOVED_BY_OFF]);
 }
 
 static void print_line(uint64_t tried, uint64_t broken, const char *text)

@@ -31,6 +31,12 @@ enum placed {
 	PLACED
 };
 
+/*
+ * What brought slots to done lines: a clock, to its lane's, to the house's, or to both; or an
+ * off, besides its lane's own.
+ */
+enum moved { MOVED_TO_LANE, MOVED_TO_HOUSE, MOVED_TO_BOTH, MOVED_BY_OFF, MOVED };
+
 /* How often each was tried, and how often it did not hold. */
 struct tally {
 	uint64_t tried[SENTENCES];
@@ -42,6 +48,7 @@ struct tally {
 	uint64_t dropped[DROPPED]; /* lookups */
 	uint64_t placed[PLACED];
 	uint64_t attained; /* lookups that step n + 1 answered, and none before it */
+	uint64_t moved[MOVED];
 	/* how often a cause was answered while another of the call's applied as well */
 	uint64_t before[CALLS][LAST_CAUSE + 1][LAST_CAUSE + 1];
 };
@@ -58,6 +65,9 @@ void print_placed(const struct tally *tally);
 /* How many lookups were answered by step n + 1 and no sooner: a line. */
 void print_attained(const struct tally *tally);
 
+/* How many clocks and offs brought slots to done lines: a line. */
+void print_moved(const struct tally *tally);
+
 /* Adds the last call of a run that has a judge, and its difference. */
 void tally_call(struct tally *tally, const struct beside *beside);
 
@@ -67,8 +77,9 @@ void tally_label(struct tally *tally, const struct beside *beside, const struct 
 /* What is found of a call where there is no judge but the ledger. */
 struct verdict {
 	bool fault;
-	bool of_figure; /* the fault is of how long a lookup can take */
-	bool attained;	/* step n + 1 answers the lookup */
+	enum ledger_fault of; /* what it is of */
+	bool attained;	      /* step n + 1 answers the lookup */
+	bool counted;	      /* the memory was asked for the slots in done lines */
 };
 
 /* Adds the last call of a list that is judged by the ledger alone. */

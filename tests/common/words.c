@@ -16,7 +16,7 @@ struct field {
 	const char *const *parts; /* of its words; none: their number */
 };
 
-static const char *const ends[] = { "first", "last" };
+static const char *const line[] = { "first", "last", "length" };
 static const char *const halves[] = { "low word", "high word" };
 static const char *const kinds[] = {
 	"kind 0 idle", "kind 1 bottle dropped", "kind 2 door open", "kind 3 changed over"
@@ -42,10 +42,10 @@ static const struct field house[] = {
 	{ GLOBAL_LARGEST_GENERATION, "largest generation requested", NULL },
 	{ GLOBAL_PENDING, "cabinet mask", NULL },
 	{ GLOBAL_CHAINS, "chain head", NULL },
-	{ GLOBAL_FREE, "free line", ends },
-	{ GLOBAL_NEXT, "next line", ends },
-	{ GLOBAL_CURRENT, "current line", ends },
-	{ GLOBAL_DONE, "done line", ends },
+	{ GLOBAL_FREE, "free line", line },
+	{ GLOBAL_NEXT, "next line", line },
+	{ GLOBAL_CURRENT, "current line", line },
+	{ GLOBAL_DONE, "done line", line },
 	{ GLOBAL_GENERATION, "house generation", NULL },
 	{ GLOBAL_WORDS, NULL, NULL },
 };
@@ -60,9 +60,9 @@ static const struct field lane[] = {
 	{ LANE_COUNTS, "pass count", kinds },
 	{ LANE_SNAPSHOT, "snapshot count", kinds },
 	{ LANE_GENERATION, "generation", NULL },
-	{ LANE_NEXT, "next line", ends },
-	{ LANE_CURRENT, "current line", ends },
-	{ LANE_DONE, "done line", ends },
+	{ LANE_NEXT, "next line", line },
+	{ LANE_CURRENT, "current line", line },
+	{ LANE_DONE, "done line", line },
 	{ LANE_CODE, "lookup code", halves },
 	{ LANE_POSITION, "lookup position", NULL },
 	{ LANE_WORDS, NULL, NULL },

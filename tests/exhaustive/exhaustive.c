@@ -6,7 +6,9 @@
  * words; a refusal left every word; an accepted call left a legal memory and the words
  * past the total; the ledger finds no fault in the answer, nor in the slots that the open
  * sections have found. So every lookup that no end drops has its answer by step n + 1 of its
- * lane, n being the records on the chain when it started; how often no sooner is counted.
+ * lane, n being the records on the chain when it started; how often no sooner is counted. And
+ * what all clocks have answered adds up, with what offs moved, to the slots in done queues
+ * and those handed back: the ledger keeps the difference, so that this adds no states.
  *
  * The alphabet, of which each table below takes a part: one or two codes of one chain,
  * one of them 0 as in free slots, added with deposit and material 1 and replaced with 2;
@@ -112,6 +114,8 @@ static double begun; /* the run */
 static uint64_t all_states, calls, accepted[CALLS], refused[LAST_CAUSE + 1], outcomes[3];
 static uint64_t dropped; /* lookups, by the ends of their sections */
 static uint64_t attained; /* the figure, by lookups that step n + 1 answered */
+static uint64_t moving[CALLS]; /* calls that brought slots to done queues */
+static uint64_t moved_more;    /* clocks that brought more than one */
 
 /* ---- the alphabet */
 
@@ -216,7 +220,7 @@ static void shift_counts(uint32_t *lane, uint32_t kind)
 
 static void shift_generation(uint32_t *generation, const uint32_t *current_queue, uint32_t by)
 {
-	if (current_queue[END_FIRST] != PT_NONE)
+	if (current_queue[QUEUE_FIRST] != PT_NONE)
 		*generation += by;
 }
 
@@ -456,9 +460,8 @@ static void make(const struct state *from, uint32_t number, uint32_t at)
 
 	left.status = call_make(&tested, state.memory, total, answer, PT_ANSWER_WORDS, call);
 	difference = judge(call, from->memory, &left);
-	what = difference != SAME ? difference_texts[difference] : ledger_feed(&state.ledger, call, answer);
-	if (what == NULL)
-		what = ledger_kept(&state.ledger, state.memory);
+	what = difference != SAME ? difference_texts[difference] :
+		ledger_judge(&state.ledger, call, answer, from->memory, state.memory);
 	if (what != NULL)
 		fault(number, call, what);
 	count_answer(call, answer);
@@ -466,6 +469,8 @@ static void make(const struct state *from, uint32_t number, uint32_t at)
 		return;
 	attained += ledger_attains(&from->ledger, call, answer) ? 1 : 0;
 	dropped += drops(from, call) ? 1 : 0;
+	moving[call->name] += ledger_moved(call, answer, from->memory, state.memory) > 0 ? 1 : 0;
+	moved_more += call->name == CALL_CLOCK && answer[4] > 1 ? 1 : 0;
 	meet(&state, number, at, kept[number].level + 1);
 }
 
@@ -482,6 +487,8 @@ static void print_counts(void)
 	printf("\nsteps: %" PRIu64 " going, %" PRIu64 " found, %" PRIu64 " absent; lookups dropped: %" PRIu64
 		", answered by step n + 1 and no sooner: %" PRIu64 "\n",
 		outcomes[PT_GOING], outcomes[PT_FOUND], outcomes[PT_ABSENT], dropped, attained);
+	printf("clocks that moved slots into done queues: %" PRIu64 ", %" PRIu64 " of them more than one; offs: %" PRIu64 "\n",
+		moving[CALL_CLOCK], moved_more, moving[CALL_OFF]);
 }
 
 static void start(void)

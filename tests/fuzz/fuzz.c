@@ -2,8 +2,8 @@
  * fuzz.c - the library beside the C version, on calls and memories that libFuzzer makes of
  * bytes (stream.h). Each step is taken on both and judged as in every comparison (beside.h):
  * status, answer and every word; what stays; legality; and the ledger of demand 3, which
- * counts the steps of lookups too, as long as nothing was damaged. A difference is shrunk and
- * printed, and ends the run.
+ * counts the steps of lookups and what comes to done queues too, as long as nothing was
+ * damaged. A difference is shrunk and printed, and ends the run.
  *
  * The library is not compiled with the sanitizers. So memory and answer end where a page
  * begins that may be neither read nor written: a word past what is lent ends the run, and
@@ -33,6 +33,7 @@ static uint64_t calls, streams, accepted[CALLS], refused[LAST_CAUSE + 1], short_
 static uint64_t labels[2][PT_WRONG_LABEL + 1]; /* read and written: 0, and by cause */
 static uint64_t dropped; /* lookups, by the ends of their sections */
 static uint64_t attained; /* lookups that step n + 1 answered, and none before it */
+static uint64_t moving[CALLS]; /* calls that brought slots to done queues */
 
 static void report(void)
 {
@@ -45,6 +46,8 @@ static void report(void)
 	for (uint32_t cause = PT_BAD_SIZE; cause <= LAST_CAUSE; cause++)
 		printf(" %" PRIu32 ": %" PRIu64, cause, refused[cause]);
 	printf("\nfuzz: lookups dropped %" PRIu64 ", answered by step n + 1 and no sooner %" PRIu64, dropped, attained);
+	printf("\nfuzz: clocks that moved slots into done queues %" PRIu64 ", offs %" PRIu64, moving[CALL_CLOCK],
+		moving[CALL_OFF]);
 	printf("\nfuzz: labels read %" PRIu64 ", 18: %" PRIu64 "; written %" PRIu64 ", 11: %" PRIu64 ", 18: %" PRIu64 "\n",
 		labels[0][PT_OK], labels[0][PT_WRONG_LABEL], labels[1][PT_OK], labels[1][PT_OUT_OF_RANGE],
 		labels[1][PT_WRONG_LABEL]);
@@ -65,6 +68,7 @@ static void count_call(const struct call *call, uint32_t status)
 	calls++;
 	fed += beside.fed ? 1 : 0;
 	attained += beside.attained ? 1 : 0;
+	moving[call->name] += beside.moved > 0 ? 1 : 0;
 	if (status == PT_SHORT_ANSWER)
 		short_answers++;
 	else if (status != PT_OK)

@@ -67,7 +67,7 @@ int main(void)
 	if (memory == NULL)
 		return 2;
 #define LENT memory, words, answer, PT_ANSWER_WORDS
-	is("setup", pt_setup(LENT, 1, 2, 3), 0, 145, 0, 0, 0);
+	is("setup", pt_setup(LENT, 1, 2, 3), 0, 155, 0, 0, 0);
 	is("add", pt_add(LENT, 0, 17, 25, 1), 0, 0, 0, 0, 0);
 	is("replace", pt_replace(LENT, 0, 17, 30, 2), 0, 1, 0, 0, 0);
 	is("begin", pt_begin(LENT, 1), 0, 0, 0, 0, 0);
@@ -80,7 +80,7 @@ int main(void)
 	is("off", pt_off(LENT, 1), 0, 0, 0, 0, 0);
 	is("on", pt_on(LENT, 1), 0, 0, 0, 0, 0);
 	is("pass", pt_pass(LENT, 0, PT_CHANGED_OVER), 0, 0, 0, 0, 0);
-	is("clock", pt_clock(LENT, 0), 0, 2, 1, 0, 0);
+	is("clock", pt_clock(LENT, 0), 0, 2, 1, 0, 2);
 	is("hand_back", pt_hand_back(LENT, 0), 0, 0, 0, 0, 0);
 	if (pt_awaited(memory, words, answer, 4) != PT_SHORT_ANSWER)
 		wrong = 1;

@@ -11,6 +11,7 @@
 #include <inttypes.h>
 #include <stdio.h>
 #include <stdlib.h>
+#include <string.h>
 
 #include "codes.h"
 #include "ledger.h"
@@ -39,6 +40,7 @@ struct meanwhile {
 };
 
 static uint32_t memory[PT_WORDS(PT_MAX_CABINETS, PT_MAX_LANES, PT_MAX_SLOTS)];
+static uint32_t before[PT_WORDS(PT_MAX_CABINETS, PT_MAX_LANES, PT_MAX_SLOTS)]; /* the call */
 static uint32_t answer[PT_ANSWER_WORDS];
 static struct ledger ledger;
 
@@ -76,11 +78,10 @@ static uint32_t make(const struct call *call)
 {
 	const char *fault;
 
+	memcpy(before, memory, sizeof before);
 	call_make(&tested, memory, sizeof memory / sizeof memory[0], answer, PT_ANSWER_WORDS, call);
 	attained += ledger_attains(&ledger, call, answer) ? 1 : 0;
-	fault = ledger_feed(&ledger, call, answer);
-	if (fault == NULL)
-		fault = ledger_kept(&ledger, memory);
+	fault = ledger_judge(&ledger, call, answer, before, memory);
 	if (fault != NULL)
 		complain(call, fault);
 	return answer[0];

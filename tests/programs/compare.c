@@ -123,6 +123,17 @@ static void check_attained(bool often)
 	CHECK(!often || tally.attained >= OFTEN);
 }
 
+/* How many clocks and offs brought slots to done lines. */
+static void check_moved(bool often)
+{
+	enum { OFTEN = 100 };
+
+	printf("compare: ");
+	print_moved(&tally);
+	for (int n = 0; n < MOVED; n++)
+		CHECK(!often || tally.moved[n] >= OFTEN);
+}
+
 /* One list; returns the calls that were made. */
 static uint32_t play(const struct list *list, uint64_t seed, uint32_t calls)
 {
@@ -177,6 +188,7 @@ int main(int argc, char **argv)
 	check_dropped(argc == 1);
 	check_placed(argc == 1);
 	check_attained(argc == 1);
+	check_moved(argc == 1);
 	printf("compare: seed %" PRIu64 ", %" PRIu64 " calls, %" PRIu64 " slots handed back\n", first,
 		tally.calls, tally.accepted[CALL_HAND_BACK]);
 	return 0;

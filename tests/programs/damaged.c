@@ -1,6 +1,6 @@
 /*
- * damaged.c - which memories are refused: those of damages.h; every single word of a table
- * changed; and words of no meaning.
+ * damaged.c - which memories are refused: those of damages.h; every length of a queue made
+ * another; tables of version 1; every single word of a table changed; and words of no meaning.
  */
 #include <stdio.h>
 #include <stdlib.h>
@@ -57,18 +57,24 @@ static void damage(const struct damage *damage)
 	damage_memory(lent.memory, damage);
 }
 
-/* Every call but set-up refuses the memory; lent_make sees that no word changes. */
+/* Every call but set-up refuses what is lent; lent_make sees that no word changes. */
+static void check_all_refuse(void)
+{
+	for (int name = CALL_ADD; name < CALLS; name++) {
+		struct call call = one(name);
+
+		CHECK(lent_make(&lent, &call) == PT_NOT_LEGAL);
+	}
+}
+
+/* The memory breaks the sentence first and is refused; a set-up makes a fresh table of it. */
 static void check_refused(const struct damage *damage)
 {
 	if (ref_broken(lent.memory, lent.words) != damage->sentence) {
 		fprintf(stderr, "accepted, or broken otherwise, against: %s\n", damage->what);
 		exit(1);
 	}
-	for (int name = CALL_ADD; name < CALLS; name++) {
-		struct call call = one(name);
-
-		CHECK(lent_make(&lent, &call) == PT_NOT_LEGAL);
-	}
+	check_all_refuse();
 	CHECK(lent_make(&lent, &setup) == PT_OK && lent.answer[1] == TABLE_WORDS);
 	CHECK(memcmp(lent.memory, fresh, TABLE_WORDS * sizeof fresh[0]) == 0);
 }
@@ -107,6 +113,123 @@ static void test_sentences(void)
 		CHECK(met[sentence]);
 }
 
+/* ---- lengths of queues (document 02, request 6) */
+
+enum { QUEUES = 4 + 3 * DAMAGES_CABINETS * DAMAGES_LANES };
+static uint32_t queues[QUEUES]; /* their addresses */
+
+static void find_queues(void)
+{
+	static const uint32_t of_global[] = { GLOBAL_FREE, GLOBAL_NEXT, GLOBAL_CURRENT, GLOBAL_DONE };
+	static const uint32_t of_lane[] = { LANE_NEXT, LANE_CURRENT, LANE_DONE };
+	uint32_t count = 0;
+
+	for (size_t n = 0; n < COUNT(of_global); n++)
+		queues[count++] = GLOBAL(of_global[n]);
+	for (uint32_t lane = 0; lane < DAMAGES_CABINETS * DAMAGES_LANES; lane++)
+		for (size_t n = 0; n < COUNT(of_lane); n++)
+			queues[count++] = LANE(lane, of_lane[n]);
+	CHECK(count == QUEUES);
+}
+
+/* One more, one less, 0 and 4,294,967,295, where that is not the length; returns how many. */
+static uint32_t test_queue_length(enum base base, uint32_t queue)
+{
+	uint32_t *memory = base == BASE_RICH ? rich : fresh, length = memory[queue + QUEUE_LENGTH];
+	const uint32_t values[] = { length + 1, length - 1, 0, PT_NONE };
+	uint32_t tried = 0;
+
+	CHECK(length == lent_queue_length(memory, memory + queue));
+	for (size_t n = 0; n < COUNT(values); n++) {
+		const struct damage another = { base, LEGAL_LENGTHS, "length of a queue",
+			{ { queue + QUEUE_LENGTH, values[n] } } };
+
+		if (values[n] == length)
+			continue;
+		damage(&another);
+		check_refused(&another);
+		tried++;
+	}
+	return tried;
+}
+
+static void test_queue_lengths(void)
+{
+	uint32_t tried = 0;
+
+	for (uint32_t n = 0; n < QUEUES; n++) {
+		tried += test_queue_length(BASE_FRESH, queues[n]);
+		tried += test_queue_length(BASE_RICH, queues[n]);
+	}
+	printf("damaged: %u memories with another length of a queue\n", tried);
+}
+
+/* ---- tables of version 1, which have no lengths */
+
+enum { OLD_TOTAL = 262 }; /* 88 + 2 + 19 * 4 + 6 * 16 */
+
+static bool is_length(uint32_t address)
+{
+	uint32_t n = 0;
+
+	while (n < QUEUES && address != queues[n] + QUEUE_LENGTH)
+		n++;
+	return n < QUEUES;
+}
+
+/* The words that version 1 had of such a table. */
+static void put_old(uint32_t *old, const uint32_t *memory)
+{
+	static const uint32_t contents[CONTENTS_WORDS] = { 1, 2, 2, 16, 12, 76, 88, 2, 90, 76, 166, 96 };
+	uint32_t words = 0;
+
+	for (uint32_t n = 0; n < TABLE_WORDS; n++)
+		if (!is_length(n))
+			old[words++] = memory[n];
+	CHECK(words == OLD_TOTAL);
+	memcpy(old, contents, sizeof contents);
+}
+
+/* As it was, also with this version's word, and with more words lent than it had. */
+static void test_old(const uint32_t *memory)
+{
+	static const size_t lengths[] = { OLD_TOTAL, TABLE_WORDS - 1, TABLE_WORDS, LENT_WORDS };
+
+	memcpy(lent.memory, memory, sizeof lent.memory);
+	put_old(lent.memory, memory);
+	for (uint32_t version = 1; version <= PT_VERSION; version++)
+		for (size_t n = 0; n < COUNT(lengths); n++) {
+			lent.memory[CONTENTS_VERSION] = version;
+			lent.words = lengths[n];
+			check_all_refuse();
+		}
+	lent_expect(&lent, "setup 2 2 16", "0 278 0 0 0"); /* a fresh table, to move on */
+	CHECK(memcmp(lent.memory, fresh, TABLE_WORDS * sizeof fresh[0]) == 0);
+}
+
+/* A table of this version with the word of another. */
+static void test_other_version(const uint32_t *memory, uint32_t version)
+{
+	memcpy(lent.memory, memory, sizeof lent.memory);
+	CHECK(ref_legal(lent.memory, lent.words));
+	lent.memory[CONTENTS_VERSION] = version;
+	check_all_refuse();
+}
+
+static void test_versions(void)
+{
+	static const uint32_t others[] = { 0, 1, 3, PT_NONE };
+
+	test_old(fresh);
+	test_old(rich);
+	for (size_t n = 0; n < COUNT(others); n++) {
+		test_other_version(fresh, others[n]);
+		test_other_version(rich, others[n]);
+	}
+}
+
+/* ---- */
+
 /* The total is not above the length. */
 static void test_lengths(void)
 {
@@ -120,11 +243,7 @@ static void test_lengths(void)
 	}
 	memcpy(lent.memory, rich, sizeof lent.memory);
 	lent.words = TABLE_WORDS - 1;
-	for (int name = CALL_ADD; name < CALLS; name++) {
-		struct call call = one(name);
-
-		CHECK(lent_make(&lent, &call) == PT_NOT_LEGAL);
-	}
+	check_all_refuse();
 	lent.words = LENT_WORDS;
 }
 
@@ -175,7 +294,7 @@ static uint32_t check_either(const struct call *call)
 static void test_every_word(void)
 {
 	static const uint32_t values[] = {
-		0, 1, 2, 3, 4, 5, 6, 7, 8, 10, 11, 14, 15, 16, 17, 63, 64, 192, 262, 512, 529, 2147483647u,
+		0, 1, 2, 3, 4, 5, 6, 7, 8, 10, 11, 14, 15, 16, 17, 63, 64, 192, 278, 512, 529, 2147483647u,
 		2147483648u, PT_NONE - 1, PT_NONE
 	};
 	uint32_t legal = 0, tried = 0;
@@ -236,8 +355,11 @@ static void test_no_meaning(void)
 int main(void)
 {
 	build();
-	CHECK(TABLE_WORDS == 262 && PT_WORDS(2, 2, 16) == 262);
+	CHECK(TABLE_WORDS == 278 && PT_WORDS(2, 2, 16) == 278);
+	find_queues();
 	test_sentences();
+	test_queue_lengths();
+	test_versions();
 	test_lengths();
 	test_odd_lookups();
 	test_every_word();

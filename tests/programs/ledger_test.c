@@ -1,7 +1,7 @@
 /*
  * ledger_test.c - lists of calls and answers on which the ledger of demand 3 finds a
  * fault, each beside one on which it finds none; among them lookups that take one step more
- * than they may.
+ * than they may, and clocks that say one slot more or less than came to done queues.
  */
 #include <stdio.h>
 #include <stdlib.h>
@@ -11,6 +11,8 @@
 #include "lent.h"
 
 static struct ledger ledger;
+static struct lent lent;
+static uint32_t before[LENT_WORDS]; /* the last call on it */
 
 static bool attained; /* the figure, by the last step that was fed */
 
@@ -56,12 +58,12 @@ static bool says(const char *fault, const char *part)
 static void test_whole_search(void)
 {
 	static const struct lent_step present[] = {
-		{ "setup 1 2 3", "0 145 0 0 0" }, { "add 0 17 25 1", "0 0 0 0 0" },
+		{ "setup 1 2 3", "0 155 0 0 0" }, { "add 0 17 25 1", "0 0 0 0 0" },
 		{ "begin 1", "0 0 0 0 0" }, { "start 1 17", "0 0 0 0 0" },
 		{ "step 1", "0 1 0 25 1" },
 	};
 	static const struct lent_step absent[] = {
-		{ "setup 1 2 3", "0 145 0 0 0" }, { "add 0 17 25 1", "0 0 0 0 0" },
+		{ "setup 1 2 3", "0 155 0 0 0" }, { "add 0 17 25 1", "0 0 0 0 0" },
 		{ "begin 1", "0 0 0 0 0" }, { "start 1 529", "0 0 0 0 0" },
 		{ "step 1", "0 0 0 0 0" }, { "step 1", "0 2 0 0 0" },
 	};
@@ -80,18 +82,18 @@ static void test_whole_search(void)
 static void test_instants(void)
 {
 	static const struct lent_step during[] = {
-		{ "setup 1 2 3", "0 145 0 0 0" }, { "add 0 17 25 1", "0 0 0 0 0" },
+		{ "setup 1 2 3", "0 155 0 0 0" }, { "add 0 17 25 1", "0 0 0 0 0" },
 		{ "begin 1", "0 0 0 0 0" }, { "start 1 17", "0 0 0 0 0" },
 		{ "rep 0 17 26 2", "0 1 0 0 0" }, { "del 0 17", "0 1 0 0 0" },
 		{ "add 0 17 27 3", "0 2 0 0 0" }, { "step 1", "0 1 1 26 2" },
 	};
 	static const struct lent_step before[] = {
-		{ "setup 1 2 3", "0 145 0 0 0" }, { "add 0 17 25 1", "0 0 0 0 0" },
+		{ "setup 1 2 3", "0 155 0 0 0" }, { "add 0 17 25 1", "0 0 0 0 0" },
 		{ "begin 1", "0 0 0 0 0" }, { "rep 0 17 26 2", "0 1 0 0 0" },
 		{ "start 1 17", "0 0 0 0 0" }, { "step 1", "0 1 1 26 2" },
 	};
 	static const struct lent_step replaced[] = {
-		{ "setup 1 2 3", "0 145 0 0 0" }, { "add 0 17 25 1", "0 0 0 0 0" },
+		{ "setup 1 2 3", "0 155 0 0 0" }, { "add 0 17 25 1", "0 0 0 0 0" },
 		{ "begin 1", "0 0 0 0 0" }, { "start 1 17", "0 0 0 0 0" },
 		{ "rep 0 17 26 2", "0 1 0 0 0" }, { "step 1", "0 1 0 25 1" },
 	};
@@ -113,19 +115,19 @@ static void test_dropped(void)
 {
 	static const struct ledger_lane at_rest;
 	static const struct lent_step step[] = {
-		{ "setup 1 2 3", "0 145 0 0 0" }, { "add 0 17 25 1", "0 0 0 0 0" },
+		{ "setup 1 2 3", "0 155 0 0 0" }, { "add 0 17 25 1", "0 0 0 0 0" },
 		{ "begin 1", "0 0 0 0 0" }, { "start 1 17", "0 0 0 0 0" },
 		{ "end 1", "0 0 0 0 0" }, { "step 1", "10 0 0 0 0" },
 	};
 	static const struct lent_step other_code[] = {
-		{ "setup 1 2 3", "0 145 0 0 0" }, { "add 0 17 25 1", "0 0 0 0 0" },
+		{ "setup 1 2 3", "0 155 0 0 0" }, { "add 0 17 25 1", "0 0 0 0 0" },
 		{ "add 0 24 26 2", "0 1 0 0 0" }, { "begin 1", "0 0 0 0 0" },
 		{ "start 1 17", "0 0 0 0 0" }, { "end 1", "0 0 0 0 0" },
 		{ "begin 1", "0 0 0 0 0" }, { "start 1 24", "0 0 0 0 0" },
 		{ "step 1", "0 1 1 26 2" },
 	};
 	static const struct lent_step same_code[] = {
-		{ "setup 1 2 3", "0 145 0 0 0" }, { "add 0 17 25 1", "0 0 0 0 0" },
+		{ "setup 1 2 3", "0 155 0 0 0" }, { "add 0 17 25 1", "0 0 0 0 0" },
 		{ "begin 1", "0 0 0 0 0" }, { "start 1 17", "0 0 0 0 0" },
 		{ "del 0 17", "0 0 0 0 0" }, { "end 1", "0 0 0 0 0" },
 		{ "begin 1", "0 0 0 0 0" }, { "start 1 17", "0 0 0 0 0" },
@@ -147,13 +149,13 @@ static void test_dropped(void)
 static void test_dropped_on_removed(void)
 {
 	static const struct lent_step ended[] = {
-		{ "setup 1 3 3", "0 164 0 0 0" }, { "add 0 17 25 1", "0 0 0 0 0" },
+		{ "setup 1 3 3", "0 177 0 0 0" }, { "add 0 17 25 1", "0 0 0 0 0" },
 		{ "begin 2", "0 0 0 0 0" }, { "start 2 17", "0 0 0 0 0" },
 		{ "del 0 17", "0 0 0 0 0" }, { "end 2", "0 0 0 0 0" },
 		{ "back 0", "0 0 0 0 0" },
 	};
 	static const struct lent_step open[] = {
-		{ "setup 1 3 3", "0 164 0 0 0" }, { "add 0 17 25 1", "0 0 0 0 0" },
+		{ "setup 1 3 3", "0 177 0 0 0" }, { "add 0 17 25 1", "0 0 0 0 0" },
 		{ "begin 1", "0 0 0 0 0" }, { "begin 2", "0 0 0 0 0" },
 		{ "start 1 17", "0 0 0 0 0" }, { "start 2 17", "0 0 0 0 0" },
 		{ "del 0 17", "0 0 0 0 0" }, { "end 2", "0 0 0 0 0" },
@@ -169,23 +171,23 @@ static void test_dropped_on_removed(void)
 static void test_misplaced(void)
 {
 	static const struct lent_step begin[] = {
-		{ "setup 1 2 3", "0 145 0 0 0" }, { "begin 1", "0 0 0 0 0" },
+		{ "setup 1 2 3", "0 155 0 0 0" }, { "begin 1", "0 0 0 0 0" },
 		{ "begin 0", "0 0 0 0 0" }, { "begin 1", "7 0 0 0 0" },
 	};
 	static const struct lent_step end[] = {
-		{ "setup 1 2 3", "0 145 0 0 0" }, { "begin 1", "0 0 0 0 0" },
+		{ "setup 1 2 3", "0 155 0 0 0" }, { "begin 1", "0 0 0 0 0" },
 		{ "start 1 17", "0 0 0 0 0" }, { "end 1", "0 0 0 0 0" }, { "end 1", "8 0 0 0 0" },
 	};
 	static const struct lent_step outside[] = {
-		{ "setup 1 2 3", "0 145 0 0 0" }, { "begin 1", "0 0 0 0 0" },
+		{ "setup 1 2 3", "0 155 0 0 0" }, { "begin 1", "0 0 0 0 0" },
 		{ "end 1", "0 0 0 0 0" }, { "start 1 17", "8 0 0 0 0" },
 	};
 	static const struct lent_step beside[] = {
-		{ "setup 1 2 3", "0 145 0 0 0" }, { "begin 1", "0 0 0 0 0" },
+		{ "setup 1 2 3", "0 155 0 0 0" }, { "begin 1", "0 0 0 0 0" },
 		{ "start 1 17", "0 0 0 0 0" }, { "start 1 24", "9 0 0 0 0" },
 	};
 	static const struct lent_step answered[] = {
-		{ "setup 1 2 3", "0 145 0 0 0" }, { "begin 1", "0 0 0 0 0" },
+		{ "setup 1 2 3", "0 155 0 0 0" }, { "begin 1", "0 0 0 0 0" },
 		{ "start 1 17", "0 0 0 0 0" }, { "step 1", "0 2 0 0 0" }, { "step 1", "10 0 0 0 0" },
 	};
 
@@ -204,25 +206,25 @@ static void test_misplaced(void)
 static void test_hand_back(void)
 {
 	static const struct lent_step open[] = {
-		{ "setup 1 3 3", "0 164 0 0 0" }, { "add 0 17 25 1", "0 0 0 0 0" },
+		{ "setup 1 3 3", "0 177 0 0 0" }, { "add 0 17 25 1", "0 0 0 0 0" },
 		{ "begin 2", "0 0 0 0 0" }, { "del 0 17", "0 0 0 0 0" },
 		{ "begin 1", "0 0 0 0 0" }, { "back 0", "16 0 0 0 0" },
 	};
 	static const struct lent_step ended[] = {
-		{ "setup 1 3 3", "0 164 0 0 0" }, { "add 0 17 25 1", "0 0 0 0 0" },
+		{ "setup 1 3 3", "0 177 0 0 0" }, { "add 0 17 25 1", "0 0 0 0 0" },
 		{ "begin 2", "0 0 0 0 0" }, { "del 0 17", "0 0 0 0 0" },
 		{ "begin 1", "0 0 0 0 0" }, { "end 2", "0 0 0 0 0" },
 		{ "begin 2", "0 0 0 0 0" }, { "back 0", "0 0 0 0 0" },
 	};
 	static const struct lent_step twice[] = {
-		{ "setup 1 3 3", "0 164 0 0 0" }, { "add 0 17 25 1", "0 0 0 0 0" },
+		{ "setup 1 3 3", "0 177 0 0 0" }, { "add 0 17 25 1", "0 0 0 0 0" },
 		{ "del 0 17", "0 0 0 0 0" }, { "back 0", "0 0 0 0 0" },
 		{ "back 0", "16 0 0 0 0" },
 	};
 	static const struct lent_step setup_anew[] = {
-		{ "setup 1 3 3", "0 164 0 0 0" }, { "add 0 17 25 1", "0 0 0 0 0" },
+		{ "setup 1 3 3", "0 177 0 0 0" }, { "add 0 17 25 1", "0 0 0 0 0" },
 		{ "del 0 17", "0 0 0 0 0" }, { "setup 1 3 0", "1 0 0 0 0" },
-		{ "setup 1 3 3", "0 164 0 0 0" }, { "back 0", "16 0 0 0 0" },
+		{ "setup 1 3 3", "0 177 0 0 0" }, { "back 0", "16 0 0 0 0" },
 	};
 
 	CHECK(FEED(open) == NULL);
@@ -238,11 +240,11 @@ static void test_hand_back(void)
 static void test_slots(void)
 {
 	static const struct lent_step adds[] = {
-		{ "setup 1 2 3", "0 145 0 0 0" }, { "add 0 17 25 1", "0 0 0 0 0" },
+		{ "setup 1 2 3", "0 155 0 0 0" }, { "add 0 17 25 1", "0 0 0 0 0" },
 		{ "add 0 24 25 1", "0 1 0 0 0" },
 	};
 	static const struct lent_step removed[] = {
-		{ "setup 1 2 3", "0 145 0 0 0" }, { "add 0 17 25 1", "0 0 0 0 0" },
+		{ "setup 1 2 3", "0 155 0 0 0" }, { "add 0 17 25 1", "0 0 0 0 0" },
 		{ "add 0 24 25 1", "0 1 0 0 0" }, { "del 0 17", "0 0 0 0 0" },
 	};
 
@@ -261,7 +263,6 @@ static void test_kept(void)
 		"setup 1 2 3", "add 0 64424509457 25 1", "begin 1", "start 1 64424509457", "step 1",
 		"del 0 64424509457",
 	};
-	static struct lent lent;
 	struct call end = { CALL_END, { 1 } };
 	uint32_t *slot;
 
@@ -300,26 +301,26 @@ static void test_kept(void)
 static void test_figure(void)
 {
 	static const struct lent_step two[] = {
-		{ "setup 1 2 4", "0 151 0 0 0" }, { "add 0 192 1 1", "0 0 0 0 0" },
+		{ "setup 1 2 4", "0 161 0 0 0" }, { "add 0 192 1 1", "0 0 0 0 0" },
 		{ "add 0 512 2 2", "0 1 0 0 0" }, { "begin 1", "0 0 0 0 0" },
 		{ "start 1 0", "0 0 0 0 0" }, { "step 1", GOING }, { "step 1", GOING },
 		{ "step 1", ABSENT },
 	};
 	static const struct lent_step sooner[] = {
-		{ "setup 1 2 4", "0 151 0 0 0" }, { "add 0 192 1 1", "0 0 0 0 0" },
+		{ "setup 1 2 4", "0 161 0 0 0" }, { "add 0 192 1 1", "0 0 0 0 0" },
 		{ "add 0 512 2 2", "0 1 0 0 0" }, { "begin 1", "0 0 0 0 0" },
 		{ "start 1 192", "0 0 0 0 0" }, { "step 1", GOING }, { "step 1", "0 1 0 1 1" },
 	};
 	static const struct lent_step two_lanes[] = {
-		{ "setup 1 2 4", "0 151 0 0 0" }, { "add 0 192 1 1", "0 0 0 0 0" },
+		{ "setup 1 2 4", "0 161 0 0 0" }, { "add 0 192 1 1", "0 0 0 0 0" },
 		{ "begin 0", "0 0 0 0 0" }, { "begin 1", "0 0 0 0 0" },
 		{ "start 0 0", "0 0 0 0 0" }, { "start 1 0", "0 0 0 0 0" },
 		{ "step 0", GOING }, { "step 1", GOING }, { "step 0", ABSENT }, { "step 1", ABSENT },
 	};
 
 	CHECK_LAST(two);
-	CHECK(ledger_fault_of_figure(FAULT(two, GOING)));
-	CHECK(!ledger_fault_of_figure(FAULT(two, "0 1 0 1 1")) && !ledger_fault_of_figure(NULL));
+	CHECK(ledger_fault_of(FAULT(two, GOING)) == FAULT_OF_FIGURE);
+	CHECK(ledger_fault_of(FAULT(two, "0 1 0 1 1")) == FAULT_OF_DEMAND_3);
 	CHECK(FEED(sooner) == NULL && !attained);
 	CHECK(FAULT(sooner, GOING) == NULL); /* one step is left */
 	CHECK_LAST(two_lanes);
@@ -329,21 +330,21 @@ static void test_figure(void)
 static void test_figure_meanwhile(void)
 {
 	static const struct lent_step added[] = {
-		{ "setup 1 2 4", "0 151 0 0 0" }, { "add 0 192 1 1", "0 0 0 0 0" },
+		{ "setup 1 2 4", "0 161 0 0 0" }, { "add 0 192 1 1", "0 0 0 0 0" },
 		{ "add 0 512 2 2", "0 1 0 0 0" }, { "begin 1", "0 0 0 0 0" },
 		{ "start 1 0", "0 0 0 0 0" }, { "add 0 1472 3 3", "0 2 0 0 0" },
 		{ "step 1", GOING }, { "add 0 1984 4 4", "0 3 0 0 0" }, { "step 1", GOING },
 		{ "step 1", ABSENT },
 	};
 	static const struct lent_step deleted[] = {
-		{ "setup 1 2 4", "0 151 0 0 0" }, { "add 0 192 1 1", "0 0 0 0 0" },
+		{ "setup 1 2 4", "0 161 0 0 0" }, { "add 0 192 1 1", "0 0 0 0 0" },
 		{ "add 0 512 2 2", "0 1 0 0 0" }, { "begin 1", "0 0 0 0 0" },
 		{ "start 1 0", "0 0 0 0 0" }, { "del 0 512", "0 1 0 0 0" },
 		{ "step 1", GOING }, { "del 0 192", "0 0 0 0 0" }, { "step 1", GOING },
 		{ "step 1", ABSENT },
 	};
 	static const struct lent_step replaced[] = {
-		{ "setup 1 2 4", "0 151 0 0 0" }, { "add 0 192 1 1", "0 0 0 0 0" },
+		{ "setup 1 2 4", "0 161 0 0 0" }, { "add 0 192 1 1", "0 0 0 0 0" },
 		{ "begin 1", "0 0 0 0 0" }, { "start 1 0", "0 0 0 0 0" },
 		{ "rep 0 192 2 2", "0 1 0 0 0" }, { "step 1", GOING },
 		{ "rep 0 192 3 3", "0 2 1 0 0" }, { "step 1", ABSENT },
@@ -358,23 +359,23 @@ static void test_figure_meanwhile(void)
 static void test_figure_counts(void)
 {
 	static const struct lent_step others[] = {
-		{ "setup 1 2 4", "0 151 0 0 0" }, { "add 0 17 1 1", "0 0 0 0 0" },
+		{ "setup 1 2 4", "0 161 0 0 0" }, { "add 0 17 1 1", "0 0 0 0 0" },
 		{ "add 0 24 2 2", "0 1 0 0 0" }, { "begin 1", "0 0 0 0 0" },
 		{ "start 1 0", "0 0 0 0 0" }, { "step 1", ABSENT },
 	};
 	static const struct lent_step removed[] = {
-		{ "setup 1 2 4", "0 151 0 0 0" }, { "add 0 192 1 1", "0 0 0 0 0" },
+		{ "setup 1 2 4", "0 161 0 0 0" }, { "add 0 192 1 1", "0 0 0 0 0" },
 		{ "add 0 512 2 2", "0 1 0 0 0" }, { "del 0 192", "0 0 0 0 0" },
 		{ "begin 1", "0 0 0 0 0" }, { "start 1 0", "0 0 0 0 0" }, { "step 1", GOING },
 		{ "step 1", ABSENT },
 	};
 	static const struct lent_step replaced[] = {
-		{ "setup 1 2 4", "0 151 0 0 0" }, { "add 0 192 1 1", "0 0 0 0 0" },
+		{ "setup 1 2 4", "0 161 0 0 0" }, { "add 0 192 1 1", "0 0 0 0 0" },
 		{ "rep 0 192 2 2", "0 1 0 0 0" }, { "begin 1", "0 0 0 0 0" },
 		{ "start 1 0", "0 0 0 0 0" }, { "step 1", GOING }, { "step 1", ABSENT },
 	};
 	static const struct lent_step itself[] = { /* the code's own entry is on its chain */
-		{ "setup 1 2 4", "0 151 0 0 0" }, { "add 0 0 1 1", "0 0 0 0 0" },
+		{ "setup 1 2 4", "0 161 0 0 0" }, { "add 0 0 1 1", "0 0 0 0 0" },
 		{ "begin 1", "0 0 0 0 0" }, { "start 1 0", "0 0 0 0 0" },
 		{ "del 0 0", "0 0 0 0 0" }, { "step 1", GOING }, { "step 1", ABSENT },
 	};
@@ -389,14 +390,14 @@ static void test_figure_counts(void)
 static void test_figure_dropped(void)
 {
 	static const struct lent_step anew[] = {
-		{ "setup 1 2 4", "0 151 0 0 0" }, { "add 0 192 1 1", "0 0 0 0 0" },
+		{ "setup 1 2 4", "0 161 0 0 0" }, { "add 0 192 1 1", "0 0 0 0 0" },
 		{ "begin 1", "0 0 0 0 0" }, { "start 1 0", "0 0 0 0 0" }, { "step 1", GOING },
 		{ "end 1", "0 0 0 0 0" }, { "add 0 512 2 2", "0 1 0 0 0" },
 		{ "begin 1", "0 0 0 0 0" }, { "start 1 0", "0 0 0 0 0" }, { "step 1", GOING },
 		{ "step 1", GOING }, { "step 1", ABSENT },
 	};
 	static const struct lent_step again[] = { /* in the same section */
-		{ "setup 1 2 4", "0 151 0 0 0" }, { "add 0 192 1 1", "0 0 0 0 0" },
+		{ "setup 1 2 4", "0 161 0 0 0" }, { "add 0 192 1 1", "0 0 0 0 0" },
 		{ "begin 1", "0 0 0 0 0" }, { "start 1 192", "0 0 0 0 0" },
 		{ "step 1", "0 1 0 1 1" }, { "start 1 0", "0 0 0 0 0" }, { "step 1", GOING },
 		{ "step 1", ABSENT },
@@ -410,7 +411,7 @@ static void test_figure_dropped(void)
 static void test_figure_refused(void)
 {
 	static const struct lent_step runs[] = {
-		{ "setup 1 2 4", "0 151 0 0 0" }, { "add 0 192 1 1", "0 0 0 0 0" },
+		{ "setup 1 2 4", "0 161 0 0 0" }, { "add 0 192 1 1", "0 0 0 0 0" },
 		{ "begin 1", "0 0 0 0 0" }, { "start 1 0", "0 0 0 0 0" },
 		{ "start 1 0", "9 0 0 0 0" }, { "step 0", "10 0 0 0 0" }, { "step 2", "4 0 0 0 0" },
 		{ "step 4294967295", "4 0 0 0 0" }, { "step 1", GOING },
@@ -418,8 +419,135 @@ static void test_figure_refused(void)
 
 	CHECK(FEED(runs) == NULL);
 	CHECK(says(FAULT(runs, "10 0 0 0 0"), "refused while") && !attained);
-	CHECK(ledger_fault_of_figure(FAULT(runs, "5 0 0 0 0")));
-	CHECK(ledger_fault_of_figure(FAULT(runs, "3 0 0 0 0")));
+	CHECK(ledger_fault_of(FAULT(runs, "5 0 0 0 0")) == FAULT_OF_FIGURE);
+	CHECK(ledger_fault_of(FAULT(runs, "3 0 0 0 0")) == FAULT_OF_FIGURE);
+}
+
+/* ---- what comes to done queues */
+
+/* A call, and how many slots it brings to done queues. */
+struct count {
+	const char *line;
+	uint32_t moved;
+};
+
+/* Judges the call with another fourth number: that is a fault. */
+static void check_miscounted(const struct ledger *then, const struct call *call, uint32_t number)
+{
+	static struct ledger wrong;
+	uint32_t answer[PT_ANSWER_WORDS];
+
+	wrong = *then;
+	memcpy(answer, lent.answer, sizeof answer);
+	answer[4] = number;
+	CHECK(ledger_fault_of(ledger_judge(&wrong, call, answer, before, lent.memory)) == FAULT_OF_COUNT);
+}
+
+/* The memory's part: nothing was moved, or the slot that is handed back is there still. */
+static void check_unmoved(const struct ledger *then, const struct call *call)
+{
+	static struct ledger wrong;
+
+	wrong = *then;
+	CHECK(ledger_fault_of(ledger_judge(&wrong, call, lent.answer, before, before)) == FAULT_OF_COUNT);
+}
+
+static void count(const struct count *step)
+{
+	static struct ledger then;
+	struct call call = lent_call(step->line);
+
+	then = ledger;
+	memcpy(before, lent.memory, sizeof before);
+	CHECK(lent_make(&lent, &call) == PT_OK);
+	CHECK(ledger_judge(&ledger, &call, lent.answer, before, lent.memory) == NULL);
+	CHECK(ledger_moved(&call, lent.answer, before, lent.memory) == step->moved);
+	if (call.name == CALL_CLOCK) {
+		CHECK(lent.answer[4] == step->moved);
+		check_miscounted(&then, &call, step->moved + 1);
+		check_miscounted(&then, &call, step->moved - 1);
+	} else if (call.name == CALL_OFF) {
+		CHECK(lent.answer[4] == 0);
+	}
+	if ((call.name == CALL_CLOCK && step->moved > 0) || call.name == CALL_HAND_BACK)
+		check_unmoved(&then, &call);
+}
+
+static void count_all(const struct count *steps, size_t length)
+{
+	lent_start(&lent);
+	for (size_t n = 0; n < length; n++)
+		count(&steps[n]);
+}
+
+#define COUNT_ALL(steps) count_all(steps, sizeof(steps) / sizeof((steps)[0]))
+
+/* Clocks of a lane's slots, and of a lane's and the global one's together. */
+static void test_counted(void)
+{
+	static const struct count both[] = {
+		{ "setup 1 3 8", 0 }, { "add 0 17 1 1", 0 }, { "add 0 24 1 1", 0 }, { "add 0 31 1 1", 0 },
+		{ "del 1 31", 0 }, { "clock 1", 0 }, { "del 0 17", 0 }, { "del 2 24", 0 }, { "off 2", 0 },
+		{ "clock 0", 0 }, { "pass 0 0", 0 }, { "pass 1 0", 0 }, { "clock 1", 0 }, { "clock 0", 0 },
+		{ "clock 1", 1 }, { "pass 1 0", 0 }, { "clock 1", 0 }, { "pass 0 0", 0 }, { "clock 0", 2 },
+		{ "back 0", 0 }, { "back 0", 0 }, { "back 1", 0 },
+	};
+
+	COUNT_ALL(both);
+	CHECK(ledger.done == 0);
+	count(&(struct count){ "setup 1 2 3", 0 }); /* begins anew */
+	CHECK(ledger.done == 0);
+}
+
+/* What an off brings there it does not answer; a lane's own done slots were counted before. */
+static void test_counted_off(void)
+{
+	static const struct count global[] = {
+		{ "setup 1 3 8", 0 }, { "add 0 17 1 1", 0 }, { "del 2 17", 0 }, { "off 2", 0 },
+		{ "clock 0", 0 }, { "pass 0 0", 0 }, { "clock 0", 0 }, { "off 1", 1 },
+	};
+	static const struct count own[] = {
+		{ "setup 1 2 4", 0 }, { "add 0 17 1 1", 0 }, { "del 1 17", 0 }, { "clock 1", 0 },
+		{ "clock 0", 0 }, { "pass 0 0", 0 }, { "clock 0", 0 }, { "pass 1 0", 0 },
+		{ "clock 1", 1 }, { "off 1", 0 },
+	};
+	static const struct call off = { CALL_OFF, { 1 } };
+
+	COUNT_ALL(global);
+	CHECK(ledger.done == 1);
+	ledger.done = 0; /* the same off, as if it had moved nothing */
+	CHECK(ledger_fault_of(ledger_judge(&ledger, &off, lent.answer, lent.memory, lent.memory)) == FAULT_OF_COUNT);
+	COUNT_ALL(own);
+	CHECK(ledger.done == 1);
+	count(&(struct count){ "back 0", 0 });
+	CHECK(ledger.done == 0);
+}
+
+/* A slot that leaves a done queue otherwise, or comes to one, is missed or too many. */
+static void test_counted_memory(void)
+{
+	static const struct count steps[] = {
+		{ "setup 1 1 3", 0 }, { "add 0 17 1 1", 0 }, { "add 0 24 1 1", 0 }, { "del 0 17", 0 },
+		{ "clock 0", 0 }, { "pass 0 0", 0 }, { "clock 0", 1 },
+	};
+	static const struct call awaited = { .name = CALL_AWAITED };
+	static const uint32_t answer[PT_ANSWER_WORDS];
+	uint32_t *done;
+
+	COUNT_ALL(steps);
+	done = lent_lane(lent.memory, 0) + LANE_DONE;
+	CHECK(ledger_judge(&ledger, &awaited, answer, lent.memory, lent.memory) == NULL);
+	done[QUEUE_LENGTH] = 2; /* the slots are counted along the links */
+	CHECK(ledger_judge(&ledger, &awaited, answer, lent.memory, lent.memory) == NULL);
+	done[QUEUE_FIRST] = PT_NONE;
+	CHECK(ledger_fault_of(ledger_judge(&ledger, &awaited, answer, lent.memory, lent.memory)) == FAULT_OF_COUNT);
+	done[QUEUE_FIRST] = 0;
+	lent_slot(lent.memory, 0)[SLOT_QUEUE_LINK] = 1;
+	CHECK(ledger_fault_of(ledger_judge(&ledger, &awaited, answer, lent.memory, lent.memory)) == FAULT_OF_COUNT);
+	lent_slot(lent.memory, 1)[SLOT_QUEUE_LINK] = 0; /* round and round: counted once */
+	CHECK(ledger_fault_of(ledger_judge(&ledger, &awaited, answer, lent.memory, lent.memory)) == FAULT_OF_COUNT);
+	lent_slot(lent.memory, 0)[SLOT_QUEUE_LINK] = PT_NONE - 1; /* out of the table */
+	CHECK(ledger_judge(&ledger, &awaited, answer, lent.memory, lent.memory) == NULL);
 }
 
 int main(void)
@@ -437,6 +565,9 @@ int main(void)
 	test_figure_counts();
 	test_figure_dropped();
 	test_figure_refused();
+	test_counted();
+	test_counted_off();
+	test_counted_memory();
 	puts("ledger: true lists pass, false ones are found");
 	return 0;
 }

@@ -1,10 +1,12 @@
 /*
  * listing-ledger.c - lists fed to the ledger of demand 3, and what it holds at some of
- * their instants: document 01's listing at eleven, those of the definitions' computed ledger
+ * their instants: document 01's listing at twelve, those of the definitions' computed ledger
  * (crate cases, Ledgers), and a list in which the end of a section drops its lookup. The
- * ledger keeps of a removed slot's sections those still open.
+ * ledger keeps of a removed slot's sections those still open, and how many slots came to
+ * done queues and were not handed back.
  */
 #include <stdio.h>
+#include <string.h>
 
 #include "ledger.h"
 #include "lent.h"
@@ -18,7 +20,7 @@ static const struct lent_step listing[] = {
 	{ "clock 0", "0 1 1 1 0" }, { "pass 1 0", "7 0 0 0 0" },
 	{ "end 1", "0 0 0 0 0" }, { "pass 1 0", "0 0 0 0 0" },
 	{ "clock 1", "0 2 1 0 0" }, { "back 0", "16 0 0 0 0" },
-	{ "clock 0", "0 2 1 0 0" }, { "back 0", "0 0 0 0 0" },
+	{ "clock 0", "0 2 1 0 1" }, { "back 0", "0 0 0 0 0" },
 	{ "awaited", "0 0 4294967295 3 0" },
 };
 
@@ -39,31 +41,33 @@ struct book {
 	bool searches; /* lane 1's lookup of 17 */
 	bool out;      /* slot 0 */
 	uint64_t sections; /* open still, of those of its removal: bit 1 is lane 1's */
+	uint64_t done;	   /* slots */
 };
 
 static const struct book listing_books[] = {
-	{ 0, false, false, false, false, 0 },
-	{ 1, true, false, false, false, 0 },
-	{ 2, true, true, false, false, 0 },
-	{ 3, true, true, true, false, 0 },
-	{ 4, false, true, true, true, 2 },
-	{ 5, false, true, false, true, 2 },
-	{ 10, false, true, false, true, 2 },
-	{ 11, false, false, false, true, 0 },
-	{ 15, false, false, false, true, 0 },
-	{ 16, false, false, false, false, 0 },
-	{ 17, false, false, false, false, 0 },
+	{ 0, false, false, false, false, 0, 0 },
+	{ 1, true, false, false, false, 0, 0 },
+	{ 2, true, true, false, false, 0, 0 },
+	{ 3, true, true, true, false, 0, 0 },
+	{ 4, false, true, true, true, 2, 0 },
+	{ 5, false, true, false, true, 2, 0 },
+	{ 10, false, true, false, true, 2, 0 },
+	{ 11, false, false, false, true, 0, 0 },
+	{ 14, false, false, false, true, 0, 0 },
+	{ 15, false, false, false, true, 0, 1 },
+	{ 16, false, false, false, false, 0, 0 },
+	{ 17, false, false, false, false, 0, 0 },
 };
 
 static const struct book taken_back_books[] = {
-	{ 3, true, true, true, false, 0 },
-	{ 4, false, true, true, true, 2 },
-	{ 5, false, false, false, true, 0 },
-	{ 6, false, false, false, true, 0 },
-	{ 7, false, true, false, true, 0 },
-	{ 8, false, true, true, true, 0 },
-	{ 9, false, true, false, true, 0 },
-	{ 10, false, false, false, true, 0 },
+	{ 3, true, true, true, false, 0, 0 },
+	{ 4, false, true, true, true, 2, 0 },
+	{ 5, false, false, false, true, 0, 0 },
+	{ 6, false, false, false, true, 0, 0 },
+	{ 7, false, true, false, true, 0, 0 },
+	{ 8, false, true, true, true, 0, 0 },
+	{ 9, false, true, false, true, 0, 0 },
+	{ 10, false, false, false, true, 0, 0 },
 };
 
 static struct lent lent;
@@ -99,12 +103,14 @@ static void check_lanes(const struct book *book)
 /* Makes the calls from one instant to another, each with its answer. */
 static void make_calls(const struct lent_step *calls, size_t from, size_t to)
 {
+	static uint32_t before[LENT_WORDS];
+
 	for (size_t n = from; n < to; n++) {
 		struct call call = lent_call(calls[n].call);
 
+		memcpy(before, lent.memory, sizeof before);
 		lent_expect(&lent, calls[n].call, calls[n].answer);
-		CHECK(ledger_feed(&ledger, &call, lent.answer) == NULL);
-		CHECK(ledger_kept(&ledger, lent.memory) == NULL);
+		CHECK(ledger_judge(&ledger, &call, lent.answer, before, lent.memory) == NULL);
 	}
 }
 
@@ -112,12 +118,13 @@ static void make_calls(const struct lent_step *calls, size_t from, size_t to)
 static void keep_books(const struct lent_step *calls, const struct book *books, size_t count)
 {
 	lent_start(&lent);
-	lent_expect(&lent, "setup 1 2 3", "0 145 0 0 0");
+	lent_expect(&lent, "setup 1 2 3", "0 155 0 0 0");
 	ledger_reset(&ledger);
 	for (size_t n = 0; n < count; n++) {
 		make_calls(calls, n == 0 ? 0 : books[n - 1].instant, books[n].instant);
 		check_slots(&books[n]);
 		check_lanes(&books[n]);
+		CHECK(ledger.done == books[n].done);
 	}
 }
 

@@ -122,10 +122,11 @@ static void end_period(const struct counted *lane)
 	uint32_t *words = lent_lane(expected, lane->number);
 
 	lent_global(expected)[GLOBAL_CURRENT_GENERATION]++;
-	if (words[LANE_CURRENT + END_FIRST] == PT_NONE)
+	if (words[LANE_CURRENT + QUEUE_FIRST] == PT_NONE)
 		return;
-	memcpy(words + LANE_DONE, words + LANE_CURRENT, END_WORDS * sizeof *words);
-	words[LANE_CURRENT + END_FIRST] = words[LANE_CURRENT + END_LAST] = PT_NONE;
+	memcpy(words + LANE_DONE, words + LANE_CURRENT, QUEUE_WORDS * sizeof *words);
+	words[LANE_CURRENT + QUEUE_FIRST] = words[LANE_CURRENT + QUEUE_LAST] = PT_NONE;
+	words[LANE_CURRENT + QUEUE_LENGTH] = 0;
 	words[LANE_GENERATION] = 0;
 }
 

@@ -3,7 +3,8 @@
  * each call: the memory is legal, a refused call changed nothing, the ledger of
  * demand 3 finds no fault, and a second memory of exactly the total answered alike. By
  * the ledger a lookup with n records on its chain at the start is answered by step n + 1
- * of its lane; how many were answered no sooner is counted.
+ * of its lane; how many were answered no sooner is counted. By the ledger, too, what clocks
+ * answer adds up to the slots in done queues and those handed back, but for what offs moved.
  */
 #include <inttypes.h>
 #include <stdio.h>
@@ -29,6 +30,7 @@ static const struct list lists[] = {
 };
 
 static struct lent lent;
+static uint32_t before[LENT_WORDS]; /* the last call */
 static struct ledger ledger;
 static uint64_t seed;
 static uint32_t *exact; /* the second memory */
@@ -36,6 +38,7 @@ static uint32_t *exact; /* the second memory */
 /* What all lists reached. */
 static uint32_t accepted[CALLS], refused[LAST_CAUSE + 1];
 static uint32_t found, absent, dropped, attained, periods;
+static uint32_t moving[CALLS], moved; /* calls that brought slots to done queues; slots of clocks */
 
 static uint32_t draw(uint32_t below)
 {
@@ -71,19 +74,21 @@ static void count_answer(const struct call *call, uint32_t generation)
 		absent++;
 	if (lent_global(lent.memory)[GLOBAL_CURRENT_GENERATION] == generation + 1)
 		periods++;
+	moving[call->name] += ledger_moved(call, lent.answer, before, lent.memory) > 0 ? 1 : 0;
+	moved += call->name == CALL_CLOCK ? lent.answer[4] : 0;
 }
 
 /* The ledger of demand 3; a call on a memory lent short is none of the list. */
 static void judge(const struct call *call)
 {
-	const char *fault = NULL;
+	const char *fault;
 
 	if (lent.words == LENT_WORDS) {
 		attained += ledger_attains(&ledger, call, lent.answer) ? 1 : 0;
-		fault = ledger_feed(&ledger, call, lent.answer);
-	}
-	if (fault == NULL)
+		fault = ledger_judge(&ledger, call, lent.answer, before, lent.memory);
+	} else {
 		fault = ledger_kept(&ledger, lent.memory);
+	}
 	if (fault != NULL)
 		complain(call, fault);
 }
@@ -95,6 +100,7 @@ static void make(const struct call *call, size_t length)
 	uint32_t answer[PT_ANSWER_WORDS];
 	bool unfinished = drops(call);
 
+	memcpy(before, lent.memory, sizeof before);
 	lent_make(&lent, call);
 	dropped += unfinished && lent.answer[0] == PT_OK ? 1 : 0;
 	call_make(&tested, exact, length, answer, PT_ANSWER_WORDS, call);
@@ -137,6 +143,16 @@ static void let_many_pass(uint32_t lanes, size_t total)
 			let_pass(l, total);
 }
 
+/* A lane leaves with slots that it removed. */
+static void let_leave(const struct list *list, size_t total)
+{
+	static struct call calls[LEAVING_CALLS];
+	uint32_t count = draw_leaving(&seed, list, calls);
+
+	for (uint32_t n = 0; n < count; n++)
+		make(&calls[n], total);
+}
+
 static void set_up(const struct list *list, size_t total)
 {
 	struct call setup = { CALL_SETUP, { list->cabinets, list->lanes, list->slots } };
@@ -175,6 +191,8 @@ static void run(const struct list *list)
 			make(&call, total);
 		if (draw(20 + 10 * lanes) == 0)
 			let_many_pass(lanes, total);
+		if (lanes > 1 && draw(40 + 20 * lanes) == 0)
+			let_leave(list, total);
 	}
 	free(exact);
 }
@@ -196,9 +214,12 @@ int main(void)
 		calls += refused[cause];
 	}
 	CHECK(found > 0 && absent > 0 && dropped > 0 && attained > 0 && periods > 0);
+	CHECK(moving[CALL_CLOCK] > 0 && moving[CALL_OFF] > 0);
 	printf("random run: %" PRIu32 " calls, %" PRIu32 " found, %" PRIu32 " absent, %" PRIu32
 		" dropped, %" PRIu32 " answered by step n + 1 and no sooner, %" PRIu32
-		" grace periods, %" PRIu32 " slots handed back\n",
-		calls, found, absent, dropped, attained, periods, accepted[CALL_HAND_BACK]);
+		" grace periods\nrandom run: %" PRIu32 " clocks moved %" PRIu32 " slots into done queues, %" PRIu32
+		" offs moved some; %" PRIu32 " slots handed back\n",
+		calls, found, absent, dropped, attained, periods, moving[CALL_CLOCK], moved,
+		moving[CALL_OFF], accepted[CALL_HAND_BACK]);
 	return 0;
 }

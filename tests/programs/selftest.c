@@ -1,7 +1,8 @@
 /*
  * selftest.c - executed cases of the fourteen calls: the words of a set-up, every
  * cause and the order of the causes, limits, wraps, chains, dropped lookups, grace
- * periods, lanes on and off, short answers, and the words past the total.
+ * periods, lanes on and off, lengths of queues, short answers, and the words past the
+ * total.
  */
 #include <stdio.h>
 #include <stdlib.h>
@@ -13,41 +14,42 @@
 
 static struct lent lent;
 
-/* Addresses here are document 01's numbers, and not those of layout.h. */
+#define EMPTY PT_NONE, PT_NONE, 0 /* a queue: first, last, length */
+
+/* Addresses here are the papers' numbers, and not those of layout.h. */
 static void test_words_of_setup(void)
 {
-	static const uint32_t contents[12] = { 1, 1, 1, 2, 12, 76, 88, 1, 89, 19, 108, 12 };
-	static const uint32_t lane[19] = {
-		1, 0, 0, 0, 0, 0, 0, 0, 0, 0,
-		PT_NONE, PT_NONE, PT_NONE, PT_NONE, PT_NONE, PT_NONE, 0, 0, PT_NONE
+	static const uint32_t contents[12] = { 2, 1, 1, 2, 12, 80, 92, 1, 93, 22, 115, 12 };
+	static const uint32_t queues[13] = { 0, 1, 2, EMPTY, EMPTY, EMPTY, 0 }; /* and the generation */
+	static const uint32_t lane[22] = {
+		1, 0, 0, 0, 0, 0, 0, 0, 0, 0, EMPTY, EMPTY, EMPTY, 0, 0, PT_NONE
 	};
 	static const uint32_t slots[12] = {
 		0, 0, 0, 0, PT_NONE, 1, 0, 0, 0, 0, PT_NONE, PT_NONE
 	};
-	uint32_t expected[120];
+	uint32_t expected[127];
 
-	for (int n = 0; n < 120; n++)
+	for (int n = 0; n < 127; n++)
 		expected[n] = PT_NONE;
 	memcpy(expected, contents, sizeof contents);
 	expected[12] = 1; /* current generation */
 	expected[13] = 0; /* largest requested */
 	expected[14] = 0; /* cabinet mask */
-	expected[79] = 0; /* free queue */
-	expected[80] = 1;
-	expected[87] = 0; /* generation of the global current queue */
-	expected[88] = 0; /* lane mask */
-	memcpy(expected + 89, lane, sizeof lane);
-	memcpy(expected + 108, slots, sizeof slots);
+	memcpy(expected + 79, queues, sizeof queues); /* free, next, current, done */
+	expected[92] = 0; /* lane mask */
+	memcpy(expected + 93, lane, sizeof lane);
+	memcpy(expected + 115, slots, sizeof slots);
 
 	lent_start(&lent);
-	lent_expect(&lent, "setup 1 1 2", "0 120 0 0 0");
+	lent_expect(&lent, "setup 1 1 2", "0 127 0 0 0");
+	CHECK(lent.memory[0] == PT_VERSION);
 	CHECK(memcmp(lent.memory, expected, sizeof expected) == 0);
 }
 
 static void test_words_of_calls(void)
 {
 	static const struct lent_step steps[] = {
-		{ "setup 1 2 3", "0 145 0 0 0" },
+		{ "setup 1 2 3", "0 155 0 0 0" },
 		{ "add 0 64424509457 25 1", "0 0 0 0 0" }, /* 15 * 2^32 + 17 */
 		{ "add 0 17 26 2", "0 1 0 0 0" },
 		{ "begin 1", "0 0 0 0 0" },
@@ -56,13 +58,11 @@ static void test_words_of_calls(void)
 		{ "pass 0 3", "0 0 0 0 0" },
 		{ "clock 0", "0 1 1 1 0" },
 	};
-	static const uint32_t lane0[19] = {
-		9, 0, 0, 0, 1, 0, 0, 0, 1, 1,
-		PT_NONE, PT_NONE, 1, 1, PT_NONE, PT_NONE, 0, 0, PT_NONE
+	static const uint32_t lane0[22] = {
+		9, 0, 0, 0, 1, 0, 0, 0, 1, 1, EMPTY, 1, 1, 1, EMPTY, 0, 0, PT_NONE
 	};
-	static const uint32_t lane1[19] = {
-		7, 0, 0, 0, 0, 0, 0, 0, 0, 0,
-		PT_NONE, PT_NONE, PT_NONE, PT_NONE, PT_NONE, PT_NONE, 17, 15, 1
+	static const uint32_t lane1[22] = {
+		7, 0, 0, 0, 0, 0, 0, 0, 0, 0, EMPTY, EMPTY, EMPTY, 17, 15, 1
 	};
 	static const uint32_t slots[18] = {
 		17, 15, 25, 1, PT_NONE, PT_NONE, 17, 0, 26, 2, 0, PT_NONE,
@@ -73,11 +73,11 @@ static void test_words_of_calls(void)
 	LENT_PLAY(&lent, steps);
 	CHECK(lent.memory[12] == 1 && lent.memory[13] == 1 && lent.memory[14] == 1);
 	CHECK(lent.memory[15 + 17] == 0);
-	CHECK(lent.memory[79] == 2 && lent.memory[80] == 2);
-	CHECK(lent.memory[88] == 3);
-	CHECK(memcmp(lent.memory + 89, lane0, sizeof lane0) == 0);
-	CHECK(memcmp(lent.memory + 108, lane1, sizeof lane1) == 0);
-	CHECK(memcmp(lent.memory + 127, slots, sizeof slots) == 0);
+	CHECK(lent.memory[79] == 2 && lent.memory[80] == 2 && lent.memory[81] == 1);
+	CHECK(lent.memory[92] == 3);
+	CHECK(memcmp(lent.memory + 93, lane0, sizeof lane0) == 0);
+	CHECK(memcmp(lent.memory + 115, lane1, sizeof lane1) == 0);
+	CHECK(memcmp(lent.memory + 137, slots, sizeof slots) == 0);
 }
 
 static void test_totals(void)
@@ -89,7 +89,7 @@ static void test_totals(void)
 	for (uint32_t c = 1; c <= 8; c++)
 		for (uint32_t m = 1; m <= 8; m++)
 			for (uint32_t s = 1; s <= 1024; s += 93) {
-				size_t total = 88 + c + 19 * c * m + 6 * s;
+				size_t total = 92 + c + 22 * c * m + 6 * s;
 
 				CHECK(PT_WORDS(c, m, s) == total);
 				CHECK(tested.setup(memory, total, answer, 5, c, m, s) == 0);
@@ -115,15 +115,15 @@ static void test_setup_refusals(void)
 	lent.words = 0; /* the size is tested first */
 	LENT_PLAY(&lent, sizes);
 	lent_expect(&lent, "setup 1 1 1", "2 0 0 0 0");
-	lent.words = 7455;
+	lent.words = 7651;
 	lent_expect(&lent, "setup 8 8 1024", "2 0 0 0 0");
-	lent.words = 7456;
-	lent_expect(&lent, "setup 8 8 1024", "0 7456 0 0 0");
+	lent.words = 7652;
+	lent_expect(&lent, "setup 8 8 1024", "0 7652 0 0 0");
 	lent_expect(&lent, "awaited", "0 0 4294967295 1024 0");
 	/* A refused set-up leaves the table; an accepted one begins another. */
 	lent_expect(&lent, "setup 8 8 1025", "1 0 0 0 0");
 	lent_expect(&lent, "begin 63", "0 0 0 0 0");
-	lent_expect(&lent, "setup 1 1 1", "0 114 0 0 0");
+	lent_expect(&lent, "setup 1 1 1", "0 121 0 0 0");
 	lent_expect(&lent, "begin 0", "0 0 0 0 0");
 }
 
@@ -148,10 +148,10 @@ static void test_not_legal(void)
 	memset(lent.memory, 0, sizeof lent.memory);
 	LENT_PLAY(&lent, steps);
 	/* A table that was legal, lent one word short. */
-	lent_expect(&lent, "setup 1 2 3", "0 145 0 0 0");
-	lent.words = 144;
+	lent_expect(&lent, "setup 1 2 3", "0 155 0 0 0");
+	lent.words = 154;
 	LENT_PLAY(&lent, steps);
-	lent.words = 145;
+	lent.words = 155;
 	lent_expect(&lent, "begin 0", "0 0 0 0 0");
 }
 
@@ -159,7 +159,7 @@ static void test_not_legal(void)
 static void test_lanes(void)
 {
 	static const struct lent_step steps[] = {
-		{ "setup 1 2 2", "0 139 0 0 0" },
+		{ "setup 1 2 2", "0 149 0 0 0" },
 		{ "add 2 55 1 1", "4 0 0 0 0" }, { "rep 2 55 1 1", "4 0 0 0 0" },
 		{ "del 2 55", "4 0 0 0 0" }, { "begin 2", "4 0 0 0 0" },
 		{ "end 2", "4 0 0 0 0" }, { "start 2 55", "4 0 0 0 0" },
@@ -181,7 +181,7 @@ static void test_lanes(void)
 		{ "on 1", "0 0 0 0 0" }, { "on 1", "6 0 0 0 0" },
 		{ "off 0", "0 0 0 0 0" }, { "off 1", "15 0 0 0 0" },
 		/* One lane alone is the last one. */
-		{ "setup 1 1 1", "0 114 0 0 0" }, { "off 0", "15 0 0 0 0" },
+		{ "setup 1 1 1", "0 121 0 0 0" }, { "off 0", "15 0 0 0 0" },
 	};
 
 	lent_start(&lent);
@@ -192,7 +192,7 @@ static void test_lanes(void)
 static void test_sections(void)
 {
 	static const struct lent_step steps[] = {
-		{ "setup 1 2 2", "0 139 0 0 0" },
+		{ "setup 1 2 2", "0 149 0 0 0" },
 		{ "end 0", "8 0 0 0 0" }, { "start 0 55", "8 0 0 0 0" },
 		{ "start 0 18446744073709551615", "8 0 0 0 0" },
 		{ "step 0", "10 0 0 0 0" },
@@ -225,7 +225,7 @@ static void test_sections(void)
 static void test_records(void)
 {
 	static const struct lent_step steps[] = {
-		{ "setup 1 2 2", "0 139 0 0 0" },
+		{ "setup 1 2 2", "0 149 0 0 0" },
 		{ "add 0 18446744073709551615 1 1", "11 0 0 0 0" },
 		{ "add 0 18446744073709551615 1 1", "11 0 0 0 0" },
 		{ "add 0 55 100001 1", "11 0 0 0 0" }, { "add 0 55 1 8", "11 0 0 0 0" },
@@ -258,7 +258,7 @@ static void test_records(void)
 static void test_code_limit(void)
 {
 	static const struct lent_step steps[] = {
-		{ "setup 1 1 3", "0 126 0 0 0" },
+		{ "setup 1 1 3", "0 133 0 0 0" },
 		{ "add 0 9999999999999 1 1", "17 0 0 0 0" },
 		{ "add 0 9999999999994 1 1", "0 0 0 0 0" },
 		{ "add 0 10000000000000 1 1", "17 0 0 0 0" },
@@ -285,7 +285,7 @@ static void test_code_limit(void)
 static void test_check_digits(void)
 {
 	static const struct lent_step steps[] = {
-		{ "setup 1 2 2", "0 139 0 0 0" },
+		{ "setup 1 2 2", "0 149 0 0 0" },
 		{ "add 0 5901234123457 1 1", "0 0 0 0 0" }, { "add 0 4006381333931 1 1", "0 1 0 0 0" },
 		/* One digit mistyped; neighbours exchanged, which differ by 5 in the last one. */
 		{ "rep 0 5901234123458 1 1", "17 0 0 0 0" }, { "rep 0 5907234123457 1 1", "17 0 0 0 0" },
@@ -307,7 +307,7 @@ static void test_check_digits(void)
 static void test_older_record(void)
 {
 	static const struct lent_step records[] = {
-		{ "setup 1 1 2", "0 120 0 0 0" }, { "add 0 338 1 1", "0 0 0 0 0" },
+		{ "setup 1 1 2", "0 127 0 0 0" }, { "add 0 338 1 1", "0 0 0 0 0" },
 		{ "add 0 17 2 2", "0 1 0 0 0" },
 	};
 	static const struct lent_step steps[] = {
@@ -317,7 +317,7 @@ static void test_older_record(void)
 		{ "del 0 18", "0 0 0 0 0" }, { "del 0 18", "13 0 0 0 0" },
 		{ "start 0 18", "0 0 0 0 0" }, { "step 0", "0 2 0 0 0" },
 		{ "end 0", "0 0 0 0 0" }, { "clock 0", "0 1 1 1 0" }, { "pass 0 0", "0 0 0 0 0" },
-		{ "clock 0", "0 2 1 0 0" }, { "back 0", "0 0 0 0 0" },
+		{ "clock 0", "0 2 1 0 1" }, { "back 0", "0 0 0 0 0" },
 		{ "add 0 18 1 1", "17 0 0 0 0" }, { "add 0 31 1 1", "0 0 0 0 0" },
 	};
 
@@ -332,14 +332,14 @@ static void test_older_record(void)
 static void test_chains(void)
 {
 	static const struct lent_step six_calls[] = {
-		{ "setup 1 1 4", "0 132 0 0 0" },
+		{ "setup 1 1 4", "0 139 0 0 0" },
 		{ "add 0 192 10 1", "0 0 0 0 0" }, { "add 0 0 20 2", "0 1 0 0 0" },
 		{ "begin 0", "0 0 0 0 0" }, { "start 0 192", "0 0 0 0 0" },
 		{ "del 0 0", "0 1 0 0 0" },
 		{ "step 0", "0 0 0 0 0" }, { "step 0", "0 1 0 10 1" },
 	};
 	static const struct lent_step replaced[] = {
-		{ "setup 1 2 8", "0 175 0 0 0" },
+		{ "setup 1 2 8", "0 185 0 0 0" },
 		{ "add 0 0 10 0", "0 0 0 0 0" }, { "add 0 192 11 1", "0 1 0 0 0" },
 		{ "add 0 512 12 2", "0 2 0 0 0" },
 		/* A reader past the head finds the new slot in the old one's place. */
@@ -371,7 +371,7 @@ static struct lent plain; /* the same calls without a lookup */
 
 /* Chain 0 is the slots 2, 1, 0 with the codes 512, 192, 0. */
 static const struct lent_step chain_of_three[] = {
-	{ "setup 1 2 6", "0 163 0 0 0" }, { "add 0 0 10 0", "0 0 0 0 0" },
+	{ "setup 1 2 6", "0 173 0 0 0" }, { "add 0 0 10 0", "0 0 0 0 0" },
 	{ "add 0 192 11 1", "0 1 0 0 0" }, { "add 0 512 12 2", "0 2 0 0 0" },
 };
 
@@ -493,7 +493,7 @@ static void test_drop_holds_nothing(void)
 		{ "pass 0 0", "0 0 0 0 0" }, { "clock 0", "0 1 1 1 0" }, { "pass 1 0", "7 0 0 0 0" },
 		{ "awaited", "0 1 1 3 1" }, { "end 1", "0 0 0 0 0" }, { "awaited", "0 1 1 3 1" },
 		{ "clock 1", "0 1 1 1 0" }, { "back 0", "16 0 0 0 0" }, { "pass 1 0", "0 0 0 0 0" },
-		{ "clock 1", "0 2 1 0 0" }, { "back 0", "16 0 0 0 0" }, { "clock 0", "0 2 1 0 0" },
+		{ "clock 1", "0 2 1 0 0" }, { "back 0", "16 0 0 0 0" }, { "clock 0", "0 2 1 0 1" },
 		{ "back 0", "0 1 0 0 0" }, { "awaited", "0 0 4294967295 4 0" },
 	};
 
@@ -521,7 +521,7 @@ static void test_drop_and_off(void)
 		{ "clock 1", "0 1 1 1 0" }, { "clock 0", "0 1 1 1 0" }, { "pass 0 0", "0 0 0 0 0" },
 		{ "clock 0", "0 1 1 1 0" }, { "awaited", "0 1 1 3 1" }, { "end 1", "0 0 0 0 0" },
 		{ "off 1", "0 0 0 0 0" }, { "back 0", "16 0 0 0 0" }, { "clock 0", "0 2 2 1 0" },
-		{ "pass 0 0", "0 0 0 0 0" }, { "clock 0", "0 3 2 0 0" }, { "back 0", "0 1 0 0 0" },
+		{ "pass 0 0", "0 0 0 0 0" }, { "clock 0", "0 3 2 0 1" }, { "back 0", "0 1 0 0 0" },
 		{ "on 1", "0 0 0 0 0" }, { "step 1", "10 0 0 0 0" },
 	};
 
@@ -535,7 +535,7 @@ static void test_drop_and_off(void)
 static void test_drop_of_one_lane(void)
 {
 	static const struct lent_step steps[] = {
-		{ "setup 2 2 4", "0 190 0 0 0" }, { "add 0 64424509457 25 1", "0 0 0 0 0" },
+		{ "setup 2 2 4", "0 206 0 0 0" }, { "add 0 64424509457 25 1", "0 0 0 0 0" },
 		{ "add 0 17 26 2", "0 1 0 0 0" }, { "begin 2", "0 0 0 0 0" },
 		{ "begin 3", "0 0 0 0 0" }, { "start 2 64424509457", "0 0 0 0 0" },
 		{ "start 3 64424509457", "0 0 0 0 0" }, { "step 2", "0 0 0 0 0" },
@@ -563,7 +563,7 @@ static void test_dropped_lookups(void)
 static void test_high_words(void)
 {
 	static const struct lent_step steps[] = {
-		{ "setup 1 1 2", "0 120 0 0 0" }, { "add 0 64424509457 10 1", "0 0 0 0 0" },
+		{ "setup 1 1 2", "0 127 0 0 0" }, { "add 0 64424509457 10 1", "0 0 0 0 0" },
 		{ "del 0 17", "13 0 0 0 0" }, { "begin 0", "0 0 0 0 0" },
 		{ "start 0 17", "0 0 0 0 0" }, { "step 0", "0 0 0 0 0" },
 		{ "step 0", "0 2 0 0 0" }, { "add 0 17 11 2", "0 1 0 0 0" },
@@ -579,11 +579,11 @@ static void test_high_words(void)
 static void test_free_queue(void)
 {
 	static const struct lent_step steps[] = {
-		{ "setup 1 1 3", "0 126 0 0 0" },
+		{ "setup 1 1 3", "0 133 0 0 0" },
 		{ "add 0 17 1 1", "0 0 0 0 0" }, { "add 0 24 1 1", "0 1 0 0 0" },
 		{ "del 0 24", "0 1 0 0 0" }, { "del 0 17", "0 0 0 0 0" },
 		{ "clock 0", "0 1 1 1 0" }, { "pass 0 2", "0 0 0 0 0" },
-		{ "clock 0", "0 2 1 0 0" },
+		{ "clock 0", "0 2 1 0 2" },
 		{ "back 0", "0 1 0 0 0" }, { "awaited", "0 0 4294967295 2 1" },
 		{ "back 0", "0 0 0 0 0" }, { "back 0", "16 0 0 0 0" },
 		{ "add 0 31 1 1", "0 2 0 0 0" }, { "add 0 48 1 1", "0 1 0 0 0" },
@@ -598,7 +598,7 @@ static void test_free_queue(void)
 static void test_count_wraps(uint32_t kind)
 {
 	static const struct lent_step before[] = {
-		{ "setup 1 2 2", "0 139 0 0 0" }, { "add 0 55 1 1", "0 0 0 0 0" },
+		{ "setup 1 2 2", "0 149 0 0 0" }, { "add 0 55 1 1", "0 0 0 0 0" },
 		{ "del 0 55", "0 0 0 0 0" },
 	};
 	struct call pass = { CALL_PASS, { 0, kind, 0, 0 } };
@@ -631,7 +631,7 @@ static void test_later(void)
 static void test_generation_wraps(void)
 {
 	static const struct lent_step records[] = {
-		{ "setup 1 2 4", "0 151 0 0 0" },
+		{ "setup 1 2 4", "0 161 0 0 0" },
 		{ "add 0 17 1 1", "0 0 0 0 0" }, { "add 0 24 1 1", "0 1 0 0 0" },
 		{ "del 0 17", "0 0 0 0 0" },
 	};
@@ -644,10 +644,10 @@ static void test_generation_wraps(void)
 		{ "pass 0 0", "0 0 0 0 0" }, { "clock 0", "0 4294967295 0 1 0" },
 		{ "awaited", "0 1 1 2 2" },
 		{ "pass 1 0", "0 0 0 0 0" }, { "clock 1", "0 0 0 1 0" },
-		{ "back 0", "16 0 0 0 0" }, { "clock 0", "0 0 0 1 0" },
+		{ "back 0", "16 0 0 0 0" }, { "clock 0", "0 0 0 1 1" },
 		{ "back 0", "0 0 0 0 0" }, { "back 1", "16 0 0 0 0" },
 		{ "pass 0 1", "0 0 0 0 0" }, { "clock 0", "0 0 0 1 0" },
-		{ "pass 1 1", "0 0 0 0 0" }, { "clock 1", "0 1 0 0 0" },
+		{ "pass 1 1", "0 0 0 0 0" }, { "clock 1", "0 1 0 0 1" },
 		{ "back 1", "0 1 0 0 0" }, { "awaited", "0 0 4294967295 4 0" },
 	};
 	uint32_t *global, *lane;
@@ -660,7 +660,7 @@ static void test_generation_wraps(void)
 	LENT_PLAY(&lent, requested);
 	/* Generation 0 is one like the others: the queue is not empty. */
 	lane = lent_lane(lent.memory, 1);
-	CHECK(lane[LANE_GENERATION] == 0 && lane[LANE_CURRENT + END_FIRST] == 1);
+	CHECK(lane[LANE_GENERATION] == 0 && lane[LANE_CURRENT + QUEUE_FIRST] == 1);
 	LENT_PLAY(&lent, ended);
 }
 
@@ -668,12 +668,12 @@ static void test_generation_wraps(void)
 static void test_generation_wraps_idle(void)
 {
 	static const struct lent_step records[] = {
-		{ "setup 1 1 2", "0 120 0 0 0" },
+		{ "setup 1 1 2", "0 127 0 0 0" },
 		{ "add 0 17 1 1", "0 0 0 0 0" }, { "del 0 17", "0 0 0 0 0" },
 	};
 	static const struct lent_step steps[] = {
 		{ "clock 0", "0 4294967295 4294967295 1 0" }, { "pass 0 0", "0 0 0 0 0" },
-		{ "clock 0", "0 0 4294967295 0 0" }, { "back 0", "0 0 0 0 0" },
+		{ "clock 0", "0 0 4294967295 0 1" }, { "back 0", "0 0 0 0 0" },
 		{ "clock 0", "0 0 4294967295 0 0" }, { "awaited", "0 0 4294967295 2 0" },
 	};
 	uint32_t *global;
@@ -690,13 +690,13 @@ static void test_generation_wraps_idle(void)
 static void test_global_generation_zero(void)
 {
 	static const struct lent_step records[] = {
-		{ "setup 1 2 4", "0 151 0 0 0" },
+		{ "setup 1 2 4", "0 161 0 0 0" },
 		{ "add 0 17 1 1", "0 0 0 0 0" }, { "del 0 17", "0 0 0 0 0" },
 	};
 	static const struct lent_step steps[] = {
 		{ "off 0", "0 0 0 0 0" }, { "clock 1", "0 0 0 1 0" },
 		{ "back 1", "16 0 0 0 0" }, { "awaited", "0 1 1 3 1" },
-		{ "pass 1 0", "0 0 0 0 0" }, { "clock 1", "0 1 0 0 0" },
+		{ "pass 1 0", "0 0 0 0 0" }, { "clock 1", "0 1 0 0 1" },
 		{ "back 1", "0 0 0 0 0" },
 	};
 	uint32_t *global;
@@ -713,7 +713,7 @@ static void test_global_generation_zero(void)
 static void test_pending(void)
 {
 	static const struct lent_step steps[] = {
-		{ "setup 2 2 3", "0 184 0 0 0" },
+		{ "setup 2 2 3", "0 200 0 0 0" },
 		{ "add 0 17 1 1", "0 0 0 0 0" }, { "del 3 17", "0 0 0 0 0" },
 		{ "awaited", "0 0 4294967295 2 1" }, { "clock 0", "0 1 0 0 0" },
 		{ "clock 3", "0 1 1 1 0" }, { "awaited", "0 4 0 2 1" },
@@ -733,7 +733,7 @@ static void test_pending(void)
 		{ "awaited", "0 1 2 2 1" }, { "end 2", "0 0 0 0 0" },
 		{ "clock 2", "0 1 1 1 0" }, { "pass 2 0", "0 0 0 0 0" },
 		{ "clock 2", "0 2 1 0 0" }, { "awaited", "0 0 4294967295 2 1" },
-		{ "back 3", "16 0 0 0 0" }, { "clock 3", "0 2 1 0 0" },
+		{ "back 3", "16 0 0 0 0" }, { "clock 3", "0 2 1 0 1" },
 		{ "back 2", "16 0 0 0 0" }, { "back 3", "0 0 0 0 0" },
 	};
 
@@ -747,13 +747,13 @@ static void test_pending(void)
 static void test_off_queues(void)
 {
 	static const struct lent_step retired[] = {
-		{ "setup 1 2 6", "0 163 0 0 0" },
+		{ "setup 1 2 6", "0 173 0 0 0" },
 		{ "add 0 17 1 1", "0 0 0 0 0" }, { "add 0 24 1 1", "0 1 0 0 0" },
 		{ "add 0 31 1 1", "0 2 0 0 0" }, { "add 0 48 1 1", "0 3 0 0 0" },
 		{ "del 0 17", "0 0 0 0 0" }, { "clock 0", "0 1 1 1 0" },
 		{ "clock 1", "0 1 1 1 0" }, { "pass 1 0", "0 0 0 0 0" },
 		{ "clock 1", "0 1 1 1 0" }, { "pass 0 0", "0 0 0 0 0" },
-		{ "clock 0", "0 2 1 0 0" }, /* slot 0 is done */
+		{ "clock 0", "0 2 1 0 1" }, /* slot 0 is done */
 		{ "del 0 31", "0 2 0 0 0" }, { "clock 0", "0 2 2 1 0" }, /* slot 2 is current */
 		{ "del 0 24", "0 1 0 0 0" }, { "del 0 48", "0 3 0 0 0" }, /* 1 and 3 are next */
 		{ "off 0", "0 0 0 0 0" }, { "awaited", "0 1 1 2 4" },
@@ -762,7 +762,7 @@ static void test_off_queues(void)
 		{ "back 1", "0 0 0 0 0" }, { "back 1", "16 0 0 0 0" },
 		{ "clock 1", "0 2 3 1 0" }, { "pass 1 0", "0 0 0 0 0" },
 		{ "clock 1", "0 3 3 1 0" }, { "back 1", "16 0 0 0 0" },
-		{ "pass 1 3", "0 0 0 0 0" }, { "clock 1", "0 4 3 0 0" },
+		{ "pass 1 3", "0 0 0 0 0" }, { "clock 1", "0 4 3 0 3" },
 		{ "back 1", "0 2 0 0 0" }, { "back 1", "0 1 0 0 0" },
 		{ "back 1", "0 3 0 0 0" }, { "back 1", "16 0 0 0 0" },
 	};
@@ -771,8 +771,9 @@ static void test_off_queues(void)
 	lent_start(&lent);
 	LENT_PLAY(&lent, retired);
 	global = lent_global(lent.memory);
-	CHECK(global[GLOBAL_CURRENT + END_FIRST] == 2 && global[GLOBAL_CURRENT + END_LAST] == 3);
-	CHECK(global[GLOBAL_GENERATION] == 3 && global[GLOBAL_NEXT + END_FIRST] == PT_NONE);
+	CHECK(global[GLOBAL_CURRENT + QUEUE_FIRST] == 2 && global[GLOBAL_CURRENT + QUEUE_LAST] == 3);
+	CHECK(global[GLOBAL_CURRENT + QUEUE_LENGTH] == 3 && global[GLOBAL_DONE + QUEUE_LENGTH] == 1);
+	CHECK(global[GLOBAL_GENERATION] == 3 && global[GLOBAL_NEXT + QUEUE_FIRST] == PT_NONE);
 	lane = lent_lane(lent.memory, 0);
 	CHECK(lane[LANE_FLAGS] == 0 && lane[LANE_GENERATION] == 0);
 	CHECK(lane[LANE_COUNTS] == 1); /* counts are kept */
@@ -783,14 +784,14 @@ static void test_off_queues(void)
 static void test_off_queue_over(void)
 {
 	static const struct lent_step steps[] = {
-		{ "setup 1 2 4", "0 151 0 0 0" },
+		{ "setup 1 2 4", "0 161 0 0 0" },
 		{ "add 0 17 1 1", "0 0 0 0 0" }, { "del 0 17", "0 0 0 0 0" },
 		{ "clock 0", "0 1 1 1 0" }, { "pass 0 0", "0 0 0 0 0" },
 		{ "clock 0", "0 1 1 1 0" }, { "clock 1", "0 1 1 1 0" },
 		{ "pass 1 0", "0 0 0 0 0" }, { "clock 1", "0 2 1 0 0" },
 		{ "off 0", "0 0 0 0 0" }, { "back 1", "16 0 0 0 0" },
 		{ "clock 1", "0 2 2 1 0" }, { "awaited", "0 1 1 3 1" },
-		{ "pass 1 0", "0 0 0 0 0" }, { "clock 1", "0 3 2 0 0" },
+		{ "pass 1 0", "0 0 0 0 0" }, { "clock 1", "0 3 2 0 1" },
 		{ "back 1", "0 0 0 0 0" },
 	};
 
@@ -802,12 +803,12 @@ static void test_off_queue_over(void)
 static void test_off_last_bit(void)
 {
 	static const struct lent_step steps[] = {
-		{ "setup 1 3 6", "0 182 0 0 0" },
+		{ "setup 1 3 6", "0 195 0 0 0" },
 		{ "add 0 17 1 1", "0 0 0 0 0" }, { "del 0 17", "0 0 0 0 0" },
 		{ "clock 0", "0 1 1 1 0" }, { "pass 0 0", "0 0 0 0 0" },
 		{ "clock 0", "0 1 1 1 0" }, { "off 1", "0 0 0 0 0" },
 		{ "awaited", "0 1 2 5 1" }, { "off 2", "0 0 0 0 0" },
-		{ "awaited", "0 0 4294967295 5 1" }, { "clock 0", "0 2 1 0 0" },
+		{ "awaited", "0 0 4294967295 5 1" }, { "clock 0", "0 2 1 0 1" },
 		{ "back 0", "0 0 0 0 0" },
 		/* With no grace period a lane ends none. */
 		{ "on 1", "0 0 0 0 0" }, { "off 1", "0 0 0 0 0" },
@@ -822,7 +823,7 @@ static void test_off_last_bit(void)
 static void test_off_next_begun(void)
 {
 	static const struct lent_step steps[] = {
-		{ "setup 1 3 6", "0 182 0 0 0" },
+		{ "setup 1 3 6", "0 195 0 0 0" },
 		{ "add 0 17 1 1", "0 0 0 0 0" }, { "add 0 24 1 1", "0 1 0 0 0" },
 		{ "del 0 17", "0 0 0 0 0" }, { "clock 0", "0 1 1 1 0" },
 		{ "del 1 24", "0 1 0 0 0" }, { "clock 1", "0 1 2 1 0" },
@@ -834,7 +835,7 @@ static void test_off_next_begun(void)
 		{ "on 2", "0 0 0 0 0" }, { "awaited", "0 2 0 4 2" },
 		{ "pass 2 0", "0 0 0 0 0" }, { "clock 2", "0 2 2 1 0" },
 		{ "off 2", "0 0 0 0 0" }, { "awaited", "0 2 0 4 2" },
-		{ "clock 0", "0 2 2 1 0" }, { "back 0", "0 0 0 0 0" },
+		{ "clock 0", "0 2 2 1 1" }, { "back 0", "0 0 0 0 0" },
 		{ "back 1", "16 0 0 0 0" },
 	};
 
@@ -846,7 +847,7 @@ static void test_off_next_begun(void)
 static void test_off_next_begun_with_slot(void)
 {
 	static const struct lent_step steps[] = {
-		{ "setup 1 3 6", "0 182 0 0 0" },
+		{ "setup 1 3 6", "0 195 0 0 0" },
 		{ "add 0 17 1 1", "0 0 0 0 0" }, { "add 0 24 1 1", "0 1 0 0 0" },
 		{ "add 0 31 1 1", "0 2 0 0 0" },
 		{ "del 0 17", "0 0 0 0 0" }, { "clock 0", "0 1 1 1 0" },
@@ -854,7 +855,7 @@ static void test_off_next_begun_with_slot(void)
 		{ "pass 0 0", "0 0 0 0 0" }, { "clock 0", "0 1 2 1 0" },
 		{ "pass 1 0", "0 0 0 0 0" }, { "clock 1", "0 1 2 1 0" },
 		{ "del 2 31", "0 2 0 0 0" }, { "off 2", "0 0 0 0 0" },
-		{ "clock 0", "0 2 3 1 0" }, { "awaited", "0 2 0 3 3" },
+		{ "clock 0", "0 2 3 1 1" }, { "awaited", "0 2 0 3 3" },
 	};
 
 	lent_start(&lent);
@@ -866,14 +867,14 @@ static void test_off_next_begun_with_slot(void)
 static void test_lane_before_global(void)
 {
 	static const struct lent_step steps[] = {
-		{ "setup 1 3 8", "0 194 0 0 0" },
+		{ "setup 1 3 8", "0 207 0 0 0" },
 		{ "add 0 17 1 1", "0 0 0 0 0" }, { "add 0 24 1 1", "0 1 0 0 0" },
 		{ "add 0 31 1 1", "0 2 0 0 0" },
 		{ "del 2 17", "0 0 0 0 0" }, { "off 2", "0 0 0 0 0" },
 		{ "del 1 24", "0 1 0 0 0" }, { "off 1", "0 0 0 0 0" },
 		{ "awaited", "0 1 0 5 2" },
 		{ "clock 0", "0 1 1 1 0" }, { "del 0 31", "0 2 0 0 0" },
-		{ "pass 0 0", "0 0 0 0 0" }, { "clock 0", "0 2 3 1 0" },
+		{ "pass 0 0", "0 0 0 0 0" }, { "clock 0", "0 2 3 1 1" },
 		{ "back 0", "0 0 0 0 0" }, { "back 0", "16 0 0 0 0" },
 	};
 
@@ -887,19 +888,154 @@ static void test_lane_before_global(void)
 static void test_hand_back_order(void)
 {
 	static const struct lent_step steps[] = {
-		{ "setup 1 2 4", "0 151 0 0 0" },
+		{ "setup 1 2 4", "0 161 0 0 0" },
 		{ "add 0 17 1 1", "0 0 0 0 0" }, { "add 0 24 1 1", "0 1 0 0 0" },
 		{ "del 1 17", "0 0 0 0 0" }, { "off 1", "0 0 0 0 0" },
 		{ "clock 0", "0 1 1 1 0" }, { "pass 0 0", "0 0 0 0 0" },
-		{ "clock 0", "0 2 1 0 0" }, /* slot 0 is done globally */
+		{ "clock 0", "0 2 1 0 1" }, /* slot 0 is done globally */
 		{ "del 0 24", "0 1 0 0 0" }, { "clock 0", "0 2 2 1 0" },
-		{ "pass 0 0", "0 0 0 0 0" }, { "clock 0", "0 3 2 0 0" },
+		{ "pass 0 0", "0 0 0 0 0" }, { "clock 0", "0 3 2 0 1" },
 		{ "back 0", "0 1 0 0 0" }, { "back 0", "0 0 0 0 0" },
 	};
 
 	lent_start(&lent);
 	LENT_PLAY(&lent, steps);
 }
+
+/* ---- lengths of queues (document 02, request 6) */
+
+/* The three words of a queue at one of the papers' addresses. */
+static void check_queue(uint32_t address, uint32_t first, uint32_t last, uint32_t length)
+{
+	CHECK(lent.memory[address] == first && lent.memory[address + 1] == last &&
+		lent.memory[address + 2] == length);
+}
+
+static void check_empty(uint32_t address)
+{
+	check_queue(address, PT_NONE, PT_NONE, 0);
+}
+
+/* The papers' worked list: its last clock moves a slot of the lane and one of the global queue. */
+static void test_lengths_of_both(void)
+{
+	static const struct lent_step waiting[] = {
+		{ "setup 1 3 8", "0 207 0 0 0" }, { "add 0 17 1 1", "0 0 0 0 0" },
+		{ "add 0 24 1 1", "0 1 0 0 0" }, { "add 0 31 1 1", "0 2 0 0 0" },
+		{ "del 1 31", "0 2 0 0 0" }, { "clock 1", "0 1 1 1 0" },
+		{ "del 0 17", "0 0 0 0 0" }, { "del 2 24", "0 1 0 0 0" }, { "off 2", "0 0 0 0 0" },
+		{ "awaited", "0 2 0 5 3" },
+	};
+	static const struct lent_step done[] = {
+		{ "clock 0", "0 1 2 1 0" }, { "pass 0 0", "0 0 0 0 0" }, { "pass 1 0", "0 0 0 0 0" },
+		{ "clock 1", "0 1 2 1 0" }, { "clock 0", "0 2 2 1 0" }, { "clock 1", "0 2 2 1 1" },
+		{ "pass 1 0", "0 0 0 0 0" }, { "clock 1", "0 2 2 1 0" }, { "pass 0 0", "0 0 0 0 0" },
+		{ "clock 0", "0 3 2 0 2" }, { "awaited", "0 0 4294967295 5 3" },
+	};
+	static const struct lent_step reclaimed[] = {
+		{ "clock 0", "0 3 2 0 0" }, { "back 0", "0 0 0 0 0" }, { "awaited", "0 0 4294967295 6 2" },
+		{ "back 0", "0 1 0 0 0" }, { "back 0", "16 0 0 0 0" }, { "back 1", "0 2 0 0 0" },
+		{ "awaited", "0 0 4294967295 8 0" },
+	};
+
+	lent_start(&lent);
+	LENT_PLAY(&lent, waiting);
+	check_queue(79, 3, 7, 5);  /* free */
+	check_empty(82);	   /* global next, current and done */
+	check_queue(85, 1, 1, 1);
+	check_empty(88);
+	check_queue(103, 0, 0, 1); /* lane 0's */
+	check_empty(106);
+	check_empty(109);
+	check_empty(125);	   /* lane 1's */
+	check_queue(128, 2, 2, 1);
+	check_empty(131);
+	LENT_PLAY(&lent, done);
+	check_empty(82);
+	check_empty(85);
+	check_queue(88, 1, 1, 1);
+	check_empty(103);
+	check_empty(106);
+	check_queue(109, 0, 0, 1);
+	check_empty(125);
+	check_empty(128);
+	check_queue(131, 2, 2, 1);
+	for (uint32_t address = 147; address <= 153; address += 3) /* lane 2's, which is off */
+		check_empty(address);
+	LENT_PLAY(&lent, reclaimed);
+	check_queue(79, 3, 2, 8);
+	check_empty(88);
+	check_empty(109);
+	check_empty(131);
+}
+
+/* A clock says what it moved, and not what is done; the queue has the sum, in the order. */
+static void test_lengths_joined(void)
+{
+	static const struct lent_step steps[] = {
+		{ "setup 1 1 8", "0 163 0 0 0" }, { "add 0 17 1 1", "0 0 0 0 0" },
+		{ "add 0 24 1 1", "0 1 0 0 0" }, { "rep 0 17 2 2", "0 2 0 0 0" },
+		{ "clock 0", "0 1 1 1 0" }, { "pass 0 0", "0 0 0 0 0" }, { "clock 0", "0 2 1 0 1" },
+		{ "del 0 24", "0 1 0 0 0" }, { "del 0 17", "0 2 0 0 0" },
+		{ "clock 0", "0 2 2 1 0" }, { "pass 0 0", "0 0 0 0 0" }, { "clock 0", "0 3 2 0 2" },
+		{ "awaited", "0 0 4294967295 5 3" },
+	};
+	static const struct lent_step reclaimed[] = {
+		{ "back 0", "0 0 0 0 0" }, { "back 0", "0 1 0 0 0" }, { "back 0", "0 2 0 0 0" },
+		{ "back 0", "16 0 0 0 0" },
+	};
+
+	lent_start(&lent);
+	LENT_PLAY(&lent, steps);
+	check_queue(79, 3, 7, 5);
+	check_queue(109, 0, 2, 3);
+	LENT_PLAY(&lent, reclaimed);
+	check_queue(79, 3, 2, 8);
+	check_empty(109);
+}
+
+/* An off joins three queues to the global next one, and one to the global done one. */
+static void test_lengths_off(void)
+{
+	static const struct lent_step steps[] = {
+		{ "setup 1 3 8", "0 207 0 0 0" }, { "add 0 17 1 1", "0 0 0 0 0" },
+		{ "add 0 24 1 1", "0 1 0 0 0" }, { "add 0 31 1 1", "0 2 0 0 0" },
+		{ "add 0 48 1 1", "0 3 0 0 0" }, { "del 1 17", "0 0 0 0 0" },
+		{ "off 1", "0 0 0 0 0" },			   /* slot 0: globally current */
+		{ "on 1", "0 0 0 0 0" }, { "del 1 24", "0 1 0 0 0" },
+		{ "off 1", "0 0 0 0 0" },			   /* slot 1: globally next */
+		{ "del 2 31", "0 2 0 0 0" }, { "clock 2", "0 1 2 1 0" }, /* slot 2: lane 2's current */
+		{ "del 2 48", "0 3 0 0 0" }, { "off 2", "0 0 0 0 0" },
+		{ "awaited", "0 1 0 4 4" },
+	};
+
+	lent_start(&lent);
+	LENT_PLAY(&lent, steps);
+	check_queue(82, 1, 3, 3);
+	check_queue(85, 0, 0, 1);
+	check_empty(88);
+	CHECK(lent.memory[91] == 1); /* the generation of the global current queue */
+}
+
+/* The last lane awaited goes off: slots come to the global done queue, and are not answered. */
+static void test_lengths_off_ends(void)
+{
+	static const struct lent_step steps[] = {
+		{ "setup 1 3 8", "0 207 0 0 0" }, { "add 0 17 1 1", "0 0 0 0 0" },
+		{ "del 2 17", "0 0 0 0 0" }, { "off 2", "0 0 0 0 0" }, { "clock 0", "0 1 1 1 0" },
+		{ "pass 0 0", "0 0 0 0 0" }, { "clock 0", "0 1 1 1 0" }, { "off 1", "0 0 0 0 0" },
+		{ "awaited", "0 0 4294967295 7 1" },
+	};
+
+	lent_start(&lent);
+	LENT_PLAY(&lent, steps);
+	check_empty(85);
+	check_queue(88, 0, 0, 1);
+	lent_expect(&lent, "clock 0", "0 2 1 0 0");
+	lent_expect(&lent, "back 0", "0 0 0 0 0");
+}
+
+/* ---- */
 
 /* With fewer than five answer words nothing is written, whatever else is wrong. */
 static void test_short_answers(void)
@@ -929,7 +1065,7 @@ static void test_short_answers(void)
 static void test_short_answers_first(void)
 {
 	static const struct lent_step steps[] = {
-		{ "setup 1 2 3", "0 145 0 0 0" }, { "add 0 55 1 1", "0 0 0 0 0" },
+		{ "setup 1 2 3", "0 155 0 0 0" }, { "add 0 55 1 1", "0 0 0 0 0" },
 		{ "begin 1", "0 0 0 0 0" },
 	};
 
@@ -955,7 +1091,7 @@ static void test_no_memory(void)
 static void test_words_past_total(void)
 {
 	static const struct lent_step steps[] = {
-		{ "setup 1 2 3", "0 145 0 0 0" }, { "add 0 17 25 1", "0 0 0 0 0" },
+		{ "setup 1 2 3", "0 155 0 0 0" }, { "add 0 17 25 1", "0 0 0 0 0" },
 		{ "begin 1", "0 0 0 0 0" }, { "start 1 17", "0 0 0 0 0" },
 		{ "del 0 17", "0 0 0 0 0" }, { "step 1", "0 1 0 25 1" },
 		{ "clock 0", "0 1 1 1 0" }, { "off 0", "0 0 0 0 0" },
@@ -964,9 +1100,9 @@ static void test_words_past_total(void)
 	};
 
 	for (uint32_t fill = 0; fill < 3; fill++)
-		for (size_t words = 145; words < 150; words++) {
+		for (size_t words = 155; words < 160; words++) {
 			lent_start(&lent);
-			for (size_t n = 145; n < LENT_WORDS; n++)
+			for (size_t n = 155; n < LENT_WORDS; n++)
 				lent.memory[n] = fill == 0 ? 0 : fill == 1 ? 1 : PT_NONE;
 			lent.words = words;
 			LENT_PLAY(&lent, steps);
@@ -1004,6 +1140,10 @@ int main(void)
 	test_off_next_begun_with_slot();
 	test_lane_before_global();
 	test_hand_back_order();
+	test_lengths_of_both();
+	test_lengths_joined();
+	test_lengths_off();
+	test_lengths_off_ends();
 	test_short_answers_first();
 	test_no_memory();
 	test_words_past_total();

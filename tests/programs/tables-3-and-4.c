@@ -201,7 +201,7 @@ static void replay(const char *table, const struct row *rows, size_t count)
 static void replay_three_lanes(void)
 {
 	static const struct lent_step steps[] = {
-		{ "setup 1 3 4", "0 170 0 0 0" },
+		{ "setup 1 3 4", "0 183 0 0 0" },
 		{ "add 0 17 1 1", "0 0 0 0 0" }, { "add 0 24 1 1", "0 1 0 0 0" },
 		{ "add 0 31 1 1", "0 2 0 0 0" },
 		{ "del 0 17", "0 0 0 0 0" }, { "del 1 24", "0 1 0 0 0" },
@@ -214,7 +214,7 @@ static void replay_three_lanes(void)
 
 	lent_start(&lent);
 	LENT_PLAY(&lent, steps);
-	CHECK(lent_lane(lent.memory, 2)[LANE_CURRENT + END_FIRST] == 2);
+	CHECK(lent_lane(lent.memory, 2)[LANE_CURRENT + QUEUE_FIRST] == 2);
 	CHECK(lent_lane(lent.memory, 2)[LANE_GENERATION] == 3);
 	puts("three lanes: lane 2's queue has generation 3 (the paper's order gives 2)");
 }

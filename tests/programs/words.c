@@ -21,18 +21,22 @@ static bool named(size_t address, const char *name)
 	return strcmp(text, name) == 0;
 }
 
-/* Addresses are document 01's: contents 12, house 76, a cabinet 1, a lane 19, a slot 6. */
+/* Addresses are the papers': contents 12, house 80, a cabinet 1, a lane 22, a slot 6. */
 static void test_names(void)
 {
 	CHECK(named(0, "contents, version") && named(11, "contents, bodies, length of the slots"));
 	CHECK(named(12, "house, current generation") && named(15 + 17, "house, chain head 17"));
-	CHECK(named(80, "house, free line, last") && named(87, "house, house generation"));
-	CHECK(named(89, "cabinet 1, lane mask") && named(90, "lane 0, flags"));
-	CHECK(named(90 + 3 * 19 + 13, "lane 3, current line, last"));
-	CHECK(named(90 + 19 + 4, "lane 1, pass count, kind 3 changed over"));
-	CHECK(named(90 + 4 * 19, "slot 0, code, low word"));
-	CHECK(named(90 + 4 * 19 + 16 * 6 - 1, "slot 15, line link"));
-	CHECK(named(90 + 4 * 19 + 16 * 6, "word 262, past the total"));
+	CHECK(named(80, "house, free line, last") && named(81, "house, free line, length"));
+	CHECK(named(84, "house, next line, length") && named(87, "house, current line, length"));
+	CHECK(named(90, "house, done line, length") && named(91, "house, house generation"));
+	CHECK(named(93, "cabinet 1, lane mask") && named(94, "lane 0, flags"));
+	CHECK(named(94 + 3 * 22 + 14, "lane 3, current line, last"));
+	CHECK(named(94 + 12, "lane 0, next line, length") && named(94 + 18, "lane 0, done line, length"));
+	CHECK(named(94 + 19, "lane 0, lookup code, low word") && named(94 + 21, "lane 0, lookup position"));
+	CHECK(named(94 + 22 + 4, "lane 1, pass count, kind 3 changed over"));
+	CHECK(named(94 + 4 * 22, "slot 0, code, low word"));
+	CHECK(named(94 + 4 * 22 + 16 * 6 - 1, "slot 15, line link"));
+	CHECK(named(94 + 4 * 22 + 16 * 6, "word 278, past the total"));
 }
 
 static void test_each(void)

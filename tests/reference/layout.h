@@ -1,5 +1,6 @@
 /*
- * layout.h - where the words of a table's memory stand (document 01, "The memory").
+ * layout.h - where the words of a table's memory stand (document 01, "The memory"; a queue's
+ * length: document 02, request 6).
  * Each record is the list of its words in their order; lengths and totals follow.
  */
 #ifndef REFERENCE_LAYOUT_H
@@ -7,10 +8,10 @@
 
 #include <stdint.h>
 
-enum { LAYOUT_VERSION = 1, CHAINS = 64, KINDS = 4 };
+enum { LAYOUT_VERSION = 2, CHAINS = 64, KINDS = 4 };
 
-/* Words of a queue's two ends, and of a code. */
-enum { END_FIRST, END_LAST, END_WORDS };
+/* Words of a queue, its two ends and its length, and of a code. */
+enum { QUEUE_FIRST, QUEUE_LAST, QUEUE_LENGTH, QUEUE_WORDS };
 enum { CODE_LOW, CODE_HIGH, CODE_WORDS };
 
 /* The bodies after the contents, in their order. */
@@ -31,10 +32,10 @@ enum global_word {
 	GLOBAL_PENDING, /* mask of cabinets */
 	GLOBAL_CHAINS,
 	GLOBAL_FREE = GLOBAL_CHAINS + CHAINS,
-	GLOBAL_NEXT = GLOBAL_FREE + END_WORDS,
-	GLOBAL_CURRENT = GLOBAL_NEXT + END_WORDS,
-	GLOBAL_DONE = GLOBAL_CURRENT + END_WORDS,
-	GLOBAL_GENERATION = GLOBAL_DONE + END_WORDS, /* of the current queue */
+	GLOBAL_NEXT = GLOBAL_FREE + QUEUE_WORDS,
+	GLOBAL_CURRENT = GLOBAL_NEXT + QUEUE_WORDS,
+	GLOBAL_DONE = GLOBAL_CURRENT + QUEUE_WORDS,
+	GLOBAL_GENERATION = GLOBAL_DONE + QUEUE_WORDS, /* of the current queue */
 	GLOBAL_WORDS
 };
 
@@ -49,9 +50,9 @@ enum lane_word {
 	LANE_SNAPSHOT = LANE_COUNTS + KINDS,
 	LANE_GENERATION = LANE_SNAPSHOT + KINDS, /* of the current queue */
 	LANE_NEXT,
-	LANE_CURRENT = LANE_NEXT + END_WORDS,
-	LANE_DONE = LANE_CURRENT + END_WORDS,
-	LANE_CODE = LANE_DONE + END_WORDS, /* of the lookup */
+	LANE_CURRENT = LANE_NEXT + QUEUE_WORDS,
+	LANE_DONE = LANE_CURRENT + QUEUE_WORDS,
+	LANE_CODE = LANE_DONE + QUEUE_WORDS, /* of the lookup */
 	LANE_POSITION = LANE_CODE + CODE_WORDS,
 	LANE_WORDS
 };

@@ -1,7 +1,9 @@
 /*
  * ledger.c - the ledger of demand 3. An entry is kept at its slot. Of a lookup's
  * instants only the whole searches there are kept: a slot that left the table during
- * the lookup is out with the lookup's section, so each slot explains at most once.
+ * the lookup is out with the lookup's section, so each slot explains at most once. Of the
+ * sums of request 6 only the difference is kept: what came to done queues and was not
+ * handed back. The slots there are counted along the links; no length is asked.
  */
 #include "ledger.h"
 
@@ -15,6 +17,8 @@ _Static_assert(LEDGER_LANES <= 64, "sections are bits of a 64-bit word");
 _Static_assert(sizeof(struct ledger_search) == 24, "no padding");
 _Static_assert(sizeof(struct ledger_slot) == 32, "no padding");
 _Static_assert(sizeof(struct ledger_lane) == 24 + 24 * (2 * LEDGER_SLOTS + 1), "no padding");
+_Static_assert(sizeof(struct ledger) == sizeof(struct ledger_slot) * LEDGER_SLOTS +
+	sizeof(struct ledger_lane) * LEDGER_LANES + 8, "no padding");
 
 static const char BEYOND[] = "a lane or slot is beyond the ledger's capacity";
 
@@ -22,9 +26,14 @@ static const char BEYOND[] = "a lane or slot is beyond the ledger's capacity";
 static const char LATE[] = "a lookup has no answer by step n + 1 of its lane";
 static const char REFUSED[] = "a step was refused while its lookup runs";
 
-bool ledger_fault_of_figure(const char *fault)
+/* The fault of what comes to done queues. */
+static const char MISCOUNTED[] = "the slots in done queues and those handed back are not those that came there";
+
+enum ledger_fault ledger_fault_of(const char *fault)
 {
-	return fault == LATE || fault == REFUSED;
+	if (fault == LATE || fault == REFUSED)
+		return FAULT_OF_FIGURE;
+	return fault == MISCOUNTED ? FAULT_OF_COUNT : FAULT_OF_DEMAND_3;
 }
 
 void ledger_reset(struct ledger *ledger)
@@ -295,11 +304,16 @@ static bool slot_holds(const uint32_t *slot, const struct ledger_search *find)
 		slot[SLOT_DEPOSIT] == find->deposit && slot[SLOT_MATERIAL] == find->material;
 }
 
+/* The first word of a body. */
+static const uint32_t *body_of(const uint32_t *memory, int body)
+{
+	return memory + layout_of(memory[CONTENTS_CABINETS], memory[CONTENTS_LANES],
+			memory[CONTENTS_SLOTS]).first[body];
+}
+
 const char *ledger_kept(const struct ledger *ledger, const uint32_t *memory)
 {
-	struct layout layout = layout_of(memory[CONTENTS_CABINETS], memory[CONTENTS_LANES],
-			memory[CONTENTS_SLOTS]);
-	const uint32_t *slots = memory + layout.first[BODY_SLOTS];
+	const uint32_t *slots = body_of(memory, BODY_SLOTS);
 
 	for (uint32_t l = 0; l < LEDGER_LANES; l++)
 		for (uint32_t n = 0; n < ledger->lane[l].finds; n++) {
@@ -310,4 +324,75 @@ const char *ledger_kept(const struct ledger *ledger, const uint32_t *memory)
 				return "a found slot lost its record in the finder's section";
 		}
 	return NULL;
+}
+
+/* ---- what comes to done queues */
+
+/* Marks the slots of a queue along their links, up to one that is marked; returns how many. */
+static uint32_t mark_queue(const uint32_t *memory, const uint32_t *queue, bool marked[LEDGER_SLOTS])
+{
+	const uint32_t *slots = body_of(memory, BODY_SLOTS);
+	uint32_t slot = queue[QUEUE_FIRST], count = 0;
+
+	while (slot < LEDGER_SLOTS && slot < memory[CONTENTS_SLOTS] && !marked[slot]) {
+		marked[slot] = true;
+		count++;
+		slot = slots[SLOT_WORDS * slot + SLOT_QUEUE_LINK];
+	}
+	return count;
+}
+
+/* The slots in all done queues. */
+static uint32_t slots_done(const uint32_t *memory)
+{
+	const uint32_t *lanes = body_of(memory, BODY_LANES);
+	bool marked[LEDGER_SLOTS] = { false };
+	uint32_t count = mark_queue(memory, body_of(memory, BODY_GLOBAL) + GLOBAL_DONE, marked);
+
+	for (uint32_t l = 0; l < memory[CONTENTS_CABINETS] * memory[CONTENTS_LANES]; l++)
+		count += mark_queue(memory, lanes + LANE_WORDS * l + LANE_DONE, marked);
+	return count;
+}
+
+/* The slots that stood in the global current queue and stand in the global done queue. */
+static uint32_t moved_globally(const uint32_t *before, const uint32_t *after)
+{
+	bool current[LEDGER_SLOTS] = { false }, done[LEDGER_SLOTS] = { false };
+	uint32_t moved = 0;
+
+	mark_queue(before, body_of(before, BODY_GLOBAL) + GLOBAL_CURRENT, current);
+	mark_queue(after, body_of(after, BODY_GLOBAL) + GLOBAL_DONE, done);
+	for (uint32_t slot = 0; slot < LEDGER_SLOTS; slot++)
+		moved += current[slot] && done[slot] ? 1u : 0u;
+	return moved;
+}
+
+uint32_t ledger_moved(const struct call *call, const uint32_t *answer, const uint32_t *before,
+		const uint32_t *after)
+{
+	if (answer[0] != PT_OK)
+		return 0;
+	switch (call->name) {
+	case CALL_CLOCK: return answer[4];
+	case CALL_OFF: return moved_globally(before, after); /* its own done queue was counted before */
+	default: return 0;
+	}
+}
+
+const char *ledger_counted(struct ledger *ledger, const struct call *call, const uint32_t *answer,
+		const uint32_t *before, const uint32_t *after)
+{
+	ledger->done += ledger_moved(call, answer, before, after);
+	ledger->done -= call->name == CALL_HAND_BACK && answer[0] == PT_OK ? 1u : 0u;
+	return ledger->done == slots_done(after) ? NULL : MISCOUNTED;
+}
+
+const char *ledger_judge(struct ledger *ledger, const struct call *call, const uint32_t *answer,
+		const uint32_t *before, const uint32_t *after)
+{
+	const char *fault = ledger_feed(ledger, call, answer);
+
+	if (fault == NULL)
+		fault = ledger_kept(ledger, after);
+	return fault != NULL ? fault : ledger_counted(ledger, call, answer, before, after);
 }

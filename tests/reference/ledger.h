@@ -1,6 +1,6 @@
 /*
  * ledger.h - the ledger of demand 3 (documents 01 and 02), kept beside a list of calls.
- * It is fed each call with its answer and sees nothing of the memory. It finds fault when
+ * It is fed each call with its answer, and the memory is asked apart. It finds fault when
  *   a lookup's answer is that of a whole search at no instant from the lookup's start
  *     to the one before the answering step;
  *   a section begins inside another, or one ends that is not open; a lookup starts outside
@@ -10,12 +10,16 @@
  *     was removed has not ended;
  *   a found slot does not hold what was found while the finder's section is open;
  *   a lookup has no answer by step n + 1 of its lane, or a step is refused before it has
- *     one; n are the entries on the code's chain when the lookup starts (request 5).
- * The last but one is asked of the memory, by ledger_kept(). Nothing is asked of a lookup
- * that was dropped. A call on a memory that is damaged or lent short, or with an answer
- * lent short, is none of the list and is not fed. A ledger is a plain value with no
- * pointers, no padding and 0 in its unused parts: assign it to copy it, compare its bytes.
- * Its capacity may be set where it is compiled.
+ *     one; n are the entries on the code's chain when the lookup starts (request 5);
+ *   the slots in all done queues and the hand-backs so far are not as many as the fourth
+ *     numbers of all clocks so far add up to, and the slots that offs moved from the
+ *     global current queue into the global done queue (request 6).
+ * What a found slot holds is asked of the memory, by ledger_kept(), and so are the slots in
+ * done queues, by ledger_counted(). Nothing is asked of a lookup that was dropped. A call on
+ * a memory that is damaged or lent short, or with an answer lent short, is none of the list
+ * and is not fed. A ledger is a plain value with no pointers, no padding and 0 in its unused
+ * parts: assign it to copy it, compare its bytes. Its capacity may be set where it is
+ * compiled.
  */
 #ifndef REFERENCE_LEDGER_H
 #define REFERENCE_LEDGER_H
@@ -65,6 +69,7 @@ struct ledger_lane {
 struct ledger {
 	struct ledger_slot slot[LEDGER_SLOTS];
 	struct ledger_lane lane[LEDGER_LANES];
+	uint64_t done; /* slots that came to done queues, less those handed back */
 };
 
 /* The ledger at instant 0, the end of a set-up. */
@@ -82,10 +87,29 @@ const char *ledger_feed(struct ledger *ledger, const struct call *call, const ui
  */
 bool ledger_attains(const struct ledger *ledger, const struct call *call, const uint32_t *answer);
 
-/* Whether a fault is one of the figure, and not of demand 3. */
-bool ledger_fault_of_figure(const char *fault);
+/* What a fault is of: demand 3, how long a lookup can take, or what comes to done queues. */
+enum ledger_fault { FAULT_OF_DEMAND_3, FAULT_OF_FIGURE, FAULT_OF_COUNT };
+enum ledger_fault ledger_fault_of(const char *fault);
 
 /* Whether the memory's slots hold what was found in the sections open now, as above. */
 const char *ledger_kept(const struct ledger *ledger, const uint32_t *memory);
+
+/*
+ * How many slots the call brought to done queues: a clock by its answer, an off by the
+ * memory before and after it; all others none.
+ */
+uint32_t ledger_moved(const struct call *call, const uint32_t *answer, const uint32_t *before,
+		const uint32_t *after);
+
+/*
+ * Adds them to the ledger, to which the call was fed, and takes the slot of a hand-back off.
+ * Whether so many stand in done queues after the call, as above.
+ */
+const char *ledger_counted(struct ledger *ledger, const struct call *call, const uint32_t *answer,
+		const uint32_t *before, const uint32_t *after);
+
+/* All of it: feeds the call, and asks the memory before and after it. */
+const char *ledger_judge(struct ledger *ledger, const struct call *call, const uint32_t *answer,
+		const uint32_t *before, const uint32_t *after);
 
 #endif /* REFERENCE_LEDGER_H */

@@ -1,7 +1,8 @@
 /*
- * legal.c - which memories are legal (document 01, "The memory"): one function for
- * each sentence. Any words of any length are safe to judge: no link is followed
- * before its range is known, and a walk ends at the first slot it meets twice.
+ * legal.c - which memories are legal (document 01, "The memory"; lengths: document 02,
+ * request 6): one function for each sentence. Any words of any length are safe to judge:
+ * no link is followed before its range is known, and a walk ends at the first slot it
+ * meets twice. A length bounds no walk: it is compared with what a walk has met.
  */
 #include "reference.h"
 #include "table.h"
@@ -178,6 +179,22 @@ static bool last_agrees(const struct table *t, struct queue queue, bool marked[]
 static bool lasts_agree(const struct table *t)
 {
 	return of_each_queue(t, last_agrees, NULL);
+}
+
+static bool length_agrees(const struct table *t, struct queue queue, bool marked[])
+{
+	uint32_t slots = 0;
+
+	(void)marked;
+	for (uint32_t s = queue.first; s != PT_NONE; s = t->slot[s].queue_link)
+		slots++;
+	return slots == queue.length;
+}
+
+/* Lengths agree with the queues: each is the number of its queue's slots. */
+static bool lengths_agree(const struct table *t)
+{
+	return of_each_queue(t, length_agrees, NULL);
 }
 
 /* Chained slots are on chain (code mod 64). */
@@ -362,6 +379,7 @@ static bool (*const sentences[LEGAL_SENTENCES])(const struct table *table) = {
 	[LEGAL_EMPTY_ENDS] = ends_at_rest,
 	[LEGAL_ONCE] = each_slot_once,
 	[LEGAL_LASTS] = lasts_agree,
+	[LEGAL_LENGTHS] = lengths_agree,
 	[LEGAL_CHAINS] = codes_on_chains,
 	[LEGAL_TWICE] = no_code_twice,
 	[LEGAL_SNAPSHOTS_REST] = snapshots_at_rest,

@@ -9,14 +9,14 @@
 
 #include "table.h"
 
-static const struct queue EMPTY = { .first = PT_NONE, .last = PT_NONE };
+static const struct queue EMPTY = { .first = PT_NONE, .last = PT_NONE, .length = 0 };
 
 static bool queue_empty(struct queue queue)
 {
 	return queue.first == PT_NONE;
 }
 
-/* Moves all slots of a queue to the end of another. */
+/* Moves all slots of a queue to the end of another, in their order; its length becomes the sum. */
 static void queue_join(struct table *t, struct queue *to, struct queue *from)
 {
 	if (queue_empty(*from))
@@ -26,13 +26,14 @@ static void queue_join(struct table *t, struct queue *to, struct queue *from)
 	else
 		t->slot[to->last].queue_link = from->first;
 	to->last = from->last;
+	to->length += from->length;
 	*from = EMPTY;
 }
 
 /* Appends a slot that stands in no queue. */
 static void queue_append(struct table *t, struct queue *queue, uint32_t slot)
 {
-	struct queue one = { .first = slot, .last = slot };
+	struct queue one = { .first = slot, .last = slot, .length = 1 };
 
 	t->slot[slot].queue_link = PT_NONE;
 	queue_join(t, queue, &one);
@@ -46,23 +47,15 @@ static uint32_t queue_take(struct table *t, struct queue *queue)
 	queue->first = t->slot[slot].queue_link;
 	if (queue_empty(*queue))
 		queue->last = PT_NONE;
+	queue->length--;
 	t->slot[slot].queue_link = PT_NONE;
 	return slot;
 }
 
-static uint32_t queue_length(const struct table *t, struct queue queue)
+/* The slots of an owner's queues; none is walked. */
+static uint32_t retired_length(const struct retired *retired)
 {
-	uint32_t length = 0;
-
-	for (uint32_t s = queue.first; s != PT_NONE; s = t->slot[s].queue_link)
-		length++;
-	return length;
-}
-
-static uint32_t retired_length(const struct table *t, const struct retired *retired)
-{
-	return queue_length(t, retired->next) + queue_length(t, retired->current) +
-		queue_length(t, retired->done);
+	return retired->next.length + retired->current.length + retired->done.length;
 }
 
 /* The head or link that leads to the code's slot, or the none at the chain's end. */
@@ -107,17 +100,19 @@ static void period_end(struct table *t)
 		period_begin(t);
 }
 
-/* Advances an owner's queues. */
-static void retired_advance(struct table *t, struct retired *retired)
+/* Advances an owner's queues; returns how many slots it moved into the done queue. */
+static uint32_t retired_advance(struct table *t, struct retired *retired)
 {
+	uint32_t moved = 0;
 	bool running;
 
 	if (!queue_empty(retired->current) && generation_later(t->current, retired->generation)) {
+		moved = retired->current.length;
 		queue_join(t, &retired->done, &retired->current);
 		retired->generation = 0;
 	}
 	if (!queue_empty(retired->current) || queue_empty(retired->next))
-		return;
+		return moved;
 	running = period_running(t);
 	queue_join(t, &retired->current, &retired->next);
 	retired->generation = t->current + (running ? 1u : 0u);
@@ -125,6 +120,7 @@ static void retired_advance(struct table *t, struct retired *retired)
 		t->largest = retired->generation;
 	if (!running)
 		period_begin(t);
+	return moved;
 }
 
 /* Drops the lane's snapshot, and its bit there, and ends the grace period if none remain. */
@@ -488,7 +484,7 @@ uint32_t ref_clock(uint32_t *memory, size_t words, uint32_t *answer, size_t answ
 	struct table t;
 	struct lane *own;
 	struct place at;
-	uint32_t cause;
+	uint32_t cause, moved;
 
 	if (answer_words < PT_ANSWER_WORDS)
 		return PT_SHORT_ANSWER;
@@ -500,13 +496,14 @@ uint32_t ref_clock(uint32_t *memory, size_t words, uint32_t *answer, size_t answ
 	at = table_place(&t, lane);
 	if (own->flags & FLAG_SNAPSHOT && counts_differ(own))
 		lane_passed(&t, lane, at);
-	retired_advance(&t, &own->retired);
-	retired_advance(&t, &t.global);
+	moved = retired_advance(&t, &own->retired);
+	moved += retired_advance(&t, &t.global);
 	if (place_pending(&t, at) && !(own->flags & FLAG_SNAPSHOT)) {
 		own->flags |= FLAG_SNAPSHOT;
 		memcpy(own->snapshot, own->counts, sizeof own->snapshot);
 	}
-	return finish(&t, memory, answer, t.current, t.largest, period_running(&t) ? 1 : 0);
+	table_write(&t, memory);
+	return reply(answer, PT_OK, t.current, t.largest, period_running(&t) ? 1 : 0, moved);
 }
 
 uint32_t ref_on(uint32_t *memory, size_t words, uint32_t *answer, size_t answer_words,
@@ -553,7 +550,7 @@ uint32_t ref_off(uint32_t *memory, size_t words, uint32_t *answer, size_t answer
 	queue_join(&t, &t.global.done, &own->done);
 	own->generation = 0;
 	lane_passed(&t, lane, table_place(&t, lane));
-	retired_advance(&t, &t.global);
+	retired_advance(&t, &t.global); /* how many it moves is not answered */
 	return finish(&t, memory, answer, 0, 0, 0);
 }
 
@@ -591,14 +588,14 @@ uint32_t ref_awaited(uint32_t *memory, size_t words, uint32_t *answer, size_t an
 	if (!table_read_legal(&t, memory, words))
 		return refuse(answer, PT_NOT_LEGAL);
 
-	retired = retired_length(&t, &t.global);
+	retired = retired_length(&t.global);
 	for (uint32_t l = 0; l < table_lanes(&t); l++) {
-		retired += retired_length(&t, &t.lane[l].retired);
+		retired += retired_length(&t.lane[l].retired);
 		if (!table_pending(&t, l))
 			continue;
 		pending++;
 		if (lowest == PT_NONE)
 			lowest = l;
 	}
-	return reply(answer, PT_OK, pending, lowest, queue_length(&t, t.free), retired);
+	return reply(answer, PT_OK, pending, lowest, t.free.length, retired);
 }

@@ -12,7 +12,7 @@
 
 #include "calls.h"
 
-/* The sentences of document 01 on legal memories, in the order in which they are tested. */
+/* The sentences on legal memories, of documents 01 and 02, in the order in which they are tested. */
 enum legal_sentence {
 	LEGAL_CONTENTS, /* contents agree with the sizes, and the total is not above the length */
 	LEGAL_FLAGS,
@@ -22,6 +22,7 @@ enum legal_sentence {
 	LEGAL_EMPTY_ENDS, /* ends of an empty line */
 	LEGAL_ONCE,	  /* each slot in exactly one chain or line */
 	LEGAL_LASTS,	  /* lines agree with first and last */
+	LEGAL_LENGTHS,	  /* and with their lengths (document 02) */
 	LEGAL_CHAINS,	  /* chained slots on the chain of their code */
 	LEGAL_TWICE,	  /* no code twice */
 	LEGAL_SNAPSHOTS_REST,

@@ -56,13 +56,15 @@ static void write_code(uint32_t *word, uint64_t code)
 
 static struct queue read_queue(const uint32_t *word)
 {
-	return (struct queue){ .first = word[END_FIRST], .last = word[END_LAST] };
+	return (struct queue){ .first = word[QUEUE_FIRST], .last = word[QUEUE_LAST],
+		.length = word[QUEUE_LENGTH] };
 }
 
 static void write_queue(uint32_t *word, struct queue queue)
 {
-	word[END_FIRST] = queue.first;
-	word[END_LAST] = queue.last;
+	word[QUEUE_FIRST] = queue.first;
+	word[QUEUE_LAST] = queue.last;
+	word[QUEUE_LENGTH] = queue.length;
 }
 
 static void read_global(struct table *table, const uint32_t *word)

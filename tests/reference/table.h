@@ -12,10 +12,11 @@
 #include "layout.h"
 #include "product_table.h"
 
-/* The ends of a queue of slots, both none while it is empty. */
+/* A queue of slots: its ends, both none while it is empty, and how many slots it has. */
 struct queue {
 	uint32_t first;
 	uint32_t last;
+	uint32_t length;
 };
 
 /* An owner's queues of retired slots: those of a lane, or the global ones. */

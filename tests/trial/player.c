@@ -32,8 +32,9 @@ static void count(const struct step *step)
 	if (player.by_ledger && trial.program == NULL)
 		tally_judged(player.tally, &player.beside.call, player.beside.left.answer, (struct verdict){
 			.fault = player.record->difference != SAME,
-			.of_figure = ledger_fault_of_figure(player.beside.fault),
+			.of = ledger_fault_of(player.beside.fault),
 			.attained = player.beside.attained,
+			.counted = true,
 		});
 	else if (!player.by_ledger)
 		tally_call(player.tally, &player.beside);

@@ -157,7 +157,7 @@ static void judge_line(struct player *player, uint32_t at, const char *text)
 		if (player->tally != NULL)
 			tally_judged(player->tally, call, answer, (struct verdict){
 				.fault = found != NULL,
-				.of_figure = ledger_fault_of_figure(found),
+				.of = ledger_fault_of(found),
 				.attained = attained,
 			});
 		memcpy(expected, answer, sizeof answer); /* what was answered, for the record */

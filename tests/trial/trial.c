@@ -274,6 +274,8 @@ static void print_calls(void)
 	print_placed(&shared->tally);
 	printf("  ");
 	print_attained(&shared->tally);
+	printf("  ");
+	print_moved(&shared->tally);
 }
 
 /* How many pairs of a call's causes were met at once, of those that do not exclude each other. */
