@@ -43,18 +43,15 @@ module _ (i : ℕ) where
 -- ---- in the words that show a state
 
 module _ (s : State) (m : List ℕ) (shows : Shows m s) (w : Shape s) (i : ℕ) (known : i < laneCount (s .sizes)) where
-  few : doneOf i (s .engine) ≤ s .sizes .slots + s .sizes .slots
-  few = omega (arith, queue-few s w (global done), queue-few s w (lane i done))
+  pub done-few : doneOf i (s .engine) ≤ s .sizes .slots + s .sizes .slots
+  done-few = omega (arith, queue-few s w (global done), queue-few s w (lane i done))
 
   pub done-shown : (a : ℕ) → a ≡ laneAddress (s .sizes) i → doneWords m a ≡ doneOf i (s .engine)
   done-shown a e =
       let l : at m (a + (queuesAt + doneOffset + lengthOffset)) ≡ length (queueOf s (lane i done)) =
       ap (at m) (omega (arith, e)) ∙ length-shown s m shows (lane i done) known in
       let g = length-shown s m shows (global done) tt in
-      rw (l, g) (omega (arith, few, w .few))
-
-  pub done-few : doneOf i (s .engine) ≤ s .sizes .slots + s .sizes .slots
-  done-few = few
+      rw (l, g) (omega (arith, done-few, w .few))
 
 -- before and after the clock, whose state is t
 pub moved-shown : (s t : State) (m n : List ℕ) → Shows m s → Shows n t → Shape s → Shape t → (i : ℕ) → i < laneCount (s .sizes) → t .sizes ≡ s .sizes

@@ -73,7 +73,7 @@ module _ (i : ℕ) (part : List Lane → ℕ)
 
     -- ---- an advance moves what settles
 
-    pub counted-advancedLane : counted (advancedLane i e) ≡ counted e + settling (e .current) (laneAt e i .queues)
+    counted-advancedLane : counted (advancedLane i e) ≡ counted e + settling (e .current) (laneAt e i .queues)
     unfolding advancedLane
     counted-advancedLane =
         cond-cases (λ (f : Engine). counted f ≡ counted e + settling (e .current) (laneAt e i .queues)) (ready q)
