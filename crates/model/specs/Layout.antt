@@ -28,9 +28,15 @@ maxMaterial = 7
 abbrev pub kinds : ℕ
 kinds = 4
 
--- one more than the largest quiescent count
+-- a quiescent count is two words, low word first; one more than the largest; the words of the counts of all kinds
+abbrev pub countWidth : ℕ
+countWidth = 2
+
 abbrev pub countLimit : ℕ
-countLimit = wordLimit
+countLimit = wordLimit * wordLimit
+
+abbrev pub countsWidth : ℕ
+countsWidth = countWidth * kinds
 
 -- the number of chains
 abbrev pub chainCount : ℕ
@@ -39,7 +45,7 @@ chainCount = 64
 -- ---- contents, 12 words: addresses in the memory
 
 abbrev pub version : ℕ
-version = 2
+version = 3
 
 abbrev pub versionAt : ℕ
 versionAt = 0
@@ -134,7 +140,7 @@ snapshotBit = lookupBit + 1
 abbrev pub flagCount : ℕ
 flagCount = snapshotBit + 1
 
--- ---- a lane's record, 22 words: offsets
+-- ---- a lane's record, 30 words: offsets
 
 abbrev pub flagsAt : ℕ
 flagsAt = 0
@@ -143,10 +149,10 @@ abbrev pub quiescentAt : ℕ
 quiescentAt = flagsAt + 1
 
 abbrev pub snapshotAt : ℕ
-snapshotAt = quiescentAt + kinds
+snapshotAt = quiescentAt + countsWidth
 
 abbrev pub generationAt : ℕ
-generationAt = snapshotAt + kinds
+generationAt = snapshotAt + countsWidth
 
 -- the words of the lane's next, current and done queues
 abbrev pub queuesAt : ℕ

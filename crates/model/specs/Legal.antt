@@ -8,7 +8,7 @@ use lib.Dec.{leb, ltb, eqb}
 use Rattle.model.specs.Word.{none, up, down, later}
 use Rattle.model.specs.Lists.{all, every, isEmpty, from, last, concat, count, member, same, distinct}
 use Rattle.model.specs.State.{Sizes, laneCount, isRunning, isHeld, Queues, Lane, State}
-use Rattle.model.specs.Layout.{maxCabinets, maxPlaces, maxSlots, kinds, chainCount, contentsLength, lastOffset, lengthOffset, currentOffset, doneOffset}
+use Rattle.model.specs.Layout.{maxCabinets, maxPlaces, maxSlots, countsWidth, chainCount, contentsLength, lastOffset, lengthOffset, currentOffset, doneOffset}
 use Rattle.model.specs.Layout.{cabinetMaskAt, headsAt, freeAt, globalQueuesAt, lookupBit, snapshotBit, flagCount, flagsAt, snapshotAt, queuesAt}
 use Rattle.model.specs.Layout.{lookupAt, positionAt, depositAt, materialAt, chainLinkAt, queueLinkAt, laneAddress, slotAddress, total}
 use Rattle.model.specs.Engine.{laneAt}
@@ -143,9 +143,9 @@ noCodeTwice s = distinct (map (codeOf s) (concat (s .table .chains)))
 -- ---- unused words hold their rest value
 
 module _ (m : List ℕ) where
-  -- snapshot counts without a snapshot: 0
+  -- snapshot counts without a snapshot: 0, both words of each
   unfoldable pub snapshotsAtRest : Bool
-  snapshotsAtRest = all (λ (i : ℕ). flag snapshotBit (laneWord m i flagsAt) || all (λ (k : ℕ). eqb (laneWord m i k) 0) (from snapshotAt kinds)) (laneNumbers m)
+  snapshotsAtRest = all (λ (i : ℕ). flag snapshotBit (laneWord m i flagsAt) || all (λ (k : ℕ). eqb (laneWord m i k) 0) (from snapshotAt countsWidth)) (laneNumbers m)
 
   -- lookup words without a lookup: 0, and none for the position
   unfoldable pub lookupsAtRest : Bool

@@ -7,7 +7,7 @@ use lib.Dec.{leb, eqb}
 use Rattle.model.specs.Word.{wordLimit, none}
 use Rattle.model.specs.Lists.{first, last, from, concat, concatMap, successorIn, member, bit, mask}
 use Rattle.model.specs.State.{Sizes, laneCount, Lookup, idle, running, isRunning, Snapshot, unheld, held, isHeld, Queues, Lane, Product, Table, State}
-use Rattle.model.specs.Layout.{chainCount, version, cabinetsAt, placesAt, slotsAt, currentOffset, doneOffset, globalBody, currentGenerationAt}
+use Rattle.model.specs.Layout.{chainCount, countWidth, version, cabinetsAt, placesAt, slotsAt, currentOffset, doneOffset, globalBody, currentGenerationAt}
 use Rattle.model.specs.Layout.{largestGenerationAt, headsAt, freeAt, globalQueuesAt, globalGenerationAt, globalLength, masksAt, onlineBit}
 use Rattle.model.specs.Layout.{readingBit, lookupBit, snapshotBit, quiescentAt, snapshotAt, generationAt, queuesAt, lookupAt, laneLength}
 use Rattle.model.specs.Layout.{depositAt, materialAt, chainLinkAt, queueLinkAt, slotLength, lanesBody, laneAddress, slotsBody, slotAddress}
@@ -65,13 +65,17 @@ snapshotCount (held c) k = getD c k 0
 abbrev pub quiescentCount : Lane → ℕ → ℕ
 quiescentCount l k = getD (l .quiescent) k 0
 
--- a lane's twenty-two words
+-- four counts, one a kind, in two words each
+abbrev pub countWords : (ℕ → ℕ) → List ℕ
+countWords c = low (c 0) ∷ high (c 0) ∷ low (c 1) ∷ high (c 1) ∷ low (c 2) ∷ high (c 2) ∷ low (c 3) ∷ high (c 3) ∷ []
+
+-- a lane's thirty words
 unfoldable pub laneWords : Lane → List ℕ
 laneWords l =
     flags l
-    ∷ quiescentCount l 0 ∷ quiescentCount l 1 ∷ quiescentCount l 2 ∷ quiescentCount l 3
-    ∷ snapshotCount (l .snapshot) 0 ∷ snapshotCount (l .snapshot) 1 ∷ snapshotCount (l .snapshot) 2 ∷ snapshotCount (l .snapshot) 3
-    ∷ l .queues .generation
+    ∷ countWords (quiescentCount l)
+    ++ countWords (snapshotCount (l .snapshot))
+    ++ l .queues .generation
     ∷ first (l .queues .next) ∷ last (l .queues .next) ∷ length (l .queues .next)
     ∷ first (l .queues .current) ∷ last (l .queues .current) ∷ length (l .queues .current)
     ∷ first (l .queues .done) ∷ last (l .queues .done) ∷ length (l .queues .done)
@@ -196,8 +200,9 @@ module _ (m : List ℕ) where
   readLookup a true = running (wide a) (at m (a + 2))
   readLookup a false = idle
 
+  -- the four counts whose words stand from a on
   abbrev pub readCounts : ℕ → List ℕ
-  readCounts a = at m a ∷ at m (a + 1) ∷ at m (a + 2) ∷ at m (a + 3) ∷ []
+  readCounts a = wide a ∷ wide (a + countWidth) ∷ wide (a + countWidth * 2) ∷ wide (a + countWidth * 3) ∷ []
 
   abbrev pub readSnapshot : ℕ → Bool → Snapshot
   readSnapshot a true = held (readCounts a)

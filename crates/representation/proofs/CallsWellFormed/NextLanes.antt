@@ -12,7 +12,6 @@ use Rattle.model.specs.Layout.{maxCode, countLimit, chainCount}
 use Rattle.model.specs.Engine.{freshLane, counted, setOnline, setReading, setLookup, atLane, clocked, wentOff}
 use Rattle.model.specs.Table.{chainOf}
 use Rattle.model.specs.Rules.{off, laneOf, with, withEngine, withLane, leaving, stepped, continued, outcome, Outcome, going, found, absent, isOnline}
-use Rattle.laws.specs.Generations.{up-word}
 use Rattle.laws.specs.Tests.{clash}
 use Rattle.laws.specs.ListLaws.{length-update, update-cases}
 use Rattle.laws.specs.Sums.{sum, sum-update-same}
@@ -137,7 +136,7 @@ module _ (s : State) (w : WellFormed s) where
           four = length-update (laneOf s i .quiescent) k (upTo countLimit) ∙ f .counts .four;
           words =
               update-cases 0 (λ (j : ℕ) (x : ℕ). x < countLimit) (laneOf s i .quiescent) k
-              (upTo countLimit) (f .counts .words) (up-word (getD (laneOf s i .quiescent) k 0));
+              (upTo countLimit) (f .counts .words) (omega arith);
         };
         lookup = f .lookup;
         snapshot = f .snapshot;

@@ -1,5 +1,5 @@
 -- The lanes of a legal memory are as a well-formed state has them.
-use Prim.Native.Nat.{ℕ, zero, suc, _+_, _≤_, _<_}
+use Prim.Native.Nat.{ℕ, zero, suc, _+_, _*_, _≤_, _<_}
 use mathlib.Core.Path.{_≡_, refl, sym, ap, _∙_}
 use mathlib.Core.Bool.{Bool, true, false}
 use mathlib.Core.List.{List}
@@ -8,7 +8,7 @@ use native.Mathlib.Decide.{decLt}
 use lib.ListN.{getD, List·getD-eq-default}
 use Rattle.model.specs.Lists.{isEmpty}
 use Rattle.model.specs.State.{Sizes, laneCount, isRunning, isHeld, Lane, Engine, State}
-use Rattle.model.specs.Layout.{lookupBit, snapshotBit, quiescentAt, snapshotAt, lookupAt, positionAt, countLimit, kinds, laneLength, laneAddress, total}
+use Rattle.model.specs.Layout.{lookupBit, snapshotBit, quiescentAt, snapshotAt, lookupAt, positionAt, countWidth, countLimit, countsWidth, laneLength, laneAddress, total}
 use Rattle.model.specs.Engine.{freshLane, laneAt}
 use Rattle.model.specs.Memory.{at, wide, flag, sizes, readLane, readLookup, readSnapshot, readCounts, state}
 use Rattle.representation.proofs.WellFormed.{LaneFits, Counts, LookupFits, SnapshotFits, Off}
@@ -40,17 +40,20 @@ module _ (m : List ℕ) (l : Legal m) (word : WordsTo (total (sizes m)) m) where
       ]
 
   -- counts that stand at k in lane i's record
-  counts-fit : (i : ℕ) → i < laneCount z → (k : ℕ) → k + kinds ≤ laneLength → Counts (readCounts m (laneAddress z i + k))
+  counts-fit : (i : ℕ) → i < laneCount z → (k : ℕ) → k + countsWidth ≤ laneLength → Counts (readCounts m (laneAddress z i + k))
   counts-fit i b k h = record { four = refl; words = words }
     where
       a : ℕ
       a = laneAddress z i + k
 
+      two : (j : ℕ) → j + countWidth ≤ countsWidth → wide m (a + j) < countLimit
+      two j c = omega (arith, word (a + j) (omega arith), word (a + j + 1) (omega arith))
+
       words : (j : ℕ) → getD (readCounts m (laneAddress z i + k)) j 0 < countLimit
-      words zero = word a (omega arith)
-      words (suc zero) = word (a + 1) (omega arith)
-      words (suc (suc zero)) = word (a + 2) (omega arith)
-      words (suc (suc (suc zero))) = word (a + 3) (omega arith)
+      words zero = omega (arith, word a (omega arith), word (a + 1) (omega arith))
+      words (suc zero) = two countWidth (omega arith)
+      words (suc (suc zero)) = two (countWidth * 2) (omega arith)
+      words (suc (suc (suc zero))) = two (countWidth * 3) (omega arith)
       words (suc (suc (suc (suc j)))) = omega arith
 
   lookup-fits : (i : ℕ) → LookupFits (z .slots) (laneAt e i .reading) (laneAt e i .lookup)

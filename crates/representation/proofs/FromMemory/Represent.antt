@@ -1,5 +1,5 @@
 -- The fields of a legal memory of words are those of the state that it reads as.
-use Prim.Native.Nat.{ℕ, zero, suc, _+_, _*_, _<_}
+use Prim.Native.Nat.{ℕ, zero, suc, _+_, _*_, _≤_, _<_}
 use mathlib.Core.Bool.{Bool, true, false}
 use mathlib.Core.Path.{_≡_, refl, ap, ap₂, sym, _∙_}
 use mathlib.Core.List.{List, [], _∷_, _++_, map}
@@ -8,12 +8,12 @@ use lib.ListN.{length, getD}
 use lib.Arith.{digits-lt, digits-div, digits-mod}
 use Rattle.model.specs.Lists.{first, last, from, mask as maskOf}
 use Rattle.model.specs.State.{Sizes, State, Product, Lane, laneCount}
-use Rattle.model.specs.Layout.{chainCount, kinds, currentOffset, doneOffset, lastOffset, lengthOffset, contentsLength, headsAt, freeAt}
+use Rattle.model.specs.Layout.{chainCount, countWidth, countsWidth, currentOffset, doneOffset, lastOffset, lengthOffset, contentsLength, headsAt, freeAt}
 use Rattle.model.specs.Layout.{globalQueuesAt, currentGenerationAt, largestGenerationAt, cabinetMaskAt, onlineBit, readingBit}
 use Rattle.model.specs.Layout.{lookupBit, snapshotBit, flagCount, flagsAt, quiescentAt, snapshotAt, generationAt, queuesAt, lookupAt}
 use Rattle.model.specs.Layout.{positionAt, chainLinkAt, queueLinkAt, laneLength, slotLength, slotAddress, laneAddress, total}
 use Rattle.model.specs.Memory.{at, wide, flag, flags, pendingAt, isNotZero, maskWord, laneMask, laneMasks, cabinetMask, laneWords}
-use Rattle.model.specs.Memory.{laneWord, slotWords, slotWord, low, high, headOf, readLookup, readSnapshot, snapshotCount}
+use Rattle.model.specs.Memory.{laneWord, slotWords, slotWord, low, high, headOf, readLookup, readSnapshot, snapshotCount, countWords}
 use Rattle.model.specs.Memory.{lookupCode, lookupPosition, state, sizes, contents, readProduct, readQueue, readLane}
 use Rattle.laws.specs.ListLaws.{map-from-alike, map-map-from, getD-map-below, take-map-from}
 use Rattle.laws.specs.Masks.{mask-flags}
@@ -117,15 +117,30 @@ module _ (m : List ℕ) (l : Legal m) (w : WordsTo (total (sizes m)) m) where
     flag-clear : (k : ℕ) → flag k (at m a) ≡ false → flag k (laneWord m i flagsAt) ≡ false
     flag-clear k e = ap (flag k) (sym (word a 0 (omega arith))) ∙ e
 
-    snapshot-is : (c : Bool) → flag snapshotBit (at m a) ≡ c → (k : ℕ) → k < kinds
-        → snapshotCount (readSnapshot m (a + snapshotAt) c) k ≡ laneWord m i (snapshotAt + k)
-    unfolding snapshotCount
-    snapshot-is true e zero h = word (a + snapshotAt) snapshotAt (omega arith)
-    snapshot-is true e (suc zero) h = word (a + snapshotAt + 1) (snapshotAt + 1) (omega arith)
-    snapshot-is true e (suc (suc zero)) h = word (a + snapshotAt + 2) (snapshotAt + 2) (omega arith)
-    snapshot-is true e (suc (suc (suc zero))) h = word (a + snapshotAt + 3) (snapshotAt + 3) (omega arith)
-    snapshot-is true e (suc (suc (suc (suc k)))) h = absurd (omega arith)
-    snapshot-is false e k h = sym (f .snapshotsRest i b (flag-clear snapshotBit e) k h)
+    -- the words of a count, which stand at k of the record, before others
+    two : {xs ys : List ℕ} (c k : ℕ) → low c ≡ laneWord m i k → high c ≡ laneWord m i (suc k) → xs ≡ ys
+        → low c ∷ high c ∷ xs ≡ laneWord m i k ∷ laneWord m i (suc k) ∷ ys
+    two c k d e r = cons d (cons e r)
+
+    read-two : {xs ys : List ℕ} (x k : ℕ) → x ≡ a + k → k + countWidth ≤ laneLength → xs ≡ ys
+        → low (wide m x) ∷ high (wide m x) ∷ xs ≡ laneWord m i k ∷ laneWord m i (suc k) ∷ ys
+    read-two x k e h = two (wide m x) k (low-wide x (omega arith) ∙ word x k e) (high-wide x (omega arith) ∙ word (x + 1) (suc k) (omega arith))
+
+    -- those of the snapshot, before others
+    snapshot-are : {xs ys : List ℕ} (c : Bool) → flag snapshotBit (at m a) ≡ c → xs ≡ ys
+        → countWords (snapshotCount (readSnapshot m (a + snapshotAt) c)) ++ xs ≡ map (laneWord m i) (from snapshotAt countsWidth) ++ ys
+    unfolding snapshotCount from
+    snapshot-are true e r =
+        read-two _ snapshotAt (omega arith) (omega arith)
+        (read-two _ (snapshotAt + countWidth) (omega arith) (omega arith)
+        (read-two _ (snapshotAt + countWidth * 2) (omega arith) (omega arith)
+        (read-two _ (snapshotAt + countWidth * 3) (omega arith) (omega arith) r)))
+    snapshot-are false e r =
+        let rest : (k : ℕ) → k < countsWidth → 0 ≡ laneWord m i (snapshotAt + k) = λ k h. sym (f .snapshotsRest i b (flag-clear snapshotBit e) k h) in
+        two 0 snapshotAt (rest 0 (omega arith)) (rest 1 (omega arith))
+        (two 0 (snapshotAt + 2) (rest 2 (omega arith)) (rest 3 (omega arith))
+        (two 0 (snapshotAt + 4) (rest 4 (omega arith)) (rest 5 (omega arith))
+        (two 0 (snapshotAt + 6) (rest 6 (omega arith)) (rest 7 (omega arith)) r)))
 
     record LookupIs (c : Bool) : Type 0 where
       low : low (lookupCode (readLookup m (a + lookupAt) c)) ≡ laneWord m i lookupAt
@@ -154,14 +169,11 @@ module _ (m : List ℕ) (l : Legal m) (w : WordsTo (total (sizes m)) m) where
         let e = state-lane m i b in
         let k = lookup-is (flag lookupBit v) refl in
         cons flags-are
-        (cons (word _ quiescentAt (omega arith))
-        (cons (word _ (quiescentAt + 1) (omega arith))
-        (cons (word _ (quiescentAt + 2) (omega arith))
-        (cons (word _ (quiescentAt + 3) (omega arith))
-        (cons (snapshot-is (flag snapshotBit v) refl 0 (omega arith))
-        (cons (snapshot-is (flag snapshotBit v) refl 1 (omega arith))
-        (cons (snapshot-is (flag snapshotBit v) refl 2 (omega arith))
-        (cons (snapshot-is (flag snapshotBit v) refl 3 (omega arith))
+        (read-two _ quiescentAt (omega arith) (omega arith)
+        (read-two _ (quiescentAt + countWidth) (omega arith) (omega arith)
+        (read-two _ (quiescentAt + countWidth * 2) (omega arith) (omega arith)
+        (read-two _ (quiescentAt + countWidth * 3) (omega arith) (omega arith)
+        (snapshot-are (flag snapshotBit v) refl
         (cons (word _ generationAt (omega arith))
         (cons (end-is queuesAt (r .next .first) _ (omega arith))
         (cons (sym (ap (λ (l : Lane). last (l .queues .next)) e) ∙ q .next ∙ word _ (queuesAt + lastOffset) (omega arith))
@@ -174,7 +186,7 @@ module _ (m : List ℕ) (l : Legal m) (w : WordsTo (total (sizes m)) m) where
         (cons (sym (ap (λ (l : Lane). length (l .queues .done)) e) ∙ n .done ∙ word _ (queuesAt + doneOffset + lengthOffset) (omega arith))
         (cons (k .low)
         (cons (k .high)
-        (cons (k .position) refl)))))))))))))))))))))
+        (cons (k .position) refl))))))))))))))))))
 
   -- ---- a slot's words
 

@@ -4,15 +4,15 @@ use mathlib.Core.Path.{_≡_, refl, sym, ap, ap₂, _∙_, subst}
 use mathlib.Core.Bool.{Bool, true, false}
 use mathlib.Core.List.{List, [], _∷_}
 use native.Mathlib.Omega.{arith}
-use lib.ListN.{length, getD, List·getD-append}
+use lib.ListN.{length, getD, drop, List·getD-append}
 use Rattle.model.specs.State.{Sizes, laneCount, Lookup, idle, running, isRunning, Snapshot, unheld, held, isHeld, Queues, Lane, Engine, Table, State}
-use Rattle.model.specs.Layout.{maxCode, kinds, chainCount, contentsLength, lastOffset, currentOffset, doneOffset, queueWidth, headsAt, freeAt}
-use Rattle.model.specs.Layout.{globalQueuesAt, flagsAt, snapshotAt, queuesAt, lookupAt, positionAt, laneLength, laneAddress, total}
+use Rattle.model.specs.Layout.{maxCode, countsWidth, chainCount, contentsLength, lastOffset, currentOffset, doneOffset, queueWidth, headsAt, freeAt}
+use Rattle.model.specs.Layout.{globalQueuesAt, flagsAt, snapshotAt, generationAt, queuesAt, lookupAt, positionAt, laneLength, laneAddress, total}
 use Rattle.model.specs.Engine.{laneAt}
-use Rattle.model.specs.Memory.{at, low as lowWord, high as highWord, sizes, wide, wholeOf, flag, contents}
+use Rattle.model.specs.Memory.{at, low as lowWord, high as highWord, sizes, wide, wholeOf, flag, flags, contents, countWords, quiescentCount}
 use Rattle.model.specs.Memory.{lookupCode, lookupPosition, snapshotCount, cabinetMask, laneWords, laneWord}
 use Rattle.laws.specs.Tests.{clash}
-use Rattle.laws.specs.ListLaws.{take-map-from, map-from-getD}
+use Rattle.laws.specs.ListLaws.{take-map-from, map-from-getD, getD-right, getD-replicate-default}
 use Rattle.representation.proofs.WellFormed.{WellFormed, LookupFits, SnapshotFits, SlotOrNone}
 use Rattle.representation.proofs.Sentences.Facts.{ContentsFit, EndsInRange, QueuesInRange, LookupRest, Bare}
 use Rattle.representation.proofs.Addresses.Fields.{top, head, end, lane, value, endsLength, endWords}
@@ -109,21 +109,19 @@ module _ (e : Engine) (t : Table) (m : List ℕ) (w : WellFormed (sized e t m)) 
     pub flag-word : (k : ℕ) → flag k (laneWord m i flagsAt) ≡ getD (l .online ∷ l .reading ∷ isRunning (l .lookup) ∷ isHeld (l .snapshot) ∷ []) k false
     flag-word k = ap (λ (a : ℕ). flag k (at m a)) (omega arith) ∙ flag-is e t m w holds i b k
 
-    snapshot-word : (k : ℕ) → k < kinds → getD (laneWords l) (snapshotAt + k) 0 ≡ snapshotCount (l .snapshot) k
+    snapshot-word : (k : ℕ) → k < countsWidth → getD (laneWords l) (snapshotAt + k) 0 ≡ getD (countWords (snapshotCount (l .snapshot))) k 0
     unfolding laneWords
-    snapshot-word zero h = refl
-    snapshot-word (suc zero) h = refl
-    snapshot-word (suc (suc zero)) h = refl
-    snapshot-word (suc (suc (suc zero))) h = refl
-    snapshot-word (suc (suc (suc (suc k)))) h = absurd (omega arith)
+    snapshot-word k h =
+        getD-right (flags l ∷ countWords (quiescentCount l)) (drop snapshotAt (laneWords l)) (snapshotAt + k) k refl
+        ∙ List·getD-append (countWords (snapshotCount (l .snapshot))) (drop generationAt (laneWords l)) 0 k h
 
-    pub snapshot-rest : isHeld (l .snapshot) ≡ false → (k : ℕ) → k < kinds → laneWord m i (snapshotAt + k) ≡ 0
+    pub snapshot-rest : isHeld (l .snapshot) ≡ false → (k : ℕ) → k < countsWidth → laneWord m i (snapshotAt + k) ≡ 0
     unfolding isHeld snapshotCount
     snapshot-rest h k b = word (snapshotAt + k) (omega arith) ∙ snapshot-word k b ∙ go (l .snapshot) h
       where
-        go : (x : Snapshot) → isHeld x ≡ false → snapshotCount x k ≡ 0
+        go : (x : Snapshot) → isHeld x ≡ false → getD (countWords (snapshotCount x)) k 0 ≡ 0
         go (held c) h = clash refl h
-        go unheld h = refl
+        go unheld h = getD-replicate-default 0 countsWidth k
 
     pub lookup-rest : isRunning (l .lookup) ≡ false → LookupRest m i
     unfolding isRunning laneWords lookupCode lookupPosition

@@ -1,5 +1,5 @@
 -- A memory that holds the words of a well-formed state: its lanes read as that state's.
-use Prim.Native.Nat.{ℕ, zero, suc, _+_, _/_, _%_, _<_}
+use Prim.Native.Nat.{ℕ, zero, suc, _+_, _*_, _/_, _%_, _≤_, _<_}
 use mathlib.Core.Path.{_≡_, refl, sym, ap, ap₂, _∙_}
 use mathlib.Core.Bool.{false}
 use mathlib.Core.List.{List, [], _∷_, map}
@@ -7,10 +7,10 @@ use native.Mathlib.Omega.{arith}
 use lib.ListN.{length, getD}
 use Rattle.model.specs.Lists.{first, from, concatMap}
 use Rattle.model.specs.State.{Sizes, laneCount, Lookup, idle, running, Snapshot, unheld, held, Lane, Engine, Table, isHeld, isRunning}
-use Rattle.model.specs.Layout.{kinds, currentOffset, doneOffset, onlineBit, readingBit, lookupBit, snapshotBit, quiescentAt}
+use Rattle.model.specs.Layout.{kinds, countWidth, currentOffset, doneOffset, onlineBit, readingBit, lookupBit, snapshotBit, quiescentAt}
 use Rattle.model.specs.Layout.{snapshotAt, generationAt, queuesAt, lookupAt, positionAt, laneLength, laneAddress}
 use Rattle.model.specs.Engine.{laneAt, freshLane}
-use Rattle.model.specs.Memory.{at, sizes, wholeOf, low, high, flag, flags, lookupCode, lookupPosition, snapshotCount, laneWords}
+use Rattle.model.specs.Memory.{at, wide, sizes, wholeOf, quiescentCount, low, high, flag, flags, lookupCode, lookupPosition, snapshotCount, laneWords}
 use Rattle.model.specs.Memory.{laneWord, laneQueues, maskWord, readQueues, readLane, readLookup, readCounts, readSnapshot}
 use Rattle.laws.specs.ListLaws.{map-from-getD, map-from-alike}
 use Rattle.laws.specs.Masks.{flag-mask}
@@ -85,11 +85,18 @@ module _ (e : Engine) (t : Table) (m : List ℕ) where
       unfolding laneWords flags
       flag-is k = ap (flag k) (word 0 (omega arith) a (omega arith)) ∙ flag-mask (l .online ∷ l .reading ∷ isRunning (l .lookup) ∷ isHeld (l .snapshot) ∷ []) k
 
+      -- a count whose words stand at k of the record
+      count-at : (k x c : ℕ) → k + countWidth ≤ laneLength → x ≡ a + k → getD (laneWords l) k 0 ≡ low c → getD (laneWords l) (k + 1) 0 ≡ high c → wide m x ≡ c
+      count-at k x c h p u v =
+          ap₂ wholeOf (word k (omega arith) x p ∙ u) (word (k + 1) (omega arith) (x + 1) (omega arith) ∙ v) ∙ wholeOf-low-high c
+
       counts-are : readCounts m (a + quiescentAt) ≡ l .quiescent
       unfolding laneWords
       counts-are =
-          (λ j. word 1 (omega arith) (a + quiescentAt) refl j ∷ word 2 (omega arith) (a + quiescentAt + 1) (omega arith) j
-          ∷ word 3 (omega arith) (a + quiescentAt + 2) (omega arith) j ∷ word 4 (omega arith) (a + quiescentAt + 3) (omega arith) j ∷ [])
+          (λ j. count-at quiescentAt _ (quiescentCount l 0) (omega arith) refl refl refl j
+          ∷ count-at (quiescentAt + countWidth) (a + quiescentAt + countWidth) (quiescentCount l 1) (omega arith) (omega arith) refl refl j
+          ∷ count-at (quiescentAt + countWidth * 2) (a + quiescentAt + countWidth * 2) (quiescentCount l 2) (omega arith) (omega arith) refl refl j
+          ∷ count-at (quiescentAt + countWidth * 3) (a + quiescentAt + countWidth * 3) (quiescentCount l 3) (omega arith) (omega arith) refl refl j ∷ [])
           ∙ four-counts (l .quiescent) (w .fits i .counts .four)
 
       lookup-is : (k : Lookup) → l .lookup ≡ k → readLookup m (a + lookupAt) (isRunning k) ≡ k
@@ -107,12 +114,15 @@ module _ (e : Engine) (t : Table) (m : List ℕ) where
       snapshot-is unheld q f = refl
       snapshot-is (held c) q f =
           ap held
-          ((λ j. count-at 5 (a + snapshotAt) 0 (omega arith) (omega arith) refl j ∷ count-at 6 (a + snapshotAt + 1) 1 (omega arith) (omega arith) refl j
-          ∷ count-at 7 (a + snapshotAt + 2) 2 (omega arith) (omega arith) refl j ∷ count-at 8 (a + snapshotAt + 3) 3 (omega arith) (omega arith) refl j ∷ [])
+          ((λ j. kept 0 (a + snapshotAt) (omega arith) (omega arith) refl refl j
+          ∷ kept 1 (a + snapshotAt + countWidth) (omega arith) (omega arith) refl refl j
+          ∷ kept 2 (a + snapshotAt + countWidth * 2) (omega arith) (omega arith) refl refl j
+          ∷ kept 3 (a + snapshotAt + countWidth * 3) (omega arith) (omega arith) refl refl j ∷ [])
           ∙ four-counts c (f .1 .four))
         where
-          count-at : (k x j : ℕ) → k < laneLength → x ≡ a + k → getD (laneWords l) k 0 ≡ snapshotCount (l .snapshot) j → at m x ≡ getD c j 0
-          count-at k x j h p d = word k h x p ∙ d ∙ ap (λ (y : Snapshot). snapshotCount y j) q
+          kept : (k x : ℕ) → k < kinds → x ≡ a + (snapshotAt + countWidth * k) → getD (laneWords l) (snapshotAt + countWidth * k) 0 ≡ low (snapshotCount (l .snapshot) k)
+              → getD (laneWords l) (snapshotAt + countWidth * k + 1) 0 ≡ high (snapshotCount (l .snapshot) k) → wide m x ≡ getD c k 0
+          kept k x h p u v = count-at (snapshotAt + countWidth * k) x (snapshotCount (l .snapshot) k) (omega arith) p u v ∙ ap (λ (y : Snapshot). snapshotCount y k) q
 
       pending-is : flag (i % z .places) (maskWord m (i / z .places)) ≡ l .pending
       pending-is =

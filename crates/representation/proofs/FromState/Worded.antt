@@ -11,7 +11,7 @@ use lib.Seq.{getD-drop}
 use lib.Pow.{pow-lt}
 use Rattle.model.specs.Lists.{from, mask}
 use Rattle.model.specs.State.{Sizes, Lookup, idle, running, Snapshot, unheld, held, Lane, Engine, State, isHeld, isRunning}
-use Rattle.model.specs.Layout.{maxPlaces, total}
+use Rattle.model.specs.Layout.{maxPlaces, countLimit, total}
 use Rattle.model.specs.Engine.{laneAt}
 use Rattle.model.specs.Word.{wordBits}
 use Rattle.model.specs.Memory.{Words, at, low, high, contents, flags, pendingAt, laneWords, slotWords, lookupCode, snapshotCount, words}
@@ -74,10 +74,17 @@ module _ (s : State) (w : WellFormed s) where
   code-words r idle f = record { low = omega arith; high = omega arith }
   code-words r (running c p) f = record { low = omega arith; high = omega (arith, f .1) }
 
-  snapshot-word : (b : Bool) (d : Snapshot) → SnapshotFits b d → (k : ℕ) → Word (snapshotCount d k)
+  snapshot-counts : (b : Bool) (d : Snapshot) → SnapshotFits b d → (k : ℕ) → snapshotCount d k < countLimit
   unfolding snapshotCount
-  snapshot-word b unheld f k = omega arith
-  snapshot-word b (held c) f k = f .1 .words k
+  snapshot-counts b unheld f k = omega arith
+  snapshot-counts b (held c) f k = f .1 .words k
+
+  -- both words of a count
+  low-word : (c : ℕ) → Word (low c)
+  low-word c = omega arith
+
+  high-word : (c : ℕ) → c < countLimit → Word (high c)
+  high-word c h = omega arith
 
   -- ---- fields
 
@@ -114,12 +121,12 @@ module _ (s : State) (w : WellFormed s) where
       let f = w .fits i in
       let r = lane-ends s w i in
       let c = f .counts .words in
-      let d = snapshot-word (l .pending) (l .snapshot) (f .snapshot) in
+      let d = snapshot-counts (l .pending) (l .snapshot) (f .snapshot) in
       let k = code-words (l .reading) (l .lookup) (f .lookup) in
       let v : Word (flags l) = omega (arith, mask-lt (l .online ∷ l .reading ∷ isRunning (l .lookup) ∷ isHeld (l .snapshot) ∷ [])) in
       v
-      & c 0 & c 1 & c 2 & c 3
-      & d 0 & d 1 & d 2 & d 3
+      & low-word _ & high-word _ (c 0) & low-word _ & high-word _ (c 1) & low-word _ & high-word _ (c 2) & low-word _ & high-word _ (c 3)
+      & low-word _ & high-word _ (d 0) & low-word _ & high-word _ (d 1) & low-word _ & high-word _ (d 2) & low-word _ & high-word _ (d 3)
       & lane-generation l (w .generations .lanes i)
       & slot-word _ (r .next .first) & slot-word _ (r .next .last) & length-word _ (r .next .few)
       & slot-word _ (r .current .first) & slot-word _ (r .current .last) & length-word _ (r .current .few)

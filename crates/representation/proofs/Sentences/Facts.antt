@@ -8,7 +8,7 @@ use lib.ListN.{length, getD, take}
 use Rattle.model.specs.Word.{wordLimit, none, up, down, later}
 use Rattle.model.specs.Lists.{isEmpty, last, concat, count, distinct}
 use Rattle.model.specs.State.{Sizes, laneCount, isRunning, isHeld, Queues, Lane, State}
-use Rattle.model.specs.Layout.{maxCabinets, maxPlaces, maxSlots, kinds, chainCount, contentsLength, lastOffset, lengthOffset, currentOffset, doneOffset}
+use Rattle.model.specs.Layout.{maxCabinets, maxPlaces, maxSlots, countsWidth, chainCount, contentsLength, lastOffset, lengthOffset, currentOffset, doneOffset}
 use Rattle.model.specs.Layout.{cabinetMaskAt, headsAt, freeAt, globalQueuesAt, lookupBit, snapshotBit, flagCount, flagsAt, snapshotAt, queuesAt}
 use Rattle.model.specs.Layout.{lookupAt, positionAt, depositAt, materialAt, chainLinkAt, queueLinkAt, laneAddress, slotAddress, total}
 use Rattle.model.specs.Engine.{laneAt}
@@ -122,7 +122,7 @@ module _ (m : List ℕ) (s : State) where
     pub onChain : (k : ℕ) → k < chainCount → (x : ℕ) → 0 < count x (getD (s .table .chains) k []) → chainNumber (codeOf s x) ≡ k
     pub codes : distinct (map (codeOf s) (concat (s .table .chains))) ≡ true
     -- unused words hold their rest value
-    pub snapshotsRest : (i : ℕ) → i < laneCount (sizes m) → flag snapshotBit (laneWord m i flagsAt) ≡ false → (k : ℕ) → k < kinds
+    pub snapshotsRest : (i : ℕ) → i < laneCount (sizes m) → flag snapshotBit (laneWord m i flagsAt) ≡ false → (k : ℕ) → k < countsWidth
         → laneWord m i (snapshotAt + k) ≡ 0
     pub lookupsRest : (i : ℕ) → i < laneCount (sizes m) → flag lookupBit (laneWord m i flagsAt) ≡ false → LookupRest m i
     pub globalRest : isEmpty (s .engine .global .current) ≡ true → s .engine .global .generation ≡ 0
