@@ -21,7 +21,7 @@ use Rattle.carry.specs.Carrying.{carryReply, carried}
 
 pub record NothingLost : Type 0 where
   -- the state read from the second memory is the state read from the first
-  pub state : (old second : List ℕ) → Words old → carryReply old second .status ≡ 0 → state (carried old second) ≡ state₂ old
+  pub same : (old second : List ℕ) → Words old → carryReply old second .status ≡ 0 → state (carried old second) ≡ state₂ old
   -- and the old memory can be written back from it
   pub back : (old second : List ℕ) → Words old → carryReply old second .status ≡ 0 → stored₂ (state (carried old second)) old ≡ old
 

@@ -101,7 +101,7 @@ module _ (m : List ℕ) where
 
   -- every other sentence is about words that version 3 has too
   unfoldable pub legal₂ : Bool
-  legal₂ = cond (contentsAgree₂) (legal (widened m)) false
+  legal₂ = cond contentsAgree₂ (legal (widened m)) false
 
   unfoldable pub state₂ : State
   state₂ = state (widened m)
@@ -115,17 +115,17 @@ stored₂ s m = narrowed (words s) ++ drop (total₂ (s .sizes)) m
 module _ (m : List ℕ) where
   unfoldable pub refusalOf₂ : Call → ℕ
   refusalOf₂ (set-up c p n) = firstOf (cause 1 (not (sizesFit (sized c p n))) ∷ cause 2 (ltb (length m) (total₂ (sized c p n))) ∷ [])
-  refusalOf₂ (on-state k) = firstOf (cause 3 (not legal₂) ∷ causes state₂ k)
+  refusalOf₂ (on-state k) = firstOf (cause 3 (not (legal₂ m)) ∷ causes (state₂ m) k)
 
   unfoldable pub replyOf₂ : ℕ → Call → Answer
   replyOf₂ (suc n) k = refused (suc n)
   replyOf₂ zero (set-up c p n) = accepted (total₂ (sized c p n)) 0 0 0
-  replyOf₂ zero (on-state k) = result state₂ k
+  replyOf₂ zero (on-state k) = result (state₂ m) k
 
   unfoldable pub leftOf₂ : ℕ → Call → List ℕ
   leftOf₂ (suc n) k = m
   leftOf₂ zero (set-up c p n) = stored₂ (fresh (sized c p n)) m
-  leftOf₂ zero (on-state k) = stored₂ (performed state₂ k) m
+  leftOf₂ zero (on-state k) = stored₂ (performed (state₂ m) k) m
 
   unfoldable pub reply₂ : Call → Answer
   reply₂ k = replyOf₂ (refusalOf₂ k) k
