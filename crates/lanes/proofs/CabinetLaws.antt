@@ -1,5 +1,4 @@
--- Laws of a cabinet's work: a change of a lane's record is a change of these words, and what is done to the cabinet's part, put back in its place, is done to
--- the whole memory at the lane's address.
+-- Laws of a cabinet's work: what is done to the cabinet's part, put back in its place, is done to the whole memory at the lane's address.
 use Prim.Native.Nat.{ℕ, zero, suc, _+_, _*_, _-_, _^_, _<_, _≤_}
 use mathlib.Core.Bool.{Bool, true, false, cond}
 use mathlib.Core.Path.{_≡_, refl, ap, ap₂, sym, _∙_}
@@ -13,7 +12,7 @@ use lib.Pow.{pow-mono}
 use Rattle.model.specs.Word.{upTo}
 use Rattle.model.specs.Lists.{update, from, mask}
 use Rattle.model.specs.State.{Sizes}
-use Rattle.model.specs.Layout.{kinds, countLimit, quiescentAt, snapshotAt, laneLength, laneAddress, onlineBit, snapshotBit}
+use Rattle.model.specs.Layout.{laneLength, laneAddress, onlineBit}
 use Rattle.model.specs.Memory.{at, flag}
 use Rattle.laws.specs.ListLaws.{map-from-alike}
 use Rattle.laws.specs.Masks.{mask-from-lt, mask-from-suc}
@@ -26,10 +25,10 @@ use Rattle.lanes.specs.declared.LaneRecord.{LaneRecord}
 use Rattle.lanes.specs.declared.Place.{Place}
 use Rattle.lanes.specs.declared.Change.{Change}
 use Rattle.lanes.specs.declared.Change.the-variants.{Pass, Sample, Drop, Leave}
-use Rattle.lanes.specs.Record.{recordAt, recordWords, recordStored, countedRecord, sampledRecord, droppedRecord, offlineRecord, recordLength}
-use Rattle.lanes.proofs.RecordLaws.{wordsAt, recordAt-words, recordStored-recordAt}
+use Rattle.lanes.specs.Record.{recordAt, recordWords, recordStored, recordLength}
+use Rattle.lanes.proofs.RecordLaws.{wordsAt, recordAt-words}
 use Rattle.lanes.specs.RecordChanges.{Fits, changedRecord, changedAt}
-use Rattle.lanes.specs.Cabinet.{placeAt, cabinetAt, stand, LaneLent, onlineAt, onlineMask, countedAt, sampledAt, droppedAt, offlineAt}
+use Rattle.lanes.specs.Cabinet.{placeAt, cabinetAt, stand, LaneLent, onlineAt, onlineMask}
 
 -- the lane of place p of cabinet c stands where the model has it
 pub cabinetAt-lane : (z : Sizes) (c p : ℕ) → cabinetAt z c + placeAt p ≡ laneAddress z (c * z .places + p)
@@ -66,55 +65,6 @@ fits-drop = tt
 pub fits-leave : Fits Leave
 unfolding Fits
 fits-leave = tt
-
-module _ (m : List ℕ) (a : ℕ) where
-  -- ---- the words of each change: the record is read, changed and written, and no other word changes
-
-  pub changed-counted : (k : ℕ) → a + laneLength ≤ length m → k < kinds → changedAt m a (Pass k) ≡ countedAt m a k
-  unfolding changedRecord recordWords recordAt countedRecord update
-  changed-counted k fits h =
-      let e : a + (1 + k) ≡ a + quiescentAt + k = omega arith in
-      ap (sets m a) (go k h)
-      ∙ sym (update-sets (recordWords (recordAt m a)) m 0 a (1 + k) (upTo countLimit) (omega arith) (omega arith))
-      ∙ ap (λ (l : List ℕ). update l (a + (1 + k)) (upTo countLimit)) (recordStored-recordAt m a)
-      ∙ ap (λ (i : ℕ). update m i (upTo countLimit)) e
-    where
-      go : (k : ℕ) → k < kinds → recordWords (countedRecord (recordAt m a) k) ≡ update (recordWords (recordAt m a)) (1 + k) (upTo countLimit)
-      go zero h = refl
-      go (suc zero) h = refl
-      go (suc (suc zero)) h = refl
-      go (suc (suc (suc zero))) h = refl
-      go (suc (suc (suc (suc k)))) h = absurd (omega arith)
-
-  -- the flags anew
-  stored-flags : (w : ℕ) → set m a w ≡ sets m a (set (recordWords (recordAt m a)) 0 w)
-  unfolding recordWords recordAt
-  stored-flags w =
-      let e : a + 0 ≡ a = omega arith in
-      ap (λ (l : List ℕ). set l a w) (sym (recordStored-recordAt m a)) ∙ ap (λ (i : ℕ). set (recordStored m a (recordAt m a)) i w) (sym e)
-      ∙ set-sets (recordWords (recordAt m a)) m a 0 w (omega arith)
-
-  -- flags and snapshot words anew
-  stored-snapshot : (w x y z v : ℕ)
-      → sets (set m a w) (a + snapshotAt) (x ∷ y ∷ z ∷ v ∷ []) ≡ sets m a (sets (set (recordWords (recordAt m a)) 0 w) snapshotAt (x ∷ y ∷ z ∷ v ∷ []))
-  unfolding recordWords recordAt
-  stored-snapshot w x y z v =
-      ap (λ (l : List ℕ). sets l (a + snapshotAt) (x ∷ y ∷ z ∷ v ∷ [])) (stored-flags w)
-      ∙ sets-sets (x ∷ y ∷ z ∷ v ∷ []) (set (recordWords (recordAt m a)) 0 w) m a snapshotAt (omega arith)
-
-  pub changed-sampled : changedAt m a Sample ≡ sampledAt m a
-  unfolding changedRecord recordWords recordAt sampledRecord sampledAt
-  changed-sampled =
-      sym (stored-snapshot (withBit snapshotBit (at m a)) (at m (a + quiescentAt)) (at m (a + quiescentAt + 1)) (at m (a + quiescentAt + 2))
-      (at m (a + quiescentAt + 3)))
-
-  pub changed-dropped : changedAt m a Drop ≡ droppedAt m a
-  unfolding changedRecord recordWords recordAt droppedRecord droppedAt
-  changed-dropped = sym (stored-snapshot (withoutBit snapshotBit (at m a)) 0 0 0 0)
-
-  pub changed-offline : changedAt m a Leave ≡ offlineAt m a
-  unfolding changedRecord recordWords recordAt offlineRecord
-  changed-offline = sym (stored-flags (withoutBit onlineBit (at m a)))
 
 -- ---- a cabinet's part of n words from a on, in its place again
 

@@ -1,18 +1,14 @@
--- One cabinet's lanes: the part of the lane body that holds their records, one after another (document 01, "The memory"), and the words of a lane's record
--- after each change.
+-- One cabinet's lanes: the part of the lane body that holds their records, one after another (document 01, "The memory").
 use Prim.Native.Nat.{ℕ, _+_, _*_, _<_, _≤_}
 use mathlib.Core.Bool.{Bool}
 use mathlib.Core.Path.{_≡_}
-use mathlib.Core.List.{List, [], _∷_, map}
-use lib.ListN.{length, set}
-use lib.Seq.{sets}
-use Rattle.model.specs.Word.{upTo}
-use Rattle.model.specs.Lists.{from, mask, update}
+use mathlib.Core.List.{List, map}
+use lib.ListN.{length}
+use Rattle.model.specs.Lists.{from, mask}
 use Rattle.model.specs.State.{Sizes}
-use Rattle.model.specs.Layout.{countLimit, quiescentAt, snapshotAt, laneLength, laneAddress, onlineBit, snapshotBit}
-use Rattle.model.specs.Memory.{at, flag, readCounts}
+use Rattle.model.specs.Layout.{laneLength, laneAddress, onlineBit}
+use Rattle.model.specs.Memory.{at, flag}
 use Rattle.words.specs.Lent.{Lent}
-use Rattle.masks.specs.Bits.{withBit, withoutBit}
 use Rattle.lanes.specs.declared.Place.{Place}
 
 -- where the record of place p begins in its cabinet's part
@@ -44,21 +40,3 @@ onlineAt m a p = flag onlineBit (at m (a + placeAt p))
 -- the mask of the lanes of cabinet c that are on
 unfoldable pub onlineMask : List ℕ → Sizes → ℕ → ℕ
 onlineMask m z c = mask (map (onlineAt m (cabinetAt z c)) (from 0 (z .places)))
-
--- ---- the words after a change of the record that begins at a; all others stay
-
--- a quiescent state of kind k: that count goes up and wraps
-abbrev pub countedAt : List ℕ → ℕ → ℕ → List ℕ
-countedAt m a k = update m (a + quiescentAt + k) (upTo countLimit)
-
--- the counts are copied: the held bit and the four words of the snapshot
-unfoldable pub sampledAt : List ℕ → ℕ → List ℕ
-sampledAt m a = sets (set m a (withBit snapshotBit (at m a))) (a + snapshotAt) (readCounts m (a + quiescentAt))
-
--- the snapshot is dropped: the held bit and the four words of the snapshot go to rest
-unfoldable pub droppedAt : List ℕ → ℕ → List ℕ
-droppedAt m a = sets (set m a (withoutBit snapshotBit (at m a))) (a + snapshotAt) (0 ∷ 0 ∷ 0 ∷ 0 ∷ [])
-
--- the lane goes off
-abbrev pub offlineAt : List ℕ → ℕ → List ℕ
-offlineAt m a = set m a (withoutBit onlineBit (at m a))

@@ -1,8 +1,7 @@
 -- A lane's record as the code holds it, and its words, after which a lane may have others (document 01, "The memory", Lanes, and "Generations and passes").
 use Prim.Native.Nat.{ℕ, _+_}
 use mathlib.Core.Bool.{Bool, true, not, _&&_}
-use mathlib.Core.List.{List, [], _∷_}
-use lib.ListN.{getD}
+use mathlib.Core.List.{List, [], _∷_, _++_}
 use lib.Seq.{sets}
 use lib.Dec.{eqb}
 use Rattle.model.specs.Word.{upTo}
@@ -10,7 +9,7 @@ use Rattle.model.specs.Lists.{update}
 use Rattle.model.specs.State.{Lane}
 use Rattle.model.specs.Layout.{countLimit, lastOffset, lengthOffset, currentOffset, doneOffset, quiescentAt, snapshotAt}
 use Rattle.model.specs.Layout.{generationAt, queuesAt, lookupAt, onlineBit, snapshotBit}
-use Rattle.model.specs.Memory.{at, flag, readCounts, laneWords}
+use Rattle.model.specs.Memory.{at, flag, countWords, readCounts, laneWords}
 use Rattle.masks.specs.Bits.{withBit, withoutBit}
 use Rattle.lanes.specs.declared.Queue.{Queue}
 use Rattle.lanes.specs.declared.Lookup.{Lookup}
@@ -64,9 +63,9 @@ recordAt m a =
 unfoldable pub recordWords : LaneRecord → List ℕ
 recordWords r =
     r .flags
-    ∷ getD (r .quiescent) 0 0 ∷ getD (r .quiescent) 1 0 ∷ getD (r .quiescent) 2 0 ∷ getD (r .quiescent) 3 0
-    ∷ getD (r .snapshot) 0 0 ∷ getD (r .snapshot) 1 0 ∷ getD (r .snapshot) 2 0 ∷ getD (r .snapshot) 3 0
-    ∷ r .generation
+    ∷ countWords (at (r .quiescent))
+    ++ countWords (at (r .snapshot))
+    ++ r .generation
     ∷ r .next .first ∷ r .next .last ∷ r .next .length
     ∷ r .current .first ∷ r .current .last ∷ r .current .length
     ∷ r .done .first ∷ r .done .last ∷ r .done .length

@@ -2,12 +2,13 @@
 // count of a quiescent state, by value and in a record that is lent, and the snapshot taken, compared and dropped.
 ghost use mathlib.Core.Path.{_≡_};
 ghost use Prim.Native.Nat.{_+_, _<_, _≤_};
+ghost use mathlib.Core.List.{[], _∷_};
 ghost use lib.ListN.{length};
 ghost use lib.Seq.{sets};
 ghost use Rattle.model.specs.Word.{upTo};
 ghost use Rattle.model.specs.Lists.{update};
-ghost use Rattle.model.specs.Layout.{kinds, countLimit, queueWidth, laneLength};
-ghost use Rattle.model.specs.Memory.{readCounts};
+ghost use Rattle.model.specs.Layout.{kinds, countWidth, countLimit, countsWidth, queueWidth, laneLength};
+ghost use Rattle.model.specs.Memory.{at as wordAt, low, high, countWords, readCounts};
 ghost use Rattle.lanes.specs.Record.{lookupWidth, queueAt, queueWords, lookupWordsAt, lookupWords};
 ghost use Rattle.lanes.specs.Record.{recordAt, recordStored, countedRecord, sampledRecord, droppedRecord, offlineRecord};
 ghost use Rattle.lanes.specs.Record.{sameCounts, isHolding, movedOn};
@@ -33,8 +34,8 @@ pub struct Lookup {
 // three queues, and its lookup.
 pub struct LaneRecord {
     pub flags: u32,
-    pub quiescent: [u32; 4],
-    pub snapshot: [u32; 4],
+    pub quiescent: [u64; 4],
+    pub snapshot: [u64; 4],
     pub generation: u32,
     pub next: Queue,
     pub current: Queue,
@@ -51,23 +52,39 @@ pub struct Place {
     pub address: usize,
 }
 
-// The four counts that stand from at on.
-pub fn read_counts(m: &[u32], at: usize) -> [u32; 4]
-    requires { ⌜ at + kinds ≤ length (now m) ⌝ }
+// The four counts whose words stand from at on, low word first.
+fn read_counts(m: &[u32], at: usize) -> [u64; 4]
+    requires { ⌜ at + countsWidth ≤ length (now m) ⌝ }
     ensures { λ r. ⌜ r ≡ readCounts (now (m .entry)) at ⌝ }
 {
-    [m[at], m[at + 1], m[at + 2], m[at + 3]]
+    [
+        words::code_at(m, at),
+        words::code_at(m, at + words::COUNT_WIDTH),
+        words::code_at(m, at + words::COUNT_WIDTH * 2),
+        words::code_at(m, at + words::COUNT_WIDTH * 3),
+    ]
+}
+
+// Writes the two words of a count from at on. All other words stay.
+fn write_count(m: &mut [u32], at: usize, count: u64)
+    requires { ⌜ at + countWidth ≤ length (now m) ⌝ }
+    ensures { λ _. ⌜ now (m .exit) ≡ sets (now (m .entry)) at (low count ∷ high count ∷ []) ⌝ }
+{
+    let low = words::low(count);
+    let high = words::high(count);
+    m[at] = low;
+    m[at + 1] = high;
 }
 
 // Writes four counts from at on. All other words stay.
-pub fn write_counts(m: &mut [u32], at: usize, counts: [u32; 4])
-    requires { ⌜ at + kinds ≤ length (now m) ⌝ }
-    ensures { λ _. ⌜ now (m .exit) ≡ sets (now (m .entry)) at (readCounts counts 0) ⌝ }
+fn write_counts(m: &mut [u32], at: usize, counts: [u64; 4])
+    requires { ⌜ at + countsWidth ≤ length (now m) ⌝ }
+    ensures { λ _. ⌜ now (m .exit) ≡ sets (now (m .entry)) at (countWords (wordAt counts)) ⌝ }
 {
-    m[at] = counts[0];
-    m[at + 1] = counts[1];
-    m[at + 2] = counts[2];
-    m[at + 3] = counts[3];
+    write_count(m, at, counts[0]);
+    write_count(m, at + words::COUNT_WIDTH, counts[1]);
+    write_count(m, at + words::COUNT_WIDTH * 2, counts[2]);
+    write_count(m, at + words::COUNT_WIDTH * 3, counts[3]);
 }
 
 // A queue's words that stand from at on.
@@ -156,13 +173,13 @@ pub fn write_lane(m: &mut [u32], at: usize, r: LaneRecord)
 
 // ---- counts
 
-// The counts with that of a kind one up, wrapping from the largest word to 0.
-pub fn count(quiescent: [u32; 4], kind: usize) -> [u32; 4]
+// The counts with that of a kind one up, wrapping from the largest 64-bit number to 0.
+pub fn count(quiescent: [u64; 4], kind: usize) -> [u64; 4]
     requires { ⌜ kind < kinds ⌝ }
     ensures { λ r. ⌜ r ≡ update quiescent kind (upTo countLimit) ⌝ }
 {
     let mut counts = quiescent;
-    counts[kind] = std::num::wrapping_add_u32(counts[kind], 1);
+    counts[kind] = std::num::wrapping_add_u64(counts[kind], 1);
     counts
 }
 
@@ -220,7 +237,7 @@ fn dropped(r: LaneRecord) -> LaneRecord
 }
 
 // Whether four counts are these others.
-fn same_counts(a: [u32; 4], b: [u32; 4]) -> bool
+fn same_counts(a: [u64; 4], b: [u64; 4]) -> bool
     ensures { λ r. ⌜ r ≡ sameCounts a b ⌝ }
 {
     (a[0] == b[0]) & ((a[1] == b[1]) & ((a[2] == b[2]) & ((a[3] == b[3]) & true)))

@@ -36,10 +36,15 @@ pub const MAX_MATERIAL: u32 = 7;
 
 pub const KINDS: usize = 4;
 
+// the words of a count, and of the counts of all kinds
+pub const COUNT_WIDTH: usize = 2;
+
+pub const COUNTS_WIDTH: usize = COUNT_WIDTH * KINDS;
+
 pub const CHAIN_COUNT: usize = 64;
 
 // ---- contents: addresses
-pub const VERSION: u32 = 2;
+pub const VERSION: u32 = 3;
 
 pub const VERSION_AT: usize = 0;
 
@@ -89,9 +94,9 @@ pub const FLAGS_AT: usize = 0;
 
 pub const QUIESCENT_AT: usize = FLAGS_AT + 1;
 
-pub const SNAPSHOT_AT: usize = QUIESCENT_AT + KINDS;
+pub const SNAPSHOT_AT: usize = QUIESCENT_AT + COUNTS_WIDTH;
 
-pub const GENERATION_AT: usize = SNAPSHOT_AT + KINDS;
+pub const GENERATION_AT: usize = SNAPSHOT_AT + COUNTS_WIDTH;
 
 pub const QUEUES_AT: usize = GENERATION_AT + 1;
 
