@@ -12,7 +12,7 @@
  *
  * Memory. All state lies in 32-bit words that the caller lends to each call;
  * nothing is allocated and no pointer is kept. A table of C cabinets, M lanes per
- * cabinet and S slots takes PT_WORDS(C, M, S) words, the total: 7,652 at full size.
+ * cabinet and S slots takes PT_WORDS(C, M, S) words, the total: 8,164 at full size.
  * More may be lent; words past the total are neither read nor written. "none" is
  * PT_NONE. In this order, without gaps:
  *   contents  12 words: version PT_VERSION, C, M, S, first word and length of each
@@ -21,36 +21,40 @@
  *             pending cabinets, 64 chain heads, first, last and length of the free,
  *             next, current and done queues, generation of the current queue;
  *   cabinets  1 word each: mask of pending lanes, bit p for place p;
- *   lanes     22 words each: flags (bit 0 online, 1 in a read-side section, 2 lookup
- *             running, 3 snapshot held), 4 quiescent counts, 4 snapshot counts,
- *             generation of the current queue, first, last and length of the next,
- *             current and done queues, code of the lookup (low word, high word),
- *             position;
+ *   lanes     30 words each: flags (bit 0 online, 1 in a read-side section, 2 lookup
+ *             running, 3 snapshot held), 4 quiescent counts and 4 snapshot counts (low
+ *             word, high word each), generation of the current queue, first, last and
+ *             length of the next, current and done queues, code of the lookup (low word,
+ *             high word), position;
  *   slots     6 words each: code (low word, high word), deposit, material, chain
  *             link, queue link.
  * The number of a lane is cabinet * M + place. An empty queue has first and last none
  * and length 0.
  *
- * Version. A table of version 1 has no lengths. It is refused with PT_NOT_LEGAL, 3, as
- * one of any other version is, by every call on it but pt_setup(), and stays as it was.
- * To move on from it, set up a fresh table, in PT_WORDS words, which are more than
- * before, and let the office enter its records again.
+ * Version. A table of version 2 has counts of 32 bits, one of version 1 has no lengths
+ * either. A table of any other version is refused with PT_NOT_LEGAL, 3, by every call on
+ * it but pt_setup(), and stays as it was. To move on from version 2 in service, with
+ * sections open, lookups halfway and a grace period running, pt_carry() writes the table
+ * into a second memory. To move on from version 1, set up a fresh table, in PT_WORDS
+ * words, which are more than before, and let the office enter its records again.
  *
  * Words. A word is a uint32_t of the machine, in its own byte order; the low word of a
- * code comes first on every machine. No word is a pointer: between two calls a memory
+ * code or of a count comes first on every machine. No word is a pointer: between two calls a memory
  * may be copied, sent or kept in a file, and the copy goes on from there. For a machine
  * of the other byte order the four bytes of each word are swapped.
  *
  * Legal. A memory is legal when its contents agree with its sizes and its length,
  * every word is in range or at its rest value, each slot stands in exactly one chain
  * or queue, each length is the number of slots in its queue, and flags, masks and
- * generations agree with each other. pt_setup() makes a legal memory of any words, and
- * every call keeps it legal. A damaged memory is refused by all other calls on it, and
+ * generations agree with each other. pt_setup() makes a legal memory of any words, as
+ * pt_carry() does, and every call keeps it legal. A damaged memory is refused by all other calls on it, and
  * never followed out of its bounds.
  *
  * Sections. What pt_begin(), pt_step() and pt_hand_back() promise about sections,
  * pt_step() about the number of steps and pt_clock() about the sum of its numbers holds
- * as long as nothing but these calls has written the memory since its set-up. Legality
+ * as long as nothing but these calls has written the memory since its set-up; of a
+ * carried memory that is the set-up of the old one, and what was made on the old one
+ * before the carry counts. Legality
  * alone does not give it: other writes can make a legal memory in which a slot that an
  * open section still reads is done, or in which the links that retired slots kept lead
  * a lookup round and round.
@@ -78,7 +82,7 @@
  * code into a text. A text is bytes with a length: there is no closing NUL, none is
  * read and none is written. Both take no memory.
  *
- * What the caller owes: @memory, @text and @answer do not overlap; each points to as
+ * What the caller owes: @memory, @old, @text and @answer do not overlap; each points to as
  * many words or bytes as its length says, words aligned as a uint32_t; a length of 0 is
  * allowed, with any pointer that C allows for it. Calls on one memory are made one
  * after another: there are no locks here, and no memory barriers. Nothing but a wrong
@@ -125,6 +129,7 @@ extern "C" {
 #define PT_NOTHING_DONE   16u /* hand_back: both done queues are empty */
 #define PT_WRONG_DIGIT    17u /* add, replace: the code's check digit is wrong */
 #define PT_WRONG_LABEL    18u /* label_read: no label; label_write: the text is too short */
+#define PT_SHORT_SECOND   19u /* carry: the second memory is below the total */
 #define PT_SHORT_ANSWER   4294967295u /* fewer than five answer words were lent */
 
 /* No slot, no lane: the rest value of links, ends of queues and positions. */
@@ -161,13 +166,14 @@ extern "C" {
 #define PT_LABEL_13       13u
 #define PT_LABEL_14       14u
 
-/* The version of the memory: its first word. */
-#define PT_VERSION        2u
+/* The version of the memory, its first word, and that of the memory that pt_carry() takes. */
+#define PT_VERSION        3u
+#define PT_OLD_VERSION    2u
 
 /* The total: how many words a table of these sizes takes. */
 #define PT_WORDS(cabinets, lanes, slots) \
 	((size_t)92 + (size_t)(cabinets) + \
-	 (size_t)22 * (size_t)(cabinets) * (size_t)(lanes) + \
+	 (size_t)30 * (size_t)(cabinets) * (size_t)(lanes) + \
 	 (size_t)6 * (size_t)(slots))
 
 /*
@@ -405,7 +411,8 @@ uint32_t pt_step(uint32_t *memory, size_t words,
  *   PT_IN_SECTION: the lane is in a section;
  *   PT_OUT_OF_RANGE: @kind is above PT_MAX_KIND.
  * On success only the lane's count of that kind changes: it grows by one, and wraps
- * from 4,294,967,295 to 0. pt_clock() acts on it. A refusal changes no word.
+ * from 18,446,744,073,709,551,615 to 0. pt_clock() acts on it. A refusal changes no
+ * word.
  */
 extern
 uint32_t pt_pass(uint32_t *memory, size_t words,
@@ -540,6 +547,42 @@ uint32_t pt_hand_back(uint32_t *memory, size_t words,
  */
 extern
 uint32_t pt_awaited(uint32_t *memory, size_t words,
+		uint32_t *answer, size_t answer_words);
+
+/*
+ * pt_carry - carry a table of version 2 into a second memory, in service.
+ * @old: the memory of the table of version 2; it is only read.
+ * @old_words: the length of @old, in words.
+ * @memory: the second memory; what its words hold does not matter.
+ * @words: the length of @memory, in words.
+ * @answer: the words that take the answer.
+ * @answer_words: the length of @answer, in words.
+ *
+ * Return PT_OK, and the answer PT_OK, total, 0, 0, 0 with the total
+ * PT_WORDS(cabinets, lanes, slots) of the table's sizes, or a refusal, tested in this
+ * order:
+ *   PT_SHORT_ANSWER: @answer_words is below PT_ANSWER_WORDS;
+ *   PT_NOT_LEGAL: @old is not legal as a memory of version PT_OLD_VERSION;
+ *   PT_SHORT_SECOND: @words is below the total.
+ * On success the first total words of @memory are written: the same table in version
+ * PT_VERSION, with the sections that are open, the lookups where they stand, the grace
+ * period that runs, snapshots and every queue. Counts and snapshots are as they were,
+ * with high word 0, and none is mended. Words of @memory past the total stay, and so do
+ * all words of @old. A refusal changes no word.
+ *
+ * When to carry. Between any two calls on the old memory: nothing has to end before.
+ * From there on the hall makes its calls on @memory, which answers each of them, but
+ * pt_setup(), as the old memory would have, until a count would have wrapped at 32 bits.
+ * What was promised of the calls before the carry is kept by those after it: a slot that
+ * an open section still reads is not reclaimed, a lookup has its answer by the step
+ * that was promised when it started, and the sum that pt_clock() tells of goes on. What
+ * @memory was before is over, as after pt_setup(). The old memory is left as it was; no
+ * other call takes it, and once the carry has returned PT_OK it may be given back. The
+ * two must not both be kept in service: each would free slots that the other reads.
+ */
+extern
+uint32_t pt_carry(const uint32_t *old, size_t old_words,
+		uint32_t *memory, size_t words,
 		uint32_t *answer, size_t answer_words);
 
 /*

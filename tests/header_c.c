@@ -19,6 +19,7 @@ uint32_t (*const header_lane[])(LENT, uint32_t) = {
 };
 uint32_t (*const header_pass)(LENT, uint32_t, uint32_t) = pt_pass;
 uint32_t (*const header_awaited)(LENT) = pt_awaited;
+uint32_t (*const header_carry)(const uint32_t *, size_t, LENT) = pt_carry;
 uint32_t (*const header_label_read)(const uint8_t *, size_t, uint32_t *, size_t) = pt_label_read;
 uint32_t (*const header_label_write)(uint8_t *, size_t, uint32_t *, size_t, uint64_t) =
 	pt_label_write;
@@ -28,9 +29,9 @@ uint32_t header_memory[PT_WORDS(PT_MAX_CABINETS, PT_MAX_LANES, PT_MAX_SLOTS)];
 uint32_t header_answer[PT_ANSWER_WORDS];
 uint8_t header_text[PT_LABEL_14];
 
-_Static_assert(sizeof header_memory / sizeof header_memory[0] == 7652, "full size");
-_Static_assert(PT_WORDS(1, 2, 3) == 155 && PT_WORDS(1, 1 + 1, 2 + 1) == 155, "total");
-_Static_assert(PT_VERSION == 2, "version");
+_Static_assert(sizeof header_memory / sizeof header_memory[0] == 8164, "full size");
+_Static_assert(PT_WORDS(1, 2, 3) == 171 && PT_WORDS(1, 1 + 1, 2 + 1) == 171, "total");
+_Static_assert(PT_VERSION == 3 && PT_OLD_VERSION == 2, "version");
 _Static_assert(sizeof header_answer / sizeof header_answer[0] == 5, "answer");
 
 _Static_assert(PT_OK == 0 && PT_BAD_SIZE == 1 && PT_SHORT_MEMORY == 2 && PT_NOT_LEGAL == 3 &&
@@ -38,7 +39,7 @@ _Static_assert(PT_OK == 0 && PT_BAD_SIZE == 1 && PT_SHORT_MEMORY == 2 && PT_NOT_
 	PT_NO_SECTION == 8 && PT_IN_LOOKUP == 9 && PT_NO_LOOKUP == 10 && PT_OUT_OF_RANGE == 11 &&
 	PT_CODE_PRESENT == 12 && PT_CODE_MISSING == 13 && PT_NO_FREE_SLOT == 14 &&
 	PT_LAST_LANE == 15 && PT_NOTHING_DONE == 16 && PT_WRONG_DIGIT == 17 &&
-	PT_WRONG_LABEL == 18, "refusals");
+	PT_WRONG_LABEL == 18 && PT_SHORT_SECOND == 19, "refusals");
 _Static_assert(PT_SHORT_ANSWER == UINT32_MAX && PT_NONE == UINT32_MAX, "none");
 _Static_assert(PT_GOING == 0 && PT_FOUND == 1 && PT_ABSENT == 2, "outcomes");
 _Static_assert(PT_IDLE == 0 && PT_BOTTLE_DROPPED == 1 && PT_DOOR_OPEN == 2 &&

@@ -20,7 +20,7 @@ struct field {
 };
 
 static const struct field fields[] = {
-	{ "contents", CONTENTS_VERSION, 1, "version, 2" },
+	{ "contents", CONTENTS_VERSION, 1, "version, 3" },
 	{ "contents", CONTENTS_CABINETS, 1, "cabinets C, 1 to 8" },
 	{ "contents", CONTENTS_LANES, 1, "lanes of each M, 1 to 8" },
 	{ "contents", CONTENTS_SLOTS, 1, "slots S, 1 to 1,024" },
@@ -36,8 +36,8 @@ static const struct field fields[] = {
 	{ "global", GLOBAL_GENERATION, GLOBAL_WORDS - GLOBAL_GENERATION, "generation of current" },
 	{ "cabinet", CABINET_PENDING, CABINET_WORDS, "mask of pending lanes" },
 	{ "lane", LANE_FLAGS, 1, "flags: online, section, lookup, snapshot" },
-	{ "lane", LANE_COUNTS, KINDS, "quiescent counts" },
-	{ "lane", LANE_SNAPSHOT, KINDS, "snapshot counts" },
+	{ "lane", LANE_COUNTS, COUNT_WORDS * KINDS, "quiescent counts: low, high each" },
+	{ "lane", LANE_SNAPSHOT, COUNT_WORDS * KINDS, "snapshot counts: low, high each" },
 	{ "lane", LANE_GENERATION, 1, "generation of current" },
 	{ "lane", LANE_NEXT, QUEUE_WORDS, "next queue: first, last, length" },
 	{ "lane", LANE_CURRENT, QUEUE_WORDS, "current queue: first, last, length" },

@@ -9,6 +9,7 @@ const struct interface reference = {
 #define ARGUMENT(n, KIND)
 #define CALL(NAME, name, command, weight, arguments, causes) .name = ref_##name,
 #include "calls.def"
+	.carry = ref_carry,
 	.label_read = ref_label_read,
 	.label_write = ref_label_write,
 };
@@ -23,6 +24,7 @@ const struct interface tested = {
 #define ARGUMENT(n, KIND)
 #define CALL(NAME, name, command, weight, arguments, causes) .name = TESTED(name),
 #include "calls.def"
+	.carry = TESTED(carry),
 	.label_read = TESTED(label_read),
 	.label_write = TESTED(label_write),
 };

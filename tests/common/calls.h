@@ -71,11 +71,15 @@ uint64_t call_argument(const struct call *call, enum kind kind, uint64_t none);
 #define LABEL_READ_LENT const uint8_t *text, size_t bytes, uint32_t *answer, size_t answer_words
 #define LABEL_WRITE_LENT uint8_t *text, size_t bytes, uint32_t *answer, size_t answer_words
 
-/* The calls of one implementation, and its label functions. */
+/* What the carry takes: an old memory, which is only read, and a second one. */
+#define CARRY_LENT const uint32_t *old, size_t old_words, CALL_LENT
+
+/* The calls of one implementation, its carry and its label functions. */
 struct interface {
 #define ARGUMENT(n, KIND) , argument_##KIND
 #define CALL(NAME, name, command, weight, arguments, causes) uint32_t (*name)(CALL_LENT arguments);
 #include "calls.def"
+	uint32_t (*carry)(CARRY_LENT);
 	uint32_t (*label_read)(LABEL_READ_LENT);
 	uint32_t (*label_write)(LABEL_WRITE_LENT, uint64_t code);
 };

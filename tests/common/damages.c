@@ -9,6 +9,7 @@
 #define GLOBAL(word) (CONTENTS_WORDS + (word))
 #define CABINET(c) (GLOBAL(GLOBAL_WORDS) + CABINET_WORDS * (c))
 #define LANE(l, word) (CABINET(DAMAGES_CABINETS) + LANE_WORDS * (l) + (word))
+#define SNAPSHOT(l, kind, half) LANE(l, LANE_SNAPSHOT + COUNT_WORDS * (kind) + (half))
 #define SLOT(s, word) (LANE(DAMAGES_CABINETS * DAMAGES_LANES, 0) + SLOT_WORDS * (s) + (word))
 
 /* 100,000,000,000,000 in two words. */
@@ -50,7 +51,8 @@ const size_t rich_count = sizeof rich_calls / sizeof rich_calls[0];
 
 const struct damage damages[] = {
 	{ BASE_RICH, LEGAL_CONTENTS, "contents agree", { { CONTENTS_VERSION, 1 } } },
-	{ BASE_RICH, LEGAL_CONTENTS, "contents agree", { { CONTENTS_VERSION, 3 } } },
+	{ BASE_RICH, LEGAL_CONTENTS, "contents agree", { { CONTENTS_VERSION, 2 } } },
+	{ BASE_RICH, LEGAL_CONTENTS, "contents agree", { { CONTENTS_VERSION, 4 } } },
 	{ BASE_RICH, LEGAL_CONTENTS, "contents agree", { { CONTENTS_CABINETS, 0 } } },
 	{ BASE_RICH, LEGAL_CONTENTS, "contents agree", { { CONTENTS_CABINETS, 1 } } },
 	{ BASE_RICH, LEGAL_CONTENTS, "contents agree", { { CONTENTS_CABINETS, 9 } } },
@@ -66,8 +68,8 @@ const struct damage damages[] = {
 	{ BASE_RICH, LEGAL_CONTENTS, "contents agree", { { CONTENTS_BODIES + 2, 0 } } },
 	{ BASE_RICH, LEGAL_CONTENTS, "contents agree", { { CONTENTS_BODIES + 3, 3 } } },
 	{ BASE_RICH, LEGAL_CONTENTS, "contents agree", { { CONTENTS_BODIES + 4, NONE } } },
-	{ BASE_RICH, LEGAL_CONTENTS, "contents agree", { { CONTENTS_BODIES + 5, 89 } } },
-	{ BASE_RICH, LEGAL_CONTENTS, "contents agree", { { CONTENTS_BODIES + 6, 181 } } },
+	{ BASE_RICH, LEGAL_CONTENTS, "contents agree", { { CONTENTS_BODIES + 5, 88 } } },
+	{ BASE_RICH, LEGAL_CONTENTS, "contents agree", { { CONTENTS_BODIES + 6, 182 } } },
 	{ BASE_RICH, LEGAL_CONTENTS, "contents agree", { { CONTENTS_BODIES + 7, 95 } } },
 
 	{ BASE_RICH, LEGAL_FLAGS, "flags in range", { { LANE(2, LANE_FLAGS), 17 } } },
@@ -161,9 +163,13 @@ const struct damage damages[] = {
 	{ BASE_RICH, LEGAL_TWICE, "no code twice", { { SLOT(0, SLOT_CODE + CODE_LOW), 192 } } },
 	{ BASE_RICH, LEGAL_TWICE, "no code twice", { { SLOT(1, SLOT_CODE + CODE_LOW), 0 } } },
 
-	{ BASE_RICH, LEGAL_SNAPSHOTS_REST, "snapshot counts at rest", { { LANE(0, LANE_SNAPSHOT + 0), 1 } } },
-	{ BASE_RICH, LEGAL_SNAPSHOTS_REST, "snapshot counts at rest", { { LANE(0, LANE_SNAPSHOT + 3), NONE } } },
-	{ BASE_RICH, LEGAL_SNAPSHOTS_REST, "snapshot counts at rest", { { LANE(3, LANE_SNAPSHOT + 1), 1 } } },
+	{ BASE_RICH, LEGAL_SNAPSHOTS_REST, "snapshot counts at rest", { { SNAPSHOT(0, 0, COUNT_LOW), 1 } } },
+	{ BASE_RICH, LEGAL_SNAPSHOTS_REST, "snapshot counts at rest", { { SNAPSHOT(0, 0, COUNT_HIGH), 1 } } },
+	{ BASE_RICH, LEGAL_SNAPSHOTS_REST, "snapshot counts at rest", { { SNAPSHOT(0, 1, COUNT_HIGH), NONE } } },
+	{ BASE_RICH, LEGAL_SNAPSHOTS_REST, "snapshot counts at rest", { { SNAPSHOT(0, 3, COUNT_LOW), NONE } } },
+	{ BASE_RICH, LEGAL_SNAPSHOTS_REST, "snapshot counts at rest", { { SNAPSHOT(2, 3, COUNT_HIGH), 1 } } },
+	{ BASE_RICH, LEGAL_SNAPSHOTS_REST, "snapshot counts at rest", { { SNAPSHOT(3, 1, COUNT_LOW), 1 } } },
+	{ BASE_RICH, LEGAL_SNAPSHOTS_REST, "snapshot counts at rest", { { SNAPSHOT(3, 2, COUNT_HIGH), 1 } } },
 	{ BASE_RICH, LEGAL_LOOKUPS_REST, "lookup words at rest", { { LANE(1, LANE_CODE + CODE_LOW), 1 } } },
 	{ BASE_RICH, LEGAL_LOOKUPS_REST, "lookup words at rest", { { LANE(1, LANE_CODE + CODE_HIGH), 1 } } },
 	{ BASE_RICH, LEGAL_LOOKUPS_REST, "lookup words at rest", { { LANE(1, LANE_POSITION), 0 } } },
@@ -212,7 +218,7 @@ const struct damage damages[] = {
 		{ GLOBAL(GLOBAL_LARGEST_GENERATION), 3 }, { LANE(1, LANE_GENERATION), 3 },
 		{ LANE(2, LANE_GENERATION), 3 } } },
 
-	{ BASE_FRESH, LEGAL_CONTENTS, "contents agree", { { CONTENTS_VERSION, 0x02000000 } } },
+	{ BASE_FRESH, LEGAL_CONTENTS, "contents agree", { { CONTENTS_VERSION, 0x03000000 } } },
 	{ BASE_FRESH, LEGAL_LENGTHS, "length of a queue", { { GLOBAL(GLOBAL_FREE + QUEUE_LENGTH), 15 } } },
 	{ BASE_FRESH, LEGAL_LENGTHS, "length of a queue", { { GLOBAL(GLOBAL_FREE + QUEUE_LENGTH), 0 } } },
 	{ BASE_FRESH, LEGAL_LENGTHS, "length of a queue", { { GLOBAL(GLOBAL_FREE + QUEUE_LENGTH), NONE } } },
@@ -251,8 +257,10 @@ const struct damage damages[] = {
 	{ BASE_RICH, LEGAL_SENTENCES, "queues at the current generation", {
 		{ LANE(1, LANE_GENERATION), 3 }, { LANE(2, LANE_GENERATION), 3 },
 		{ GLOBAL(GLOBAL_GENERATION), 3 }, { GLOBAL(GLOBAL_LARGEST_GENERATION), 3 } } },
-	{ BASE_RICH, LEGAL_SENTENCES, "counts of an offline lane", { { LANE(3, LANE_COUNTS), NONE } } },
-	{ BASE_RICH, LEGAL_SENTENCES, "snapshot far from the counts", { { LANE(1, LANE_SNAPSHOT + 2), 77 } } },
+	{ BASE_RICH, LEGAL_SENTENCES, "counts of an offline lane", { { LANE(3, LANE_COUNTS), NONE },
+		{ LANE(3, LANE_COUNTS + COUNT_HIGH), NONE } } },
+	{ BASE_RICH, LEGAL_SENTENCES, "snapshot far from the counts", { { SNAPSHOT(1, 2, COUNT_LOW), 77 } } },
+	{ BASE_RICH, LEGAL_SENTENCES, "snapshot far from the counts", { { SNAPSHOT(1, 2, COUNT_HIGH), NONE } } },
 	{ BASE_RICH, LEGAL_SENTENCES, "a period that waits for one lane", { { CABINET(0), 2 } } },
 	{ BASE_RICH, LEGAL_SENTENCES, "generations at the wrap", {
 		{ GLOBAL(GLOBAL_CURRENT_GENERATION), NONE },

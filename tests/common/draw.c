@@ -6,6 +6,7 @@
 #include "causes.h"
 #include "codes.h"
 #include "layout.h"
+#include "layout_v2.h"
 
 const struct list draw_lists[] = {
 	{ 1, 1, 1, 2, 30000, 1 },
@@ -244,6 +245,7 @@ void drawer_start(struct drawer *drawer, const struct list *list, uint64_t seed,
 	drawer->seed = seed;
 	drawer->list = list;
 	drawer->calls_only = calls_only;
+	drawer->carries = !calls_only;
 	drawer->ahead = 0;
 	drawer->taken = 0;
 	ahead_call(drawer, &(struct call){ CALL_SETUP, { list->cabinets, list->lanes, list->slots } });
@@ -251,9 +253,13 @@ void drawer_start(struct drawer *drawer, const struct list *list, uint64_t seed,
 		return;
 	ahead(drawer, STEP_POKE, CONTENTS_WORDS + GLOBAL_CURRENT_GENERATION, list->generation);
 	ahead(drawer, STEP_POKE, CONTENTS_WORDS + GLOBAL_LARGEST_GENERATION, list->generation - 1u);
-	for (uint32_t kind = 0; kind < KINDS; kind++) /* lane 0's counts are about to wrap */
-		ahead(drawer, STEP_POKE, CONTENTS_WORDS + GLOBAL_WORDS + CABINET_WORDS * list->cabinets +
-			LANE_COUNTS + kind, PT_NONE - draw_below(&drawer->seed, 3));
+	for (uint32_t kind = 0; kind < KINDS; kind++) { /* lane 0's counts are about to carry, or to wrap */
+		uint32_t at = CONTENTS_WORDS + GLOBAL_WORDS + CABINET_WORDS * list->cabinets + LANE_COUNTS +
+			COUNT_WORDS * kind;
+
+		ahead(drawer, STEP_POKE, at + COUNT_LOW, PT_NONE - draw_below(&drawer->seed, 3));
+		ahead(drawer, STEP_POKE, at + COUNT_HIGH, draw_below(&drawer->seed, 2) == 0 ? 0 : PT_NONE);
+	}
 }
 
 /* A lane takes two steps and ends its section, with its lookup where that still runs, passes and hands back; perhaps it begins again. */
@@ -371,6 +377,104 @@ static void ahead_short(struct drawer *drawer, enum step_kind kind, uint32_t bel
 	ahead(drawer, kind, (uint32_t)whole, 0);
 }
 
+/* ---- an old memory, and its carry */
+
+static void ahead_old(struct drawer *drawer, enum step_kind kind, uint32_t number, uint32_t value)
+{
+	ahead(drawer, kind, number, value);
+	drawer->step[drawer->ahead - 1].old = true;
+}
+
+static void ahead_old_call(struct drawer *drawer, const struct call *call)
+{
+	ahead_call(drawer, call);
+	drawer->step[drawer->ahead - 1].old = true;
+}
+
+static uint32_t old_lane(const struct list *list, uint32_t lane)
+{
+	return V2_CONTENTS_WORDS + V2_GLOBAL_WORDS + V2_CABINET_WORDS * list->cabinets + V2_LANE_WORDS * lane;
+}
+
+/* Counts of a lane are about to wrap. */
+static void ahead_old_counts(struct drawer *drawer)
+{
+	const struct list *list = drawer->list;
+	uint32_t at = old_lane(list, draw_below(&drawer->seed, list->cabinets * list->lanes));
+
+	for (uint32_t kind = 0; kind < V2_KINDS; kind++)
+		ahead_old(drawer, STEP_POKE, at + V2_LANE_COUNTS + kind, PT_NONE - draw_below(&drawer->seed, 2));
+}
+
+/* A snapshot count becomes another; of a lane that holds no snapshot that is not legal. */
+static void ahead_old_snapshot(struct drawer *drawer, uint32_t lane)
+{
+	ahead_old(drawer, STEP_POKE, old_lane(drawer->list, lane) + V2_LANE_SNAPSHOT + draw_below(&drawer->seed, V2_KINDS),
+		draw_below(&drawer->seed, 3) - 1u);
+}
+
+/* Drawn calls; then a lane reads, its lookup halfway, and another removes the record and has its clock: that one is returned. */
+static uint32_t ahead_old_calls(struct drawer *drawer)
+{
+	const struct list *list = drawer->list;
+	uint32_t lanes = list->cabinets * list->lanes, lane = draw_below(&drawer->seed, lanes);
+	uint64_t code = draw_right_code(&drawer->seed, list);
+
+	for (uint32_t calls = draw_below(&drawer->seed, 40); calls > 0; calls--) {
+		struct call call = draw_call(&drawer->seed, list);
+
+		if (call.name != CALL_SETUP)
+			ahead_old_call(drawer, &call);
+	}
+	ahead_old_call(drawer, &(struct call){ CALL_BEGIN, { lane } });
+	ahead_old_call(drawer, &(struct call){ CALL_START, { lane, code } });
+	ahead_old_call(drawer, &(struct call){ CALL_STEP, { lane } });
+	lane = draw_below(&drawer->seed, lanes);
+	ahead_old_call(drawer, &(struct call){ CALL_DELETE, { lane, code } });
+	ahead_old_call(drawer, &(struct call){ CALL_CLOCK, { lane } });
+	return lane;
+}
+
+/* Short of words, or damaged; the memory and the list go on as they were. */
+static void ahead_carry_refused(struct drawer *drawer, uint32_t total, size_t words)
+{
+	const struct list *list = drawer->list;
+	uint32_t old_total = total - (LANE_WORDS - V2_LANE_WORDS) * list->cabinets * list->lanes;
+
+	switch (draw_below(&drawer->seed, 3)) {
+	case 0:
+		ahead(drawer, STEP_LEND, draw_below(&drawer->seed, 4) == 0 ? total - 1 : draw_below(&drawer->seed, total), 0);
+		ahead(drawer, STEP_CARRY, 0, 0);
+		ahead(drawer, STEP_LEND, (uint32_t)words, 0);
+		break;
+	case 1:
+		ahead_old(drawer, STEP_LEND, draw_below(&drawer->seed, old_total), 0);
+		ahead(drawer, STEP_CARRY, 0, 0);
+		ahead_old(drawer, STEP_LEND, old_total, 0);
+		break;
+	default: /* any word at all: mostly it is not legal then */
+		ahead_old(drawer, STEP_POKE, draw_below(&drawer->seed, old_total), draw_below(&drawer->seed, 20));
+	}
+}
+
+/* An old memory of the list's sizes from its set-up on; then it is carried, and the list goes on there. */
+static void ahead_carry(struct drawer *drawer, uint32_t total, size_t words)
+{
+	const struct list *list = drawer->list;
+	uint32_t lane;
+
+	ahead_old(drawer, STEP_LEND, (uint32_t)PT_WORDS(PT_MAX_CABINETS, PT_MAX_LANES, PT_MAX_SLOTS), 0);
+	ahead_old_call(drawer, &(struct call){ CALL_SETUP, { list->cabinets, list->lanes, list->slots } });
+	if (!drawer->calls_only && draw_below(&drawer->seed, 2) == 0)
+		ahead_old_counts(drawer);
+	lane = ahead_old_calls(drawer);
+	if (!drawer->calls_only && draw_below(&drawer->seed, 3) == 0)
+		ahead_old_snapshot(drawer, lane);
+	if (!drawer->calls_only && draw_below(&drawer->seed, 2) == 0)
+		ahead_carry_refused(drawer, total, words);
+	ahead(drawer, STEP_CARRY, 0, 0);
+}
+
 enum { LIKELY_TRIES = 6, LIKELY_SLOTS = 100 };
 
 /* Every other call is drawn until it is accepted, on a table that is not too large for that. */
@@ -402,6 +506,8 @@ struct step drawer_next(struct drawer *drawer, const uint32_t *memory, size_t wo
 			ahead_lanes(drawer);
 		if (lanes > 1 && draw_below(&drawer->seed, 40 + 20 * lanes) == 0)
 			ahead_leaving(drawer);
+		if (drawer->carries && draw_below(&drawer->seed, 60) == 0)
+			ahead_carry(drawer, total, words);
 		if (!drawer->calls_only && draw_below(&drawer->seed, 12) == 0)
 			ahead_damage(drawer, memory, total);
 		if (!drawer->calls_only && draw_below(&drawer->seed, 100) == 0)

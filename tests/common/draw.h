@@ -52,11 +52,12 @@ struct drawer {
 	uint64_t seed;
 	const struct list *list;
 	bool calls_only; /* as for a listing: no word is poked, all is lent */
+	bool carries;	 /* old memories are made and carried, which a listing has not */
 	uint32_t ahead, taken;
 	struct step step[DRAWN_AHEAD]; /* drawn, of which so many are taken */
 };
 
-/* A list from its set-up on. */
+/* A list from its set-up on; it has carries unless it is of calls alone. */
 void drawer_start(struct drawer *drawer, const struct list *list, uint64_t seed, bool calls_only);
 
 /*
@@ -64,7 +65,9 @@ void drawer_start(struct drawer *drawer, const struct list *list, uint64_t seed,
  * is too short; calls on a memory of which some words are changed, after which they are as
  * they were; a record that becomes an older one, with a wrong check digit; a label that is
  * read or written; a section that ends with its lookup unfinished; now and then all lanes end
- * their sections, pass and hand back, or a lane leaves with slots that it removed.
+ * their sections, pass and hand back, or a lane leaves with slots that it removed; now and then
+ * an old memory is made, with counts about the wrap, and carried into the memory: also a
+ * damaged one, one that is lent short, and into a memory that is lent short.
  */
 struct step drawer_next(struct drawer *drawer, const uint32_t *memory, size_t words);
 

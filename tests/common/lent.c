@@ -138,6 +138,19 @@ uint32_t *lent_slot(uint32_t *memory, uint32_t n)
 	return record(memory, BODY_SLOTS, SLOT_WORDS, n);
 }
 
+uint64_t lent_count(const uint32_t *counts, uint32_t kind)
+{
+	const uint32_t *count = counts + COUNT_WORDS * kind;
+
+	return (uint64_t)count[COUNT_HIGH] << 32 | count[COUNT_LOW];
+}
+
+void lent_put_count(uint32_t *counts, uint32_t kind, uint64_t count)
+{
+	counts[COUNT_WORDS * kind + COUNT_LOW] = (uint32_t)count;
+	counts[COUNT_WORDS * kind + COUNT_HIGH] = (uint32_t)(count >> 32);
+}
+
 uint32_t lent_queue_length(uint32_t *memory, const uint32_t *queue)
 {
 	uint32_t length = 0;

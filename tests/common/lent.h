@@ -15,7 +15,7 @@
 #include "product_table.h"
 
 enum {
-	LENT_WORDS = 8000,
+	LENT_WORDS = 8400,
 	LENT_ANSWER = PT_ANSWER_WORDS + 3 /* three words more, which stay */
 };
 
@@ -61,6 +61,10 @@ uint32_t *lent_global(uint32_t *memory);
 uint32_t *lent_cabinet(uint32_t *memory, uint32_t n);
 uint32_t *lent_lane(uint32_t *memory, uint32_t n);
 uint32_t *lent_slot(uint32_t *memory, uint32_t n);
+
+/* The count of a kind among four, of which each takes two words, low word first. */
+uint64_t lent_count(const uint32_t *counts, uint32_t kind);
+void lent_put_count(uint32_t *counts, uint32_t kind, uint64_t count);
 
 /* The number of slots in the queue with these words, counted along the links of a legal memory. */
 uint32_t lent_queue_length(uint32_t *memory, const uint32_t *queue);

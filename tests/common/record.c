@@ -69,6 +69,11 @@ enum difference record_step(struct record *record, struct beside *beside, const 
 	uint32_t at = record->steps.count;
 
 	steps_add(&record->steps, step);
+	if (step_is_old_call(step)) {
+		record->difference = beside_step(beside, step);
+		memcpy(record->answer[at], beside->old_answer, sizeof record->answer[at]);
+		return record->difference;
+	}
 	if (!step_is_made(step))
 		return beside_step(beside, step);
 	record->under_way = true;
@@ -155,6 +160,10 @@ static void remark(const struct step *step, const uint32_t sizes[3], char text[W
 {
 	char name[WORD_TEXT];
 
+	if (step->old) {
+		snprintf(text, WORD_TEXT + 8, "(of the old memory)");
+		return;
+	}
 	switch (step->kind) {
 	case STEP_POKE:
 		word_name(sizes, step->number, name);
@@ -182,7 +191,7 @@ static void print_steps(const struct record *record, FILE *file)
 		const struct step *step = &record->steps.step[n];
 
 		step_text(step, text);
-		if (!step_is_made(step))
+		if (!step_is_made(step) && !step_is_old_call(step))
 			remark(step, sizes, answer);
 		else if (ended && n + 1 == record->steps.count)
 			snprintf(answer, sizeof answer, "<- here");
@@ -190,7 +199,8 @@ static void print_steps(const struct record *record, FILE *file)
 			snprintf(answer, sizeof answer, "returned %" PRIu32, PT_SHORT_ANSWER);
 		else
 			line_answer(record->answer[n], answer);
-		if (step->kind == STEP_CALL && step->call.name == CALL_SETUP && record->answer[n][0] == PT_OK)
+		if (step->kind == STEP_CALL && !step->old && step->call.name == CALL_SETUP &&
+				record->answer[n][0] == PT_OK)
 			for (int size = 0; size < 3; size++)
 				sizes[size] = (uint32_t)step->call.argument[size];
 		fprintf(file, "      %-32s %s\n", text, answer);

@@ -10,7 +10,9 @@
 #include "causes.h"
 #include "codes.h"
 #include "reference.h"
+#include "reference_v2.h"
 #include "table.h"
+#include "table_v2.h"
 #include "words.h"
 
 /* The sentences of one call. */
@@ -242,10 +244,13 @@ static void lane_tries(struct tries *tries, const struct table *then, const stru
 	case CALL_PASS:
 		tries->of[SENTENCE_PASS] = true;
 		tries->of[SENTENCE_COUNTS] = true;
+		tries->of[SENTENCE_WIDE_COUNTS] = (uint32_t)then->lane[lane].counts[call->argument[1]] == PT_NONE;
+		tries->of[SENTENCE_COUNT_WRAPS] = then->lane[lane].counts[call->argument[1]] == UINT64_MAX;
 		break;
 	case CALL_CLOCK:
 		tries->of[SENTENCE_CLOCK] = true;
 		tries->of[SENTENCE_COUNTS] = true;
+		tries->of[SENTENCE_WIDE_COUNTS] = then->lane[lane].flags & FLAG_SNAPSHOT;
 		period_tries(tries, then, now, lane);
 		break;
 	case CALL_ON:
@@ -418,6 +423,12 @@ static bool blame_lines(struct tries *broken, const struct tries *tries, const s
 	return length;
 }
 
+/* A word that differs: whether it is of a count or a snapshot count. */
+static bool of_count(int body, uint32_t at)
+{
+	return body == BODY_LANES && at % LANE_WORDS >= LANE_COUNTS && at % LANE_WORDS < LANE_GENERATION;
+}
+
 /*
  * The records that hold words which differ, and whether these go by a lane's place. Whether
  * one differs that is no length.
@@ -443,6 +454,7 @@ static bool blame_records(struct tries *broken, const struct tries *tries, const
 			body--;
 		broken->of[body < 0 ? SENTENCE_CONTENTS : records[body]] = true;
 		broken->of[SENTENCE_VERSION] |= n == CONTENTS_VERSION;
+		broken->of[SENTENCE_WIDE_COUNTS] |= body >= 0 && of_count(body, n - layout.first[body]);
 		if (body >= 0 && blame_lines(broken, tries, &layout, body, n))
 			continue;
 		others = true;
@@ -543,6 +555,7 @@ static void blame(struct tries *broken, const struct tries *tries, const struct 
 			blame_rules(broken, tries, beside);
 		break;
 	case DIFFERS_NOT_LEGAL: broken->of[SENTENCE_LEGAL] = true; break;
+	case DIFFERS_IN_STEP: broken->of[SENTENCE_CARRIED_ON] = true; break;
 	default: blame_ledger(broken, ledger_fault_of(beside->fault)); break;
 	}
 }
@@ -562,7 +575,93 @@ void tally_call(struct tally *tally, const struct beside *beside)
 
 	call_tries(tally, &tries, beside);
 	blame(&broken, &tries, beside);
+	tries.of[SENTENCE_CARRIED_ON] = beside->stepped;
 	tally->attained += beside->attained ? 1 : 0;
+	tally->stepped += beside->stepped ? 1 : 0;
+	tally_add(tally, &tries, &broken);
+}
+
+/* ---- the carry */
+
+/* What the old memory, which is legal, has going on. */
+static void carried_found(struct tally *tally, const uint32_t *old, size_t words)
+{
+	static struct v2_table table;
+
+	if (!v2_table_read_legal(&table, old, words))
+		return;
+	tally->carried[CARRIED_PERIODS] += table.pending_cabinets != 0 ? 1u : 0u;
+	for (uint32_t l = 0; l < v2_table_lanes(&table); l++) {
+		const struct v2_lane *lane = &table.lane[l];
+
+		tally->carried[CARRIED_SECTIONS] += lane->flags & V2_FLAG_READING ? 1u : 0u;
+		tally->carried[CARRIED_LOOKUPS] += lane->flags & V2_FLAG_LOOKUP ? 1u : 0u;
+		tally->carried[CARRIED_SNAPSHOTS] += lane->flags & V2_FLAG_SNAPSHOT ? 1u : 0u;
+		for (int kind = 0; kind < V2_KINDS; kind++)
+			tally->carried[CARRIED_AT_WRAP] += lane->counts[kind] == PT_NONE ? 1u : 0u;
+	}
+}
+
+static void carry_tries(struct tries *tries, const struct beside *beside, uint32_t status)
+{
+	enum legal_sentence unlawful;
+
+	switch (status) {
+	case PT_SHORT_ANSWER: tries->of[SENTENCE_SHORT_ANSWER] = true; break;
+	case PT_SHORT_SECOND: tries->of[SENTENCE_CARRY_REFUSED] = true; break;
+	case PT_NOT_LEGAL:
+		unlawful = v2_broken(beside->old, beside->old_words);
+		tries->of[SENTENCE_CAUSE_NOT_LEGAL] = true;
+		if (unlawful < LEGAL_SENTENCES)
+			tries->of[legal_sentences[unlawful]] = true;
+		break;
+	default:
+		tries->of[SENTENCE_CARRIED] = true;
+		tries->of[SENTENCE_CARRIED_ALL] = true;
+		tries->of[SENTENCE_CARRY_ENDS] = ref_legal(beside->before, beside->words);
+		tries->of[SENTENCE_CARRIED_LIST] = beside->fed;
+	}
+}
+
+static void carry_blame(struct tries *broken, const struct tries *tries, const struct beside *beside)
+{
+	uint32_t status = beside->left.status;
+	uint32_t expected = beside->judge != NULL ? beside->expected.status : status;
+
+	switch (beside->difference) {
+	case SAME: break;
+	case DIFFERS_STATUS:
+		broken->of[SENTENCE_CARRY_REFUSED] = expected == PT_SHORT_SECOND || status == PT_SHORT_SECOND;
+		broken->of[SENTENCE_CARRIED] = expected == PT_OK;
+		for (int n = 0; n < SENTENCES; n++)
+			broken->of[n] |= expected != PT_OK && tries->of[n];
+		break;
+	case DIFFERS_REFUSED: broken->of[SENTENCE_CAUSE_RETURNED] = true; break;
+	case DIFFERS_PAST_TOTAL: broken->of[SENTENCE_PAST_TOTAL] = true; break;
+	case DIFFERS_OUTSIDE: broken->of[SENTENCE_CALLED] = true; break;
+	case DIFFERS_LEDGER:
+		blame_ledger(broken, ledger_fault_of(beside->fault));
+		broken->of[SENTENCE_CARRIED_LIST] = true;
+		break;
+	case DIFFERS_WORDS:
+		blame_records(broken, tries, beside);
+		broken->of[SENTENCE_CARRIED_ALL] = true;
+		break;
+	default: broken->of[SENTENCE_CARRIED] = true; break;
+	}
+}
+
+void tally_carry(struct tally *tally, const struct beside *beside)
+{
+	struct tries tries = { { false } }, broken = { { false } };
+	const struct left *left = beside->judge != NULL ? &beside->expected : &beside->left; /* by the ledger alone */
+
+	carry_tries(&tries, beside, left->status);
+	carry_blame(&broken, &tries, beside);
+	if (left->status <= PT_SHORT_SECOND)
+		tally->carries[left->status]++;
+	if (left->status == PT_OK)
+		carried_found(tally, beside->old, beside->old_words);
 	tally_add(tally, &tries, &broken);
 }
 
@@ -662,6 +761,16 @@ void print_moved(const struct tally *tally)
 		" to both; by %" PRIu64 " offs\n",
 		tally->moved[MOVED_TO_LANE], tally->moved[MOVED_TO_HOUSE], tally->moved[MOVED_TO_BOTH],
 		tally->moved[MOVED_BY_OFF]);
+}
+
+void print_carried(const struct tally *tally)
+{
+	printf("carried: %" PRIu64 ", with %" PRIu64 " open sections, %" PRIu64 " lookups, %" PRIu64 " running periods, %" PRIu64
+		" snapshots, %" PRIu64 " counts at the wrap; 3: %" PRIu64 ", 19: %" PRIu64 "; calls after it in step with the old memory: %"
+		PRIu64 "\n",
+		tally->carries[PT_OK], tally->carried[CARRIED_SECTIONS], tally->carried[CARRIED_LOOKUPS],
+		tally->carried[CARRIED_PERIODS], tally->carried[CARRIED_SNAPSHOTS], tally->carried[CARRIED_AT_WRAP],
+		tally->carries[PT_NOT_LEGAL], tally->carries[PT_SHORT_SECOND], tally->stepped);
 }
 
 static void print_line(uint64_t tried, uint64_t broken, const char *text)

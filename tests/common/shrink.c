@@ -106,6 +106,10 @@ static void move_pokes(struct steps *steps, uint32_t setup, const struct call *o
 	for (uint32_t n = setup + 1; n < steps->count; n++) {
 		struct step *step = &steps->step[n];
 
+		if (steps->step[setup].old || step->kind == STEP_CARRY) /* the words of version 2 stand elsewhere */
+			return;
+		if (step->old)
+			continue;
 		if (step->kind == STEP_CALL && step->call.name == CALL_SETUP)
 			return;
 		if (step->kind == STEP_POKE) {

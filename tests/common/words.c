@@ -19,7 +19,10 @@ struct field {
 static const char *const line[] = { "first", "last", "length" };
 static const char *const halves[] = { "low word", "high word" };
 static const char *const kinds[] = {
-	"kind 0 idle", "kind 1 bottle dropped", "kind 2 door open", "kind 3 changed over"
+	"kind 0 idle, low word", "kind 0 idle, high word",
+	"kind 1 bottle dropped, low word", "kind 1 bottle dropped, high word",
+	"kind 2 door open, low word", "kind 2 door open, high word",
+	"kind 3 changed over, low word", "kind 3 changed over, high word",
 };
 static const char *const bodies[] = {
 	"first word of the house", "length of the house", "first word of the cabinets",

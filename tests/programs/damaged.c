@@ -1,6 +1,7 @@
 /*
  * damaged.c - which memories are refused: those of damages.h; every length of a queue made
- * another; tables of version 1; every single word of a table changed; and words of no meaning.
+ * another; tables of versions 1 and 2; every single word of a table changed; and words of no
+ * meaning.
  */
 #include <stdio.h>
 #include <stdlib.h>
@@ -164,9 +165,9 @@ static void test_queue_lengths(void)
 	printf("damaged: %u memories with another length of a queue\n", tried);
 }
 
-/* ---- tables of version 1, which have no lengths */
+/* ---- tables of version 2, whose counts have one word, and of version 1, which have no lengths either */
 
-enum { OLD_TOTAL = 262 }; /* 88 + 2 + 19 * 4 + 6 * 16 */
+enum { OLDEST_TOTAL = 262, OLD_TOTAL = 278 }; /* 88 + 2 + 19 * 4 + 6 * 16, 92 + 2 + 22 * 4 + 6 * 16 */
 
 static bool is_length(uint32_t address)
 {
@@ -177,33 +178,47 @@ static bool is_length(uint32_t address)
 	return n < QUEUES;
 }
 
-/* The words that version 1 had of such a table. */
-static void put_old(uint32_t *old, const uint32_t *memory)
+/* The high word of a count or of a snapshot count. */
+static bool is_high_word(uint32_t address)
 {
-	static const uint32_t contents[CONTENTS_WORDS] = { 1, 2, 2, 16, 12, 76, 88, 2, 90, 76, 166, 96 };
+	uint32_t word;
+
+	if (address < LANE(0, 0) || address >= SLOT(0, 0))
+		return false;
+	word = (address - LANE(0, 0)) % LANE_WORDS;
+	return word >= LANE_COUNTS && word < LANE_GENERATION && (word - LANE_COUNTS) % COUNT_WORDS == COUNT_HIGH;
+}
+
+/* The words that version 1 or 2 had of such a table; returns how many. */
+static uint32_t put_old(uint32_t *old, const uint32_t *memory, uint32_t version)
+{
+	static const uint32_t contents[][CONTENTS_WORDS] = {
+		{ 1, 2, 2, 16, 12, 76, 88, 2, 90, 76, 166, 96 },
+		{ 2, 2, 2, 16, 12, 80, 92, 2, 94, 88, 182, 96 },
+	};
 	uint32_t words = 0;
 
 	for (uint32_t n = 0; n < TABLE_WORDS; n++)
-		if (!is_length(n))
+		if (!is_high_word(n) && (version == 2 || !is_length(n)))
 			old[words++] = memory[n];
-	CHECK(words == OLD_TOTAL);
-	memcpy(old, contents, sizeof contents);
+	memcpy(old, contents[version - 1], sizeof contents[0]);
+	return words;
 }
 
-/* As it was, also with this version's word, and with more words lent than it had. */
-static void test_old(const uint32_t *memory)
+/* As it was, also with other versions' words, and with more words lent than it had. */
+static void test_old(const uint32_t *memory, uint32_t old)
 {
-	static const size_t lengths[] = { OLD_TOTAL, TABLE_WORDS - 1, TABLE_WORDS, LENT_WORDS };
+	const size_t lengths[] = { old == 1 ? OLDEST_TOTAL : OLD_TOTAL, TABLE_WORDS - 1, TABLE_WORDS, LENT_WORDS };
 
 	memcpy(lent.memory, memory, sizeof lent.memory);
-	put_old(lent.memory, memory);
+	CHECK(put_old(lent.memory, memory, old) == lengths[0]);
 	for (uint32_t version = 1; version <= PT_VERSION; version++)
 		for (size_t n = 0; n < COUNT(lengths); n++) {
 			lent.memory[CONTENTS_VERSION] = version;
 			lent.words = lengths[n];
 			check_all_refuse();
 		}
-	lent_expect(&lent, "setup 2 2 16", "0 278 0 0 0"); /* a fresh table, to move on */
+	lent_expect(&lent, "setup 2 2 16", "0 310 0 0 0"); /* a fresh table, to move on */
 	CHECK(memcmp(lent.memory, fresh, TABLE_WORDS * sizeof fresh[0]) == 0);
 }
 
@@ -218,10 +233,12 @@ static void test_other_version(const uint32_t *memory, uint32_t version)
 
 static void test_versions(void)
 {
-	static const uint32_t others[] = { 0, 1, 3, PT_NONE };
+	static const uint32_t others[] = { 0, 1, 2, 4, PT_NONE };
 
-	test_old(fresh);
-	test_old(rich);
+	for (uint32_t old = 1; old < PT_VERSION; old++) {
+		test_old(fresh, old);
+		test_old(rich, old);
+	}
 	for (size_t n = 0; n < COUNT(others); n++) {
 		test_other_version(fresh, others[n]);
 		test_other_version(rich, others[n]);
@@ -294,7 +311,7 @@ static uint32_t check_either(const struct call *call)
 static void test_every_word(void)
 {
 	static const uint32_t values[] = {
-		0, 1, 2, 3, 4, 5, 6, 7, 8, 10, 11, 14, 15, 16, 17, 63, 64, 192, 278, 512, 529, 2147483647u,
+		0, 1, 2, 3, 4, 5, 6, 7, 8, 10, 11, 14, 15, 16, 17, 63, 64, 192, 310, 512, 529, 2147483647u,
 		2147483648u, PT_NONE - 1, PT_NONE
 	};
 	uint32_t legal = 0, tried = 0;
@@ -355,7 +372,7 @@ static void test_no_meaning(void)
 int main(void)
 {
 	build();
-	CHECK(TABLE_WORDS == 278 && PT_WORDS(2, 2, 16) == 278);
+	CHECK(TABLE_WORDS == 310 && PT_WORDS(2, 2, 16) == 310);
 	find_queues();
 	test_sentences();
 	test_queue_lengths();

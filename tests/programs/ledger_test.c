@@ -58,12 +58,12 @@ static bool says(const char *fault, const char *part)
 static void test_whole_search(void)
 {
 	static const struct lent_step present[] = {
-		{ "setup 1 2 3", "0 155 0 0 0" }, { "add 0 17 25 1", "0 0 0 0 0" },
+		{ "setup 1 2 3", "0 171 0 0 0" }, { "add 0 17 25 1", "0 0 0 0 0" },
 		{ "begin 1", "0 0 0 0 0" }, { "start 1 17", "0 0 0 0 0" },
 		{ "step 1", "0 1 0 25 1" },
 	};
 	static const struct lent_step absent[] = {
-		{ "setup 1 2 3", "0 155 0 0 0" }, { "add 0 17 25 1", "0 0 0 0 0" },
+		{ "setup 1 2 3", "0 171 0 0 0" }, { "add 0 17 25 1", "0 0 0 0 0" },
 		{ "begin 1", "0 0 0 0 0" }, { "start 1 529", "0 0 0 0 0" },
 		{ "step 1", "0 0 0 0 0" }, { "step 1", "0 2 0 0 0" },
 	};
@@ -82,18 +82,18 @@ static void test_whole_search(void)
 static void test_instants(void)
 {
 	static const struct lent_step during[] = {
-		{ "setup 1 2 3", "0 155 0 0 0" }, { "add 0 17 25 1", "0 0 0 0 0" },
+		{ "setup 1 2 3", "0 171 0 0 0" }, { "add 0 17 25 1", "0 0 0 0 0" },
 		{ "begin 1", "0 0 0 0 0" }, { "start 1 17", "0 0 0 0 0" },
 		{ "rep 0 17 26 2", "0 1 0 0 0" }, { "del 0 17", "0 1 0 0 0" },
 		{ "add 0 17 27 3", "0 2 0 0 0" }, { "step 1", "0 1 1 26 2" },
 	};
 	static const struct lent_step before[] = {
-		{ "setup 1 2 3", "0 155 0 0 0" }, { "add 0 17 25 1", "0 0 0 0 0" },
+		{ "setup 1 2 3", "0 171 0 0 0" }, { "add 0 17 25 1", "0 0 0 0 0" },
 		{ "begin 1", "0 0 0 0 0" }, { "rep 0 17 26 2", "0 1 0 0 0" },
 		{ "start 1 17", "0 0 0 0 0" }, { "step 1", "0 1 1 26 2" },
 	};
 	static const struct lent_step replaced[] = {
-		{ "setup 1 2 3", "0 155 0 0 0" }, { "add 0 17 25 1", "0 0 0 0 0" },
+		{ "setup 1 2 3", "0 171 0 0 0" }, { "add 0 17 25 1", "0 0 0 0 0" },
 		{ "begin 1", "0 0 0 0 0" }, { "start 1 17", "0 0 0 0 0" },
 		{ "rep 0 17 26 2", "0 1 0 0 0" }, { "step 1", "0 1 0 25 1" },
 	};
@@ -115,19 +115,19 @@ static void test_dropped(void)
 {
 	static const struct ledger_lane at_rest;
 	static const struct lent_step step[] = {
-		{ "setup 1 2 3", "0 155 0 0 0" }, { "add 0 17 25 1", "0 0 0 0 0" },
+		{ "setup 1 2 3", "0 171 0 0 0" }, { "add 0 17 25 1", "0 0 0 0 0" },
 		{ "begin 1", "0 0 0 0 0" }, { "start 1 17", "0 0 0 0 0" },
 		{ "end 1", "0 0 0 0 0" }, { "step 1", "10 0 0 0 0" },
 	};
 	static const struct lent_step other_code[] = {
-		{ "setup 1 2 3", "0 155 0 0 0" }, { "add 0 17 25 1", "0 0 0 0 0" },
+		{ "setup 1 2 3", "0 171 0 0 0" }, { "add 0 17 25 1", "0 0 0 0 0" },
 		{ "add 0 24 26 2", "0 1 0 0 0" }, { "begin 1", "0 0 0 0 0" },
 		{ "start 1 17", "0 0 0 0 0" }, { "end 1", "0 0 0 0 0" },
 		{ "begin 1", "0 0 0 0 0" }, { "start 1 24", "0 0 0 0 0" },
 		{ "step 1", "0 1 1 26 2" },
 	};
 	static const struct lent_step same_code[] = {
-		{ "setup 1 2 3", "0 155 0 0 0" }, { "add 0 17 25 1", "0 0 0 0 0" },
+		{ "setup 1 2 3", "0 171 0 0 0" }, { "add 0 17 25 1", "0 0 0 0 0" },
 		{ "begin 1", "0 0 0 0 0" }, { "start 1 17", "0 0 0 0 0" },
 		{ "del 0 17", "0 0 0 0 0" }, { "end 1", "0 0 0 0 0" },
 		{ "begin 1", "0 0 0 0 0" }, { "start 1 17", "0 0 0 0 0" },
@@ -149,13 +149,13 @@ static void test_dropped(void)
 static void test_dropped_on_removed(void)
 {
 	static const struct lent_step ended[] = {
-		{ "setup 1 3 3", "0 177 0 0 0" }, { "add 0 17 25 1", "0 0 0 0 0" },
+		{ "setup 1 3 3", "0 201 0 0 0" }, { "add 0 17 25 1", "0 0 0 0 0" },
 		{ "begin 2", "0 0 0 0 0" }, { "start 2 17", "0 0 0 0 0" },
 		{ "del 0 17", "0 0 0 0 0" }, { "end 2", "0 0 0 0 0" },
 		{ "back 0", "0 0 0 0 0" },
 	};
 	static const struct lent_step open[] = {
-		{ "setup 1 3 3", "0 177 0 0 0" }, { "add 0 17 25 1", "0 0 0 0 0" },
+		{ "setup 1 3 3", "0 201 0 0 0" }, { "add 0 17 25 1", "0 0 0 0 0" },
 		{ "begin 1", "0 0 0 0 0" }, { "begin 2", "0 0 0 0 0" },
 		{ "start 1 17", "0 0 0 0 0" }, { "start 2 17", "0 0 0 0 0" },
 		{ "del 0 17", "0 0 0 0 0" }, { "end 2", "0 0 0 0 0" },
@@ -171,23 +171,23 @@ static void test_dropped_on_removed(void)
 static void test_misplaced(void)
 {
 	static const struct lent_step begin[] = {
-		{ "setup 1 2 3", "0 155 0 0 0" }, { "begin 1", "0 0 0 0 0" },
+		{ "setup 1 2 3", "0 171 0 0 0" }, { "begin 1", "0 0 0 0 0" },
 		{ "begin 0", "0 0 0 0 0" }, { "begin 1", "7 0 0 0 0" },
 	};
 	static const struct lent_step end[] = {
-		{ "setup 1 2 3", "0 155 0 0 0" }, { "begin 1", "0 0 0 0 0" },
+		{ "setup 1 2 3", "0 171 0 0 0" }, { "begin 1", "0 0 0 0 0" },
 		{ "start 1 17", "0 0 0 0 0" }, { "end 1", "0 0 0 0 0" }, { "end 1", "8 0 0 0 0" },
 	};
 	static const struct lent_step outside[] = {
-		{ "setup 1 2 3", "0 155 0 0 0" }, { "begin 1", "0 0 0 0 0" },
+		{ "setup 1 2 3", "0 171 0 0 0" }, { "begin 1", "0 0 0 0 0" },
 		{ "end 1", "0 0 0 0 0" }, { "start 1 17", "8 0 0 0 0" },
 	};
 	static const struct lent_step beside[] = {
-		{ "setup 1 2 3", "0 155 0 0 0" }, { "begin 1", "0 0 0 0 0" },
+		{ "setup 1 2 3", "0 171 0 0 0" }, { "begin 1", "0 0 0 0 0" },
 		{ "start 1 17", "0 0 0 0 0" }, { "start 1 24", "9 0 0 0 0" },
 	};
 	static const struct lent_step answered[] = {
-		{ "setup 1 2 3", "0 155 0 0 0" }, { "begin 1", "0 0 0 0 0" },
+		{ "setup 1 2 3", "0 171 0 0 0" }, { "begin 1", "0 0 0 0 0" },
 		{ "start 1 17", "0 0 0 0 0" }, { "step 1", "0 2 0 0 0" }, { "step 1", "10 0 0 0 0" },
 	};
 
@@ -206,25 +206,25 @@ static void test_misplaced(void)
 static void test_hand_back(void)
 {
 	static const struct lent_step open[] = {
-		{ "setup 1 3 3", "0 177 0 0 0" }, { "add 0 17 25 1", "0 0 0 0 0" },
+		{ "setup 1 3 3", "0 201 0 0 0" }, { "add 0 17 25 1", "0 0 0 0 0" },
 		{ "begin 2", "0 0 0 0 0" }, { "del 0 17", "0 0 0 0 0" },
 		{ "begin 1", "0 0 0 0 0" }, { "back 0", "16 0 0 0 0" },
 	};
 	static const struct lent_step ended[] = {
-		{ "setup 1 3 3", "0 177 0 0 0" }, { "add 0 17 25 1", "0 0 0 0 0" },
+		{ "setup 1 3 3", "0 201 0 0 0" }, { "add 0 17 25 1", "0 0 0 0 0" },
 		{ "begin 2", "0 0 0 0 0" }, { "del 0 17", "0 0 0 0 0" },
 		{ "begin 1", "0 0 0 0 0" }, { "end 2", "0 0 0 0 0" },
 		{ "begin 2", "0 0 0 0 0" }, { "back 0", "0 0 0 0 0" },
 	};
 	static const struct lent_step twice[] = {
-		{ "setup 1 3 3", "0 177 0 0 0" }, { "add 0 17 25 1", "0 0 0 0 0" },
+		{ "setup 1 3 3", "0 201 0 0 0" }, { "add 0 17 25 1", "0 0 0 0 0" },
 		{ "del 0 17", "0 0 0 0 0" }, { "back 0", "0 0 0 0 0" },
 		{ "back 0", "16 0 0 0 0" },
 	};
 	static const struct lent_step setup_anew[] = {
-		{ "setup 1 3 3", "0 177 0 0 0" }, { "add 0 17 25 1", "0 0 0 0 0" },
+		{ "setup 1 3 3", "0 201 0 0 0" }, { "add 0 17 25 1", "0 0 0 0 0" },
 		{ "del 0 17", "0 0 0 0 0" }, { "setup 1 3 0", "1 0 0 0 0" },
-		{ "setup 1 3 3", "0 177 0 0 0" }, { "back 0", "16 0 0 0 0" },
+		{ "setup 1 3 3", "0 201 0 0 0" }, { "back 0", "16 0 0 0 0" },
 	};
 
 	CHECK(FEED(open) == NULL);
@@ -240,11 +240,11 @@ static void test_hand_back(void)
 static void test_slots(void)
 {
 	static const struct lent_step adds[] = {
-		{ "setup 1 2 3", "0 155 0 0 0" }, { "add 0 17 25 1", "0 0 0 0 0" },
+		{ "setup 1 2 3", "0 171 0 0 0" }, { "add 0 17 25 1", "0 0 0 0 0" },
 		{ "add 0 24 25 1", "0 1 0 0 0" },
 	};
 	static const struct lent_step removed[] = {
-		{ "setup 1 2 3", "0 155 0 0 0" }, { "add 0 17 25 1", "0 0 0 0 0" },
+		{ "setup 1 2 3", "0 171 0 0 0" }, { "add 0 17 25 1", "0 0 0 0 0" },
 		{ "add 0 24 25 1", "0 1 0 0 0" }, { "del 0 17", "0 0 0 0 0" },
 	};
 
@@ -301,18 +301,18 @@ static void test_kept(void)
 static void test_figure(void)
 {
 	static const struct lent_step two[] = {
-		{ "setup 1 2 4", "0 161 0 0 0" }, { "add 0 192 1 1", "0 0 0 0 0" },
+		{ "setup 1 2 4", "0 177 0 0 0" }, { "add 0 192 1 1", "0 0 0 0 0" },
 		{ "add 0 512 2 2", "0 1 0 0 0" }, { "begin 1", "0 0 0 0 0" },
 		{ "start 1 0", "0 0 0 0 0" }, { "step 1", GOING }, { "step 1", GOING },
 		{ "step 1", ABSENT },
 	};
 	static const struct lent_step sooner[] = {
-		{ "setup 1 2 4", "0 161 0 0 0" }, { "add 0 192 1 1", "0 0 0 0 0" },
+		{ "setup 1 2 4", "0 177 0 0 0" }, { "add 0 192 1 1", "0 0 0 0 0" },
 		{ "add 0 512 2 2", "0 1 0 0 0" }, { "begin 1", "0 0 0 0 0" },
 		{ "start 1 192", "0 0 0 0 0" }, { "step 1", GOING }, { "step 1", "0 1 0 1 1" },
 	};
 	static const struct lent_step two_lanes[] = {
-		{ "setup 1 2 4", "0 161 0 0 0" }, { "add 0 192 1 1", "0 0 0 0 0" },
+		{ "setup 1 2 4", "0 177 0 0 0" }, { "add 0 192 1 1", "0 0 0 0 0" },
 		{ "begin 0", "0 0 0 0 0" }, { "begin 1", "0 0 0 0 0" },
 		{ "start 0 0", "0 0 0 0 0" }, { "start 1 0", "0 0 0 0 0" },
 		{ "step 0", GOING }, { "step 1", GOING }, { "step 0", ABSENT }, { "step 1", ABSENT },
@@ -330,21 +330,21 @@ static void test_figure(void)
 static void test_figure_meanwhile(void)
 {
 	static const struct lent_step added[] = {
-		{ "setup 1 2 4", "0 161 0 0 0" }, { "add 0 192 1 1", "0 0 0 0 0" },
+		{ "setup 1 2 4", "0 177 0 0 0" }, { "add 0 192 1 1", "0 0 0 0 0" },
 		{ "add 0 512 2 2", "0 1 0 0 0" }, { "begin 1", "0 0 0 0 0" },
 		{ "start 1 0", "0 0 0 0 0" }, { "add 0 1472 3 3", "0 2 0 0 0" },
 		{ "step 1", GOING }, { "add 0 1984 4 4", "0 3 0 0 0" }, { "step 1", GOING },
 		{ "step 1", ABSENT },
 	};
 	static const struct lent_step deleted[] = {
-		{ "setup 1 2 4", "0 161 0 0 0" }, { "add 0 192 1 1", "0 0 0 0 0" },
+		{ "setup 1 2 4", "0 177 0 0 0" }, { "add 0 192 1 1", "0 0 0 0 0" },
 		{ "add 0 512 2 2", "0 1 0 0 0" }, { "begin 1", "0 0 0 0 0" },
 		{ "start 1 0", "0 0 0 0 0" }, { "del 0 512", "0 1 0 0 0" },
 		{ "step 1", GOING }, { "del 0 192", "0 0 0 0 0" }, { "step 1", GOING },
 		{ "step 1", ABSENT },
 	};
 	static const struct lent_step replaced[] = {
-		{ "setup 1 2 4", "0 161 0 0 0" }, { "add 0 192 1 1", "0 0 0 0 0" },
+		{ "setup 1 2 4", "0 177 0 0 0" }, { "add 0 192 1 1", "0 0 0 0 0" },
 		{ "begin 1", "0 0 0 0 0" }, { "start 1 0", "0 0 0 0 0" },
 		{ "rep 0 192 2 2", "0 1 0 0 0" }, { "step 1", GOING },
 		{ "rep 0 192 3 3", "0 2 1 0 0" }, { "step 1", ABSENT },
@@ -359,23 +359,23 @@ static void test_figure_meanwhile(void)
 static void test_figure_counts(void)
 {
 	static const struct lent_step others[] = {
-		{ "setup 1 2 4", "0 161 0 0 0" }, { "add 0 17 1 1", "0 0 0 0 0" },
+		{ "setup 1 2 4", "0 177 0 0 0" }, { "add 0 17 1 1", "0 0 0 0 0" },
 		{ "add 0 24 2 2", "0 1 0 0 0" }, { "begin 1", "0 0 0 0 0" },
 		{ "start 1 0", "0 0 0 0 0" }, { "step 1", ABSENT },
 	};
 	static const struct lent_step removed[] = {
-		{ "setup 1 2 4", "0 161 0 0 0" }, { "add 0 192 1 1", "0 0 0 0 0" },
+		{ "setup 1 2 4", "0 177 0 0 0" }, { "add 0 192 1 1", "0 0 0 0 0" },
 		{ "add 0 512 2 2", "0 1 0 0 0" }, { "del 0 192", "0 0 0 0 0" },
 		{ "begin 1", "0 0 0 0 0" }, { "start 1 0", "0 0 0 0 0" }, { "step 1", GOING },
 		{ "step 1", ABSENT },
 	};
 	static const struct lent_step replaced[] = {
-		{ "setup 1 2 4", "0 161 0 0 0" }, { "add 0 192 1 1", "0 0 0 0 0" },
+		{ "setup 1 2 4", "0 177 0 0 0" }, { "add 0 192 1 1", "0 0 0 0 0" },
 		{ "rep 0 192 2 2", "0 1 0 0 0" }, { "begin 1", "0 0 0 0 0" },
 		{ "start 1 0", "0 0 0 0 0" }, { "step 1", GOING }, { "step 1", ABSENT },
 	};
 	static const struct lent_step itself[] = { /* the code's own entry is on its chain */
-		{ "setup 1 2 4", "0 161 0 0 0" }, { "add 0 0 1 1", "0 0 0 0 0" },
+		{ "setup 1 2 4", "0 177 0 0 0" }, { "add 0 0 1 1", "0 0 0 0 0" },
 		{ "begin 1", "0 0 0 0 0" }, { "start 1 0", "0 0 0 0 0" },
 		{ "del 0 0", "0 0 0 0 0" }, { "step 1", GOING }, { "step 1", ABSENT },
 	};
@@ -390,14 +390,14 @@ static void test_figure_counts(void)
 static void test_figure_dropped(void)
 {
 	static const struct lent_step anew[] = {
-		{ "setup 1 2 4", "0 161 0 0 0" }, { "add 0 192 1 1", "0 0 0 0 0" },
+		{ "setup 1 2 4", "0 177 0 0 0" }, { "add 0 192 1 1", "0 0 0 0 0" },
 		{ "begin 1", "0 0 0 0 0" }, { "start 1 0", "0 0 0 0 0" }, { "step 1", GOING },
 		{ "end 1", "0 0 0 0 0" }, { "add 0 512 2 2", "0 1 0 0 0" },
 		{ "begin 1", "0 0 0 0 0" }, { "start 1 0", "0 0 0 0 0" }, { "step 1", GOING },
 		{ "step 1", GOING }, { "step 1", ABSENT },
 	};
 	static const struct lent_step again[] = { /* in the same section */
-		{ "setup 1 2 4", "0 161 0 0 0" }, { "add 0 192 1 1", "0 0 0 0 0" },
+		{ "setup 1 2 4", "0 177 0 0 0" }, { "add 0 192 1 1", "0 0 0 0 0" },
 		{ "begin 1", "0 0 0 0 0" }, { "start 1 192", "0 0 0 0 0" },
 		{ "step 1", "0 1 0 1 1" }, { "start 1 0", "0 0 0 0 0" }, { "step 1", GOING },
 		{ "step 1", ABSENT },
@@ -411,7 +411,7 @@ static void test_figure_dropped(void)
 static void test_figure_refused(void)
 {
 	static const struct lent_step runs[] = {
-		{ "setup 1 2 4", "0 161 0 0 0" }, { "add 0 192 1 1", "0 0 0 0 0" },
+		{ "setup 1 2 4", "0 177 0 0 0" }, { "add 0 192 1 1", "0 0 0 0 0" },
 		{ "begin 1", "0 0 0 0 0" }, { "start 1 0", "0 0 0 0 0" },
 		{ "start 1 0", "9 0 0 0 0" }, { "step 0", "10 0 0 0 0" }, { "step 2", "4 0 0 0 0" },
 		{ "step 4294967295", "4 0 0 0 0" }, { "step 1", GOING },

@@ -118,7 +118,7 @@ static void make_calls(const struct lent_step *calls, size_t from, size_t to)
 static void keep_books(const struct lent_step *calls, const struct book *books, size_t count)
 {
 	lent_start(&lent);
-	lent_expect(&lent, "setup 1 2 3", "0 155 0 0 0");
+	lent_expect(&lent, "setup 1 2 3", "0 171 0 0 0");
 	ledger_reset(&ledger);
 	for (size_t n = 0; n < count; n++) {
 		make_calls(calls, n == 0 ? 0 : books[n - 1].instant, books[n].instant);

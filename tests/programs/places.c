@@ -136,12 +136,12 @@ static void let_pass(const struct counted *lane, uint32_t kind)
 	uint32_t *words = lent_lane(expected, lane->number);
 
 	words[LANE_FLAGS] |= FLAG_SNAPSHOT;
-	memcpy(words + LANE_SNAPSHOT, words + LANE_COUNTS, KINDS * sizeof *words);
+	memcpy(words + LANE_SNAPSHOT, words + LANE_COUNTS, COUNT_WORDS * KINDS * sizeof *words);
 	make(CALL_CLOCK, lane, 0);
-	words[LANE_COUNTS + kind]++;
+	words[LANE_COUNTS + COUNT_WORDS * kind]++;
 	make(CALL_PASS, lane, kind);
 	words[LANE_FLAGS] &= ~(uint32_t)FLAG_SNAPSHOT;
-	memset(words + LANE_SNAPSHOT, 0, KINDS * sizeof *words);
+	memset(words + LANE_SNAPSHOT, 0, COUNT_WORDS * KINDS * sizeof *words);
 	if (!clear_bit(lane))
 		end_period(lane);
 	make(CALL_CLOCK, lane, 0);
@@ -182,7 +182,7 @@ static void test_off(const struct counted *lane)
 	words[LANE_FLAGS] = FLAG_ONLINE;
 	make(CALL_ON, lane, 0);
 	make(CALL_CLOCK, lane, 0); /* it has no bit, and takes no snapshot */
-	words[LANE_COUNTS + 3]++;
+	words[LANE_COUNTS + COUNT_WORDS * 3]++;
 	make(CALL_PASS, lane, 3);
 }
 

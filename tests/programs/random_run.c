@@ -168,8 +168,9 @@ static void set_up(const struct list *list, size_t total)
 	global[GLOBAL_CURRENT_GENERATION] = list->generation;
 	global[GLOBAL_LARGEST_GENERATION] = list->generation - 1u;
 	for (uint32_t l = 0; l < list->cabinets * list->lanes; l++)
-		for (int kind = 0; kind < KINDS; kind++)
-			lent_lane(lent.memory, l)[LANE_COUNTS + kind] = PT_NONE - draw(4);
+		for (uint32_t kind = 0; kind < KINDS; kind++) /* about to carry, or to wrap */
+			lent_put_count(lent_lane(lent.memory, l) + LANE_COUNTS, kind,
+				(draw(2) == 0 ? PT_NONE : UINT64_MAX) - draw(4));
 	memcpy(exact, lent.memory, total * sizeof *exact);
 	make_short(&setup, total);
 }

@@ -15,21 +15,22 @@
 static struct lent lent;
 
 #define EMPTY PT_NONE, PT_NONE, 0 /* a queue: first, last, length */
+#define COUNTS(last) 0, 0, 0, 0, 0, 0, last, 0 /* of the four kinds: low word, high word each */
 
 /* Addresses here are the papers' numbers, and not those of layout.h. */
 static void test_words_of_setup(void)
 {
-	static const uint32_t contents[12] = { 2, 1, 1, 2, 12, 80, 92, 1, 93, 22, 115, 12 };
+	static const uint32_t contents[12] = { 3, 1, 1, 2, 12, 80, 92, 1, 93, 30, 123, 12 };
 	static const uint32_t queues[13] = { 0, 1, 2, EMPTY, EMPTY, EMPTY, 0 }; /* and the generation */
-	static const uint32_t lane[22] = {
-		1, 0, 0, 0, 0, 0, 0, 0, 0, 0, EMPTY, EMPTY, EMPTY, 0, 0, PT_NONE
+	static const uint32_t lane[30] = {
+		1, COUNTS(0), COUNTS(0), 0, EMPTY, EMPTY, EMPTY, 0, 0, PT_NONE
 	};
 	static const uint32_t slots[12] = {
 		0, 0, 0, 0, PT_NONE, 1, 0, 0, 0, 0, PT_NONE, PT_NONE
 	};
-	uint32_t expected[127];
+	uint32_t expected[135];
 
-	for (int n = 0; n < 127; n++)
+	for (int n = 0; n < 135; n++)
 		expected[n] = PT_NONE;
 	memcpy(expected, contents, sizeof contents);
 	expected[12] = 1; /* current generation */
@@ -38,10 +39,10 @@ static void test_words_of_setup(void)
 	memcpy(expected + 79, queues, sizeof queues); /* free, next, current, done */
 	expected[92] = 0; /* lane mask */
 	memcpy(expected + 93, lane, sizeof lane);
-	memcpy(expected + 115, slots, sizeof slots);
+	memcpy(expected + 123, slots, sizeof slots);
 
 	lent_start(&lent);
-	lent_expect(&lent, "setup 1 1 2", "0 127 0 0 0");
+	lent_expect(&lent, "setup 1 1 2", "0 135 0 0 0");
 	CHECK(lent.memory[0] == PT_VERSION);
 	CHECK(memcmp(lent.memory, expected, sizeof expected) == 0);
 }
@@ -49,7 +50,7 @@ static void test_words_of_setup(void)
 static void test_words_of_calls(void)
 {
 	static const struct lent_step steps[] = {
-		{ "setup 1 2 3", "0 155 0 0 0" },
+		{ "setup 1 2 3", "0 171 0 0 0" },
 		{ "add 0 64424509457 25 1", "0 0 0 0 0" }, /* 15 * 2^32 + 17 */
 		{ "add 0 17 26 2", "0 1 0 0 0" },
 		{ "begin 1", "0 0 0 0 0" },
@@ -58,11 +59,11 @@ static void test_words_of_calls(void)
 		{ "pass 0 3", "0 0 0 0 0" },
 		{ "clock 0", "0 1 1 1 0" },
 	};
-	static const uint32_t lane0[22] = {
-		9, 0, 0, 0, 1, 0, 0, 0, 1, 1, EMPTY, 1, 1, 1, EMPTY, 0, 0, PT_NONE
+	static const uint32_t lane0[30] = {
+		9, COUNTS(1), COUNTS(1), 1, EMPTY, 1, 1, 1, EMPTY, 0, 0, PT_NONE
 	};
-	static const uint32_t lane1[22] = {
-		7, 0, 0, 0, 0, 0, 0, 0, 0, 0, EMPTY, EMPTY, EMPTY, 17, 15, 1
+	static const uint32_t lane1[30] = {
+		7, COUNTS(0), COUNTS(0), 0, EMPTY, EMPTY, EMPTY, 17, 15, 1
 	};
 	static const uint32_t slots[18] = {
 		17, 15, 25, 1, PT_NONE, PT_NONE, 17, 0, 26, 2, 0, PT_NONE,
@@ -76,8 +77,8 @@ static void test_words_of_calls(void)
 	CHECK(lent.memory[79] == 2 && lent.memory[80] == 2 && lent.memory[81] == 1);
 	CHECK(lent.memory[92] == 3);
 	CHECK(memcmp(lent.memory + 93, lane0, sizeof lane0) == 0);
-	CHECK(memcmp(lent.memory + 115, lane1, sizeof lane1) == 0);
-	CHECK(memcmp(lent.memory + 137, slots, sizeof slots) == 0);
+	CHECK(memcmp(lent.memory + 123, lane1, sizeof lane1) == 0);
+	CHECK(memcmp(lent.memory + 153, slots, sizeof slots) == 0);
 }
 
 static void test_totals(void)
@@ -89,7 +90,7 @@ static void test_totals(void)
 	for (uint32_t c = 1; c <= 8; c++)
 		for (uint32_t m = 1; m <= 8; m++)
 			for (uint32_t s = 1; s <= 1024; s += 93) {
-				size_t total = 92 + c + 22 * c * m + 6 * s;
+				size_t total = 92 + c + 30 * c * m + 6 * s;
 
 				CHECK(PT_WORDS(c, m, s) == total);
 				CHECK(tested.setup(memory, total, answer, 5, c, m, s) == 0);
@@ -115,15 +116,15 @@ static void test_setup_refusals(void)
 	lent.words = 0; /* the size is tested first */
 	LENT_PLAY(&lent, sizes);
 	lent_expect(&lent, "setup 1 1 1", "2 0 0 0 0");
-	lent.words = 7651;
+	lent.words = 8163;
 	lent_expect(&lent, "setup 8 8 1024", "2 0 0 0 0");
-	lent.words = 7652;
-	lent_expect(&lent, "setup 8 8 1024", "0 7652 0 0 0");
+	lent.words = 8164;
+	lent_expect(&lent, "setup 8 8 1024", "0 8164 0 0 0");
 	lent_expect(&lent, "awaited", "0 0 4294967295 1024 0");
 	/* A refused set-up leaves the table; an accepted one begins another. */
 	lent_expect(&lent, "setup 8 8 1025", "1 0 0 0 0");
 	lent_expect(&lent, "begin 63", "0 0 0 0 0");
-	lent_expect(&lent, "setup 1 1 1", "0 121 0 0 0");
+	lent_expect(&lent, "setup 1 1 1", "0 129 0 0 0");
 	lent_expect(&lent, "begin 0", "0 0 0 0 0");
 }
 
@@ -148,10 +149,10 @@ static void test_not_legal(void)
 	memset(lent.memory, 0, sizeof lent.memory);
 	LENT_PLAY(&lent, steps);
 	/* A table that was legal, lent one word short. */
-	lent_expect(&lent, "setup 1 2 3", "0 155 0 0 0");
-	lent.words = 154;
+	lent_expect(&lent, "setup 1 2 3", "0 171 0 0 0");
+	lent.words = 170;
 	LENT_PLAY(&lent, steps);
-	lent.words = 155;
+	lent.words = 171;
 	lent_expect(&lent, "begin 0", "0 0 0 0 0");
 }
 
@@ -159,7 +160,7 @@ static void test_not_legal(void)
 static void test_lanes(void)
 {
 	static const struct lent_step steps[] = {
-		{ "setup 1 2 2", "0 149 0 0 0" },
+		{ "setup 1 2 2", "0 165 0 0 0" },
 		{ "add 2 55 1 1", "4 0 0 0 0" }, { "rep 2 55 1 1", "4 0 0 0 0" },
 		{ "del 2 55", "4 0 0 0 0" }, { "begin 2", "4 0 0 0 0" },
 		{ "end 2", "4 0 0 0 0" }, { "start 2 55", "4 0 0 0 0" },
@@ -181,7 +182,7 @@ static void test_lanes(void)
 		{ "on 1", "0 0 0 0 0" }, { "on 1", "6 0 0 0 0" },
 		{ "off 0", "0 0 0 0 0" }, { "off 1", "15 0 0 0 0" },
 		/* One lane alone is the last one. */
-		{ "setup 1 1 1", "0 121 0 0 0" }, { "off 0", "15 0 0 0 0" },
+		{ "setup 1 1 1", "0 129 0 0 0" }, { "off 0", "15 0 0 0 0" },
 	};
 
 	lent_start(&lent);
@@ -192,7 +193,7 @@ static void test_lanes(void)
 static void test_sections(void)
 {
 	static const struct lent_step steps[] = {
-		{ "setup 1 2 2", "0 149 0 0 0" },
+		{ "setup 1 2 2", "0 165 0 0 0" },
 		{ "end 0", "8 0 0 0 0" }, { "start 0 55", "8 0 0 0 0" },
 		{ "start 0 18446744073709551615", "8 0 0 0 0" },
 		{ "step 0", "10 0 0 0 0" },
@@ -225,7 +226,7 @@ static void test_sections(void)
 static void test_records(void)
 {
 	static const struct lent_step steps[] = {
-		{ "setup 1 2 2", "0 149 0 0 0" },
+		{ "setup 1 2 2", "0 165 0 0 0" },
 		{ "add 0 18446744073709551615 1 1", "11 0 0 0 0" },
 		{ "add 0 18446744073709551615 1 1", "11 0 0 0 0" },
 		{ "add 0 55 100001 1", "11 0 0 0 0" }, { "add 0 55 1 8", "11 0 0 0 0" },
@@ -258,7 +259,7 @@ static void test_records(void)
 static void test_code_limit(void)
 {
 	static const struct lent_step steps[] = {
-		{ "setup 1 1 3", "0 133 0 0 0" },
+		{ "setup 1 1 3", "0 141 0 0 0" },
 		{ "add 0 9999999999999 1 1", "17 0 0 0 0" },
 		{ "add 0 9999999999994 1 1", "0 0 0 0 0" },
 		{ "add 0 10000000000000 1 1", "17 0 0 0 0" },
@@ -285,7 +286,7 @@ static void test_code_limit(void)
 static void test_check_digits(void)
 {
 	static const struct lent_step steps[] = {
-		{ "setup 1 2 2", "0 149 0 0 0" },
+		{ "setup 1 2 2", "0 165 0 0 0" },
 		{ "add 0 5901234123457 1 1", "0 0 0 0 0" }, { "add 0 4006381333931 1 1", "0 1 0 0 0" },
 		/* One digit mistyped; neighbours exchanged, which differ by 5 in the last one. */
 		{ "rep 0 5901234123458 1 1", "17 0 0 0 0" }, { "rep 0 5907234123457 1 1", "17 0 0 0 0" },
@@ -307,7 +308,7 @@ static void test_check_digits(void)
 static void test_older_record(void)
 {
 	static const struct lent_step records[] = {
-		{ "setup 1 1 2", "0 127 0 0 0" }, { "add 0 338 1 1", "0 0 0 0 0" },
+		{ "setup 1 1 2", "0 135 0 0 0" }, { "add 0 338 1 1", "0 0 0 0 0" },
 		{ "add 0 17 2 2", "0 1 0 0 0" },
 	};
 	static const struct lent_step steps[] = {
@@ -332,14 +333,14 @@ static void test_older_record(void)
 static void test_chains(void)
 {
 	static const struct lent_step six_calls[] = {
-		{ "setup 1 1 4", "0 139 0 0 0" },
+		{ "setup 1 1 4", "0 147 0 0 0" },
 		{ "add 0 192 10 1", "0 0 0 0 0" }, { "add 0 0 20 2", "0 1 0 0 0" },
 		{ "begin 0", "0 0 0 0 0" }, { "start 0 192", "0 0 0 0 0" },
 		{ "del 0 0", "0 1 0 0 0" },
 		{ "step 0", "0 0 0 0 0" }, { "step 0", "0 1 0 10 1" },
 	};
 	static const struct lent_step replaced[] = {
-		{ "setup 1 2 8", "0 185 0 0 0" },
+		{ "setup 1 2 8", "0 201 0 0 0" },
 		{ "add 0 0 10 0", "0 0 0 0 0" }, { "add 0 192 11 1", "0 1 0 0 0" },
 		{ "add 0 512 12 2", "0 2 0 0 0" },
 		/* A reader past the head finds the new slot in the old one's place. */
@@ -371,7 +372,7 @@ static struct lent plain; /* the same calls without a lookup */
 
 /* Chain 0 is the slots 2, 1, 0 with the codes 512, 192, 0. */
 static const struct lent_step chain_of_three[] = {
-	{ "setup 1 2 6", "0 173 0 0 0" }, { "add 0 0 10 0", "0 0 0 0 0" },
+	{ "setup 1 2 6", "0 189 0 0 0" }, { "add 0 0 10 0", "0 0 0 0 0" },
 	{ "add 0 192 11 1", "0 1 0 0 0" }, { "add 0 512 12 2", "0 2 0 0 0" },
 };
 
@@ -535,7 +536,7 @@ static void test_drop_and_off(void)
 static void test_drop_of_one_lane(void)
 {
 	static const struct lent_step steps[] = {
-		{ "setup 2 2 4", "0 206 0 0 0" }, { "add 0 64424509457 25 1", "0 0 0 0 0" },
+		{ "setup 2 2 4", "0 238 0 0 0" }, { "add 0 64424509457 25 1", "0 0 0 0 0" },
 		{ "add 0 17 26 2", "0 1 0 0 0" }, { "begin 2", "0 0 0 0 0" },
 		{ "begin 3", "0 0 0 0 0" }, { "start 2 64424509457", "0 0 0 0 0" },
 		{ "start 3 64424509457", "0 0 0 0 0" }, { "step 2", "0 0 0 0 0" },
@@ -563,7 +564,7 @@ static void test_dropped_lookups(void)
 static void test_high_words(void)
 {
 	static const struct lent_step steps[] = {
-		{ "setup 1 1 2", "0 127 0 0 0" }, { "add 0 64424509457 10 1", "0 0 0 0 0" },
+		{ "setup 1 1 2", "0 135 0 0 0" }, { "add 0 64424509457 10 1", "0 0 0 0 0" },
 		{ "del 0 17", "13 0 0 0 0" }, { "begin 0", "0 0 0 0 0" },
 		{ "start 0 17", "0 0 0 0 0" }, { "step 0", "0 0 0 0 0" },
 		{ "step 0", "0 2 0 0 0" }, { "add 0 17 11 2", "0 1 0 0 0" },
@@ -579,7 +580,7 @@ static void test_high_words(void)
 static void test_free_queue(void)
 {
 	static const struct lent_step steps[] = {
-		{ "setup 1 1 3", "0 133 0 0 0" },
+		{ "setup 1 1 3", "0 141 0 0 0" },
 		{ "add 0 17 1 1", "0 0 0 0 0" }, { "add 0 24 1 1", "0 1 0 0 0" },
 		{ "del 0 24", "0 1 0 0 0" }, { "del 0 17", "0 0 0 0 0" },
 		{ "clock 0", "0 1 1 1 0" }, { "pass 0 2", "0 0 0 0 0" },
@@ -594,11 +595,14 @@ static void test_free_queue(void)
 	LENT_PLAY(&lent, steps);
 }
 
-/* A count wraps from 4,294,967,295 to 0, and differs then from its snapshot. */
-static void test_count_wraps(uint32_t kind)
+/*
+ * The pass after @count carries the low word into the high one, or wraps both to 0, and the
+ * count differs then from its snapshot.
+ */
+static void test_count_grows(uint32_t kind, uint64_t count)
 {
 	static const struct lent_step before[] = {
-		{ "setup 1 2 2", "0 149 0 0 0" }, { "add 0 55 1 1", "0 0 0 0 0" },
+		{ "setup 1 2 2", "0 165 0 0 0" }, { "add 0 55 1 1", "0 0 0 0 0" },
 		{ "del 0 55", "0 0 0 0 0" },
 	};
 	struct call pass = { CALL_PASS, { 0, kind, 0, 0 } };
@@ -607,15 +611,50 @@ static void test_count_wraps(uint32_t kind)
 	lent_start(&lent);
 	LENT_PLAY(&lent, before);
 	lane = lent_lane(lent.memory, 0);
-	lane[LANE_COUNTS + kind] = 4294967295u;
+	lent_put_count(lane + LANE_COUNTS, kind, count);
 	lent_expect(&lent, "clock 0", "0 1 1 1 0");
-	CHECK(lane[LANE_SNAPSHOT + kind] == 4294967295u);
+	CHECK(lent_count(lane + LANE_SNAPSHOT, kind) == count);
 	lent_expect(&lent, "clock 0", "0 1 1 1 0");
 	lent_expect(&lent, "awaited", "0 2 0 1 1");
-	CHECK(lent_make(&lent, &pass) == 0 && lane[LANE_COUNTS + kind] == 0);
+	CHECK(lent_make(&lent, &pass) == 0 && lent_count(lane + LANE_COUNTS, kind) == count + 1);
 	lent_expect(&lent, "clock 0", "0 1 1 1 0");
 	lent_expect(&lent, "awaited", "0 1 1 1 1");
-	CHECK(lane[LANE_SNAPSHOT + kind] == 0 && !(lane[LANE_FLAGS] & FLAG_SNAPSHOT));
+	CHECK(lent_count(lane + LANE_SNAPSHOT, kind) == 0 && !(lane[LANE_FLAGS] & FLAG_SNAPSHOT));
+}
+
+/* The low words are the papers': a count of kind k stands at 1 + 2k of its lane, its snapshot at 9 + 2k. */
+static void test_count_words(uint32_t kind)
+{
+	struct call pass = { CALL_PASS, { 1, kind, 0, 0 } };
+	uint32_t *lane;
+
+	lent_start(&lent);
+	lent_expect(&lent, "setup 1 2 2", "0 165 0 0 0");
+	lane = lent.memory + 93 + 30;
+	lane[1 + 2 * kind] = 4294967295u;
+	lane[2 + 2 * kind] = 6;
+	CHECK(lent_make(&lent, &pass) == 0 && lane[1 + 2 * kind] == 0 && lane[2 + 2 * kind] == 7);
+	lane[1 + 2 * kind] = lane[2 + 2 * kind] = 4294967295u;
+	CHECK(lent_make(&lent, &pass) == 0 && lane[1 + 2 * kind] == 0 && lane[2 + 2 * kind] == 0);
+	CHECK(lent_make(&lent, &pass) == 0 && lane[1 + 2 * kind] == 1 && lane[2 + 2 * kind] == 0);
+}
+
+/* Counts that differ from the snapshot in the high word alone let the lane go, and so do those in the low one. */
+static void test_count_halves(uint32_t kind)
+{
+	static const struct lent_step before[] = {
+		{ "setup 1 2 2", "0 165 0 0 0" }, { "add 0 55 1 1", "0 0 0 0 0" },
+		{ "del 0 55", "0 0 0 0 0" }, { "clock 0", "0 1 1 1 0" }, { "clock 0", "0 1 1 1 0" },
+		{ "awaited", "0 2 0 1 1" },
+	};
+
+	for (uint32_t half = COUNT_LOW; half <= COUNT_HIGH; half++) {
+		lent_start(&lent);
+		LENT_PLAY(&lent, before);
+		lent_lane(lent.memory, 0)[LANE_COUNTS + COUNT_WORDS * kind + half] = 1;
+		lent_expect(&lent, "clock 0", "0 1 1 1 0");
+		lent_expect(&lent, "awaited", "0 1 1 1 1");
+	}
 }
 
 static void test_later(void)
@@ -631,7 +670,7 @@ static void test_later(void)
 static void test_generation_wraps(void)
 {
 	static const struct lent_step records[] = {
-		{ "setup 1 2 4", "0 161 0 0 0" },
+		{ "setup 1 2 4", "0 177 0 0 0" },
 		{ "add 0 17 1 1", "0 0 0 0 0" }, { "add 0 24 1 1", "0 1 0 0 0" },
 		{ "del 0 17", "0 0 0 0 0" },
 	};
@@ -668,7 +707,7 @@ static void test_generation_wraps(void)
 static void test_generation_wraps_idle(void)
 {
 	static const struct lent_step records[] = {
-		{ "setup 1 1 2", "0 127 0 0 0" },
+		{ "setup 1 1 2", "0 135 0 0 0" },
 		{ "add 0 17 1 1", "0 0 0 0 0" }, { "del 0 17", "0 0 0 0 0" },
 	};
 	static const struct lent_step steps[] = {
@@ -690,7 +729,7 @@ static void test_generation_wraps_idle(void)
 static void test_global_generation_zero(void)
 {
 	static const struct lent_step records[] = {
-		{ "setup 1 2 4", "0 161 0 0 0" },
+		{ "setup 1 2 4", "0 177 0 0 0" },
 		{ "add 0 17 1 1", "0 0 0 0 0" }, { "del 0 17", "0 0 0 0 0" },
 	};
 	static const struct lent_step steps[] = {
@@ -713,7 +752,7 @@ static void test_global_generation_zero(void)
 static void test_pending(void)
 {
 	static const struct lent_step steps[] = {
-		{ "setup 2 2 3", "0 200 0 0 0" },
+		{ "setup 2 2 3", "0 232 0 0 0" },
 		{ "add 0 17 1 1", "0 0 0 0 0" }, { "del 3 17", "0 0 0 0 0" },
 		{ "awaited", "0 0 4294967295 2 1" }, { "clock 0", "0 1 0 0 0" },
 		{ "clock 3", "0 1 1 1 0" }, { "awaited", "0 4 0 2 1" },
@@ -747,7 +786,7 @@ static void test_pending(void)
 static void test_off_queues(void)
 {
 	static const struct lent_step retired[] = {
-		{ "setup 1 2 6", "0 173 0 0 0" },
+		{ "setup 1 2 6", "0 189 0 0 0" },
 		{ "add 0 17 1 1", "0 0 0 0 0" }, { "add 0 24 1 1", "0 1 0 0 0" },
 		{ "add 0 31 1 1", "0 2 0 0 0" }, { "add 0 48 1 1", "0 3 0 0 0" },
 		{ "del 0 17", "0 0 0 0 0" }, { "clock 0", "0 1 1 1 0" },
@@ -784,7 +823,7 @@ static void test_off_queues(void)
 static void test_off_queue_over(void)
 {
 	static const struct lent_step steps[] = {
-		{ "setup 1 2 4", "0 161 0 0 0" },
+		{ "setup 1 2 4", "0 177 0 0 0" },
 		{ "add 0 17 1 1", "0 0 0 0 0" }, { "del 0 17", "0 0 0 0 0" },
 		{ "clock 0", "0 1 1 1 0" }, { "pass 0 0", "0 0 0 0 0" },
 		{ "clock 0", "0 1 1 1 0" }, { "clock 1", "0 1 1 1 0" },
@@ -803,7 +842,7 @@ static void test_off_queue_over(void)
 static void test_off_last_bit(void)
 {
 	static const struct lent_step steps[] = {
-		{ "setup 1 3 6", "0 195 0 0 0" },
+		{ "setup 1 3 6", "0 219 0 0 0" },
 		{ "add 0 17 1 1", "0 0 0 0 0" }, { "del 0 17", "0 0 0 0 0" },
 		{ "clock 0", "0 1 1 1 0" }, { "pass 0 0", "0 0 0 0 0" },
 		{ "clock 0", "0 1 1 1 0" }, { "off 1", "0 0 0 0 0" },
@@ -823,7 +862,7 @@ static void test_off_last_bit(void)
 static void test_off_next_begun(void)
 {
 	static const struct lent_step steps[] = {
-		{ "setup 1 3 6", "0 195 0 0 0" },
+		{ "setup 1 3 6", "0 219 0 0 0" },
 		{ "add 0 17 1 1", "0 0 0 0 0" }, { "add 0 24 1 1", "0 1 0 0 0" },
 		{ "del 0 17", "0 0 0 0 0" }, { "clock 0", "0 1 1 1 0" },
 		{ "del 1 24", "0 1 0 0 0" }, { "clock 1", "0 1 2 1 0" },
@@ -847,7 +886,7 @@ static void test_off_next_begun(void)
 static void test_off_next_begun_with_slot(void)
 {
 	static const struct lent_step steps[] = {
-		{ "setup 1 3 6", "0 195 0 0 0" },
+		{ "setup 1 3 6", "0 219 0 0 0" },
 		{ "add 0 17 1 1", "0 0 0 0 0" }, { "add 0 24 1 1", "0 1 0 0 0" },
 		{ "add 0 31 1 1", "0 2 0 0 0" },
 		{ "del 0 17", "0 0 0 0 0" }, { "clock 0", "0 1 1 1 0" },
@@ -867,7 +906,7 @@ static void test_off_next_begun_with_slot(void)
 static void test_lane_before_global(void)
 {
 	static const struct lent_step steps[] = {
-		{ "setup 1 3 8", "0 207 0 0 0" },
+		{ "setup 1 3 8", "0 231 0 0 0" },
 		{ "add 0 17 1 1", "0 0 0 0 0" }, { "add 0 24 1 1", "0 1 0 0 0" },
 		{ "add 0 31 1 1", "0 2 0 0 0" },
 		{ "del 2 17", "0 0 0 0 0" }, { "off 2", "0 0 0 0 0" },
@@ -888,7 +927,7 @@ static void test_lane_before_global(void)
 static void test_hand_back_order(void)
 {
 	static const struct lent_step steps[] = {
-		{ "setup 1 2 4", "0 161 0 0 0" },
+		{ "setup 1 2 4", "0 177 0 0 0" },
 		{ "add 0 17 1 1", "0 0 0 0 0" }, { "add 0 24 1 1", "0 1 0 0 0" },
 		{ "del 1 17", "0 0 0 0 0" }, { "off 1", "0 0 0 0 0" },
 		{ "clock 0", "0 1 1 1 0" }, { "pass 0 0", "0 0 0 0 0" },
@@ -920,7 +959,7 @@ static void check_empty(uint32_t address)
 static void test_lengths_of_both(void)
 {
 	static const struct lent_step waiting[] = {
-		{ "setup 1 3 8", "0 207 0 0 0" }, { "add 0 17 1 1", "0 0 0 0 0" },
+		{ "setup 1 3 8", "0 231 0 0 0" }, { "add 0 17 1 1", "0 0 0 0 0" },
 		{ "add 0 24 1 1", "0 1 0 0 0" }, { "add 0 31 1 1", "0 2 0 0 0" },
 		{ "del 1 31", "0 2 0 0 0" }, { "clock 1", "0 1 1 1 0" },
 		{ "del 0 17", "0 0 0 0 0" }, { "del 2 24", "0 1 0 0 0" }, { "off 2", "0 0 0 0 0" },
@@ -944,36 +983,36 @@ static void test_lengths_of_both(void)
 	check_empty(82);	   /* global next, current and done */
 	check_queue(85, 1, 1, 1);
 	check_empty(88);
-	check_queue(103, 0, 0, 1); /* lane 0's */
-	check_empty(106);
-	check_empty(109);
-	check_empty(125);	   /* lane 1's */
-	check_queue(128, 2, 2, 1);
-	check_empty(131);
+	check_queue(111, 0, 0, 1); /* lane 0's */
+	check_empty(114);
+	check_empty(117);
+	check_empty(141);	   /* lane 1's */
+	check_queue(144, 2, 2, 1);
+	check_empty(147);
 	LENT_PLAY(&lent, done);
 	check_empty(82);
 	check_empty(85);
 	check_queue(88, 1, 1, 1);
-	check_empty(103);
-	check_empty(106);
-	check_queue(109, 0, 0, 1);
-	check_empty(125);
-	check_empty(128);
-	check_queue(131, 2, 2, 1);
-	for (uint32_t address = 147; address <= 153; address += 3) /* lane 2's, which is off */
+	check_empty(111);
+	check_empty(114);
+	check_queue(117, 0, 0, 1);
+	check_empty(141);
+	check_empty(144);
+	check_queue(147, 2, 2, 1);
+	for (uint32_t address = 171; address <= 177; address += 3) /* lane 2's, which is off */
 		check_empty(address);
 	LENT_PLAY(&lent, reclaimed);
 	check_queue(79, 3, 2, 8);
 	check_empty(88);
-	check_empty(109);
-	check_empty(131);
+	check_empty(117);
+	check_empty(147);
 }
 
 /* A clock says what it moved, and not what is done; the queue has the sum, in the order. */
 static void test_lengths_joined(void)
 {
 	static const struct lent_step steps[] = {
-		{ "setup 1 1 8", "0 163 0 0 0" }, { "add 0 17 1 1", "0 0 0 0 0" },
+		{ "setup 1 1 8", "0 171 0 0 0" }, { "add 0 17 1 1", "0 0 0 0 0" },
 		{ "add 0 24 1 1", "0 1 0 0 0" }, { "rep 0 17 2 2", "0 2 0 0 0" },
 		{ "clock 0", "0 1 1 1 0" }, { "pass 0 0", "0 0 0 0 0" }, { "clock 0", "0 2 1 0 1" },
 		{ "del 0 24", "0 1 0 0 0" }, { "del 0 17", "0 2 0 0 0" },
@@ -988,17 +1027,17 @@ static void test_lengths_joined(void)
 	lent_start(&lent);
 	LENT_PLAY(&lent, steps);
 	check_queue(79, 3, 7, 5);
-	check_queue(109, 0, 2, 3);
+	check_queue(117, 0, 2, 3);
 	LENT_PLAY(&lent, reclaimed);
 	check_queue(79, 3, 2, 8);
-	check_empty(109);
+	check_empty(117);
 }
 
 /* An off joins three queues to the global next one, and one to the global done one. */
 static void test_lengths_off(void)
 {
 	static const struct lent_step steps[] = {
-		{ "setup 1 3 8", "0 207 0 0 0" }, { "add 0 17 1 1", "0 0 0 0 0" },
+		{ "setup 1 3 8", "0 231 0 0 0" }, { "add 0 17 1 1", "0 0 0 0 0" },
 		{ "add 0 24 1 1", "0 1 0 0 0" }, { "add 0 31 1 1", "0 2 0 0 0" },
 		{ "add 0 48 1 1", "0 3 0 0 0" }, { "del 1 17", "0 0 0 0 0" },
 		{ "off 1", "0 0 0 0 0" },			   /* slot 0: globally current */
@@ -1021,7 +1060,7 @@ static void test_lengths_off(void)
 static void test_lengths_off_ends(void)
 {
 	static const struct lent_step steps[] = {
-		{ "setup 1 3 8", "0 207 0 0 0" }, { "add 0 17 1 1", "0 0 0 0 0" },
+		{ "setup 1 3 8", "0 231 0 0 0" }, { "add 0 17 1 1", "0 0 0 0 0" },
 		{ "del 2 17", "0 0 0 0 0" }, { "off 2", "0 0 0 0 0" }, { "clock 0", "0 1 1 1 0" },
 		{ "pass 0 0", "0 0 0 0 0" }, { "clock 0", "0 1 1 1 0" }, { "off 1", "0 0 0 0 0" },
 		{ "awaited", "0 0 4294967295 7 1" },
@@ -1065,7 +1104,7 @@ static void test_short_answers(void)
 static void test_short_answers_first(void)
 {
 	static const struct lent_step steps[] = {
-		{ "setup 1 2 3", "0 155 0 0 0" }, { "add 0 55 1 1", "0 0 0 0 0" },
+		{ "setup 1 2 3", "0 171 0 0 0" }, { "add 0 55 1 1", "0 0 0 0 0" },
 		{ "begin 1", "0 0 0 0 0" },
 	};
 
@@ -1091,7 +1130,7 @@ static void test_no_memory(void)
 static void test_words_past_total(void)
 {
 	static const struct lent_step steps[] = {
-		{ "setup 1 2 3", "0 155 0 0 0" }, { "add 0 17 25 1", "0 0 0 0 0" },
+		{ "setup 1 2 3", "0 171 0 0 0" }, { "add 0 17 25 1", "0 0 0 0 0" },
 		{ "begin 1", "0 0 0 0 0" }, { "start 1 17", "0 0 0 0 0" },
 		{ "del 0 17", "0 0 0 0 0" }, { "step 1", "0 1 0 25 1" },
 		{ "clock 0", "0 1 1 1 0" }, { "off 0", "0 0 0 0 0" },
@@ -1100,9 +1139,9 @@ static void test_words_past_total(void)
 	};
 
 	for (uint32_t fill = 0; fill < 3; fill++)
-		for (size_t words = 155; words < 160; words++) {
+		for (size_t words = 171; words < 176; words++) {
 			lent_start(&lent);
-			for (size_t n = 155; n < LENT_WORDS; n++)
+			for (size_t n = 171; n < LENT_WORDS; n++)
 				lent.memory[n] = fill == 0 ? 0 : fill == 1 ? 1 : PT_NONE;
 			lent.words = words;
 			LENT_PLAY(&lent, steps);
@@ -1126,8 +1165,14 @@ int main(void)
 	test_dropped_lookups();
 	test_high_words();
 	test_free_queue();
-	for (uint32_t kind = 0; kind < KINDS; kind++)
-		test_count_wraps(kind);
+	for (uint32_t kind = 0; kind < KINDS; kind++) {
+		test_count_grows(kind, 4294967294u);
+		test_count_grows(kind, 4294967295u);
+		test_count_grows(kind, UINT64_C(18446744069414584319)); /* 2^64 - 2^32 - 1: high word the last but one */
+		test_count_grows(kind, UINT64_MAX);
+		test_count_words(kind);
+		test_count_halves(kind);
+	}
 	test_later();
 	test_generation_wraps();
 	test_generation_wraps_idle();

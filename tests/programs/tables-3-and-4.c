@@ -166,9 +166,11 @@ static void check_row(const struct row *row)
 	CHECK(global[GLOBAL_LARGEST_GENERATION] == row->largest);
 	CHECK(global[GLOBAL_PENDING] == row->cabinets);
 	CHECK(lent_cabinet(memory, 0)[CABINET_PENDING] == row->lanes);
-	CHECK(memcmp(lane + LANE_COUNTS, row->counts, sizeof row->counts) == 0);
+	for (uint32_t kind = 0; kind < KINDS; kind++) {
+		CHECK(lent_count(lane + LANE_COUNTS, kind) == row->counts[kind]);
+		CHECK(lent_count(lane + LANE_SNAPSHOT, kind) == row->snapshot[kind]);
+	}
 	CHECK(((lane[LANE_FLAGS] & FLAG_SNAPSHOT) != 0) == row->held);
-	CHECK(memcmp(lane + LANE_SNAPSHOT, row->snapshot, sizeof row->snapshot) == 0);
 	CHECK(lent_queue_length(memory, lane + LANE_NEXT) == row->queues.next);
 	CHECK(lent_queue_length(memory, lane + LANE_CURRENT) == row->queues.current);
 	CHECK(lent_queue_length(memory, lane + LANE_DONE) == row->queues.done);
@@ -201,7 +203,7 @@ static void replay(const char *table, const struct row *rows, size_t count)
 static void replay_three_lanes(void)
 {
 	static const struct lent_step steps[] = {
-		{ "setup 1 3 4", "0 183 0 0 0" },
+		{ "setup 1 3 4", "0 207 0 0 0" },
 		{ "add 0 17 1 1", "0 0 0 0 0" }, { "add 0 24 1 1", "0 1 0 0 0" },
 		{ "add 0 31 1 1", "0 2 0 0 0" },
 		{ "del 0 17", "0 0 0 0 0" }, { "del 1 24", "0 1 0 0 0" },

@@ -8,7 +8,7 @@
 #include "lent.h"
 #include "words.h"
 
-enum { MOST = 300 };
+enum { MOST = 400 };
 
 static const uint32_t sizes[3] = { 2, 2, 16 };
 static const uint32_t larger[3] = { 2, 3, 20 };
@@ -21,7 +21,7 @@ static bool named(size_t address, const char *name)
 	return strcmp(text, name) == 0;
 }
 
-/* Addresses are the papers': contents 12, house 80, a cabinet 1, a lane 22, a slot 6. */
+/* Addresses are the papers': contents 12, house 80, a cabinet 1, a lane 30, a slot 6. */
 static void test_names(void)
 {
 	CHECK(named(0, "contents, version") && named(11, "contents, bodies, length of the slots"));
@@ -30,13 +30,17 @@ static void test_names(void)
 	CHECK(named(84, "house, next line, length") && named(87, "house, current line, length"));
 	CHECK(named(90, "house, done line, length") && named(91, "house, house generation"));
 	CHECK(named(93, "cabinet 1, lane mask") && named(94, "lane 0, flags"));
-	CHECK(named(94 + 3 * 22 + 14, "lane 3, current line, last"));
-	CHECK(named(94 + 12, "lane 0, next line, length") && named(94 + 18, "lane 0, done line, length"));
-	CHECK(named(94 + 19, "lane 0, lookup code, low word") && named(94 + 21, "lane 0, lookup position"));
-	CHECK(named(94 + 22 + 4, "lane 1, pass count, kind 3 changed over"));
-	CHECK(named(94 + 4 * 22, "slot 0, code, low word"));
-	CHECK(named(94 + 4 * 22 + 16 * 6 - 1, "slot 15, line link"));
-	CHECK(named(94 + 4 * 22 + 16 * 6, "word 278, past the total"));
+	CHECK(named(94 + 3 * 30 + 22, "lane 3, current line, last"));
+	CHECK(named(94 + 20, "lane 0, next line, length") && named(94 + 26, "lane 0, done line, length"));
+	CHECK(named(94 + 27, "lane 0, lookup code, low word") && named(94 + 29, "lane 0, lookup position"));
+	CHECK(named(94 + 1, "lane 0, pass count, kind 0 idle, low word"));
+	CHECK(named(94 + 30 + 8, "lane 1, pass count, kind 3 changed over, high word"));
+	CHECK(named(94 + 9, "lane 0, snapshot count, kind 0 idle, low word"));
+	CHECK(named(94 + 16, "lane 0, snapshot count, kind 3 changed over, high word"));
+	CHECK(named(94 + 17, "lane 0, generation"));
+	CHECK(named(94 + 4 * 30, "slot 0, code, low word"));
+	CHECK(named(94 + 4 * 30 + 16 * 6 - 1, "slot 15, line link"));
+	CHECK(named(94 + 4 * 30 + 16 * 6, "word 310, past the total"));
 }
 
 static void test_each(void)

@@ -1,6 +1,6 @@
 /*
  * layout.h - where the words of a table's memory stand (document 01, "The memory"; a queue's
- * length: document 02, request 6).
+ * length: document 02, request 6; counts of two words: request 7).
  * Each record is the list of its words in their order; lengths and totals follow.
  */
 #ifndef REFERENCE_LAYOUT_H
@@ -8,11 +8,12 @@
 
 #include <stdint.h>
 
-enum { LAYOUT_VERSION = 2, CHAINS = 64, KINDS = 4 };
+enum { LAYOUT_VERSION = 3, CHAINS = 64, KINDS = 4 };
 
-/* Words of a queue, its two ends and its length, and of a code. */
+/* Words of a queue, its two ends and its length, of a code, and of a count. */
 enum { QUEUE_FIRST, QUEUE_LAST, QUEUE_LENGTH, QUEUE_WORDS };
 enum { CODE_LOW, CODE_HIGH, CODE_WORDS };
+enum { COUNT_LOW, COUNT_HIGH, COUNT_WORDS };
 
 /* The bodies after the contents, in their order. */
 enum { BODY_GLOBAL, BODY_CABINETS, BODY_LANES, BODY_SLOTS, BODIES };
@@ -47,8 +48,8 @@ enum cabinet_word {
 enum lane_word {
 	LANE_FLAGS,
 	LANE_COUNTS,
-	LANE_SNAPSHOT = LANE_COUNTS + KINDS,
-	LANE_GENERATION = LANE_SNAPSHOT + KINDS, /* of the current queue */
+	LANE_SNAPSHOT = LANE_COUNTS + COUNT_WORDS * KINDS,
+	LANE_GENERATION = LANE_SNAPSHOT + COUNT_WORDS * KINDS, /* of the current queue */
 	LANE_NEXT,
 	LANE_CURRENT = LANE_NEXT + QUEUE_WORDS,
 	LANE_DONE = LANE_CURRENT + QUEUE_WORDS,

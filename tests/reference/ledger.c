@@ -3,7 +3,8 @@
  * instants only the whole searches there are kept: a slot that left the table during
  * the lookup is out with the lookup's section, so each slot explains at most once. Of the
  * sums of request 6 only the difference is kept: what came to done queues and was not
- * handed back. The slots there are counted along the links; no length is asked.
+ * handed back. The slots there are counted along the links; no length is asked. A memory of
+ * version 2 is asked where its words stand: the list of a carried memory begins on one.
  */
 #include "ledger.h"
 
@@ -11,6 +12,7 @@
 #include <string.h>
 
 #include "layout.h"
+#include "layout_v2.h"
 #include "product_table.h"
 
 _Static_assert(LEDGER_LANES <= 64, "sections are bits of a 64-bit word");
@@ -304,11 +306,28 @@ static bool slot_holds(const uint32_t *slot, const struct ledger_search *find)
 		slot[SLOT_DEPOSIT] == find->deposit && slot[SLOT_MATERIAL] == find->material;
 }
 
+static bool is_old(const uint32_t *memory)
+{
+	return memory[CONTENTS_VERSION] == V2_VERSION;
+}
+
 /* The first word of a body. */
 static const uint32_t *body_of(const uint32_t *memory, int body)
 {
-	return memory + layout_of(memory[CONTENTS_CABINETS], memory[CONTENTS_LANES],
-			memory[CONTENTS_SLOTS]).first[body];
+	uint32_t cabinets = memory[CONTENTS_CABINETS], lanes = memory[CONTENTS_LANES];
+	uint32_t slots = memory[CONTENTS_SLOTS];
+
+	return memory + (is_old(memory) ? v2_layout_of(cabinets, lanes, slots).first[body] :
+		layout_of(cabinets, lanes, slots).first[body]);
+}
+
+/* A lane's done queue. */
+static const uint32_t *done_of(const uint32_t *memory, uint32_t lane)
+{
+	const uint32_t *lanes = body_of(memory, BODY_LANES);
+
+	return is_old(memory) ? lanes + V2_LANE_WORDS * lane + V2_LANE_DONE :
+		lanes + LANE_WORDS * lane + LANE_DONE;
 }
 
 const char *ledger_kept(const struct ledger *ledger, const uint32_t *memory)
@@ -345,12 +364,11 @@ static uint32_t mark_queue(const uint32_t *memory, const uint32_t *queue, bool m
 /* The slots in all done queues. */
 static uint32_t slots_done(const uint32_t *memory)
 {
-	const uint32_t *lanes = body_of(memory, BODY_LANES);
 	bool marked[LEDGER_SLOTS] = { false };
 	uint32_t count = mark_queue(memory, body_of(memory, BODY_GLOBAL) + GLOBAL_DONE, marked);
 
 	for (uint32_t l = 0; l < memory[CONTENTS_CABINETS] * memory[CONTENTS_LANES]; l++)
-		count += mark_queue(memory, lanes + LANE_WORDS * l + LANE_DONE, marked);
+		count += mark_queue(memory, done_of(memory, l), marked);
 	return count;
 }
 
@@ -395,4 +413,11 @@ const char *ledger_judge(struct ledger *ledger, const struct call *call, const u
 	if (fault == NULL)
 		fault = ledger_kept(ledger, after);
 	return fault != NULL ? fault : ledger_counted(ledger, call, answer, before, after);
+}
+
+const char *ledger_carried(const struct ledger *ledger, const uint32_t *memory)
+{
+	const char *fault = ledger_kept(ledger, memory);
+
+	return fault == NULL && ledger->done != slots_done(memory) ? MISCOUNTED : fault;
 }

@@ -17,7 +17,8 @@
  * What a found slot holds is asked of the memory, by ledger_kept(), and so are the slots in
  * done queues, by ledger_counted(). Nothing is asked of a lookup that was dropped. A call on
  * a memory that is damaged or lent short, or with an answer lent short, is none of the list
- * and is not fed. A ledger is a plain value with no pointers, no padding and 0 in its unused
+ * and is not fed. The list of a carried memory is that of the old one up to the carry, and
+ * then its own; the memories that are asked are of version 2 before it, and of version 3 after. A ledger is a plain value with no pointers, no padding and 0 in its unused
  * parts: assign it to copy it, compare its bytes. Its capacity may be set where it is
  * compiled.
  */
@@ -107,6 +108,13 @@ uint32_t ledger_moved(const struct call *call, const uint32_t *answer, const uin
  */
 const char *ledger_counted(struct ledger *ledger, const struct call *call, const uint32_t *answer,
 		const uint32_t *before, const uint32_t *after);
+
+/*
+ * Whether a memory holds what is owed of it at this instant: what the open sections have
+ * found, and the slots in done queues. The carry has no instant and is not fed: the ledger
+ * of the old memory goes on with the second one, of which this is asked (request 7).
+ */
+const char *ledger_carried(const struct ledger *ledger, const uint32_t *memory);
 
 /* All of it: feeds the call, and asks the memory before and after it. */
 const char *ledger_judge(struct ledger *ledger, const struct call *call, const uint32_t *answer,

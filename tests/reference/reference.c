@@ -474,7 +474,7 @@ uint32_t ref_pass(uint32_t *memory, size_t words, uint32_t *answer, size_t answe
 	if (kind >= KINDS)
 		return refuse(answer, PT_OUT_OF_RANGE);
 
-	t.lane[lane].counts[kind]++;
+	t.lane[lane].counts[kind]++; /* of 64 bits: after the largest comes 0 */
 	return finish(&t, memory, answer, 0, 0, 0);
 }
 

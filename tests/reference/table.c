@@ -1,6 +1,7 @@
 /*
  * table.c - reading a table from the words of its memory, and writing it back
- * (document 01, "The memory"); where a lane stands (document 02, request 4).
+ * (document 01, "The memory"; counts of 64 bits: document 02, request 7); where a lane stands
+ * (document 02, request 4).
  */
 #include "table.h"
 
@@ -54,6 +55,17 @@ static void write_code(uint32_t *word, uint64_t code)
 	word[CODE_HIGH] = (uint32_t)(code >> 32);
 }
 
+static uint64_t read_count(const uint32_t *word)
+{
+	return (uint64_t)word[COUNT_HIGH] << 32 | word[COUNT_LOW];
+}
+
+static void write_count(uint32_t *word, uint64_t count)
+{
+	word[COUNT_LOW] = (uint32_t)count;
+	word[COUNT_HIGH] = (uint32_t)(count >> 32);
+}
+
 static struct queue read_queue(const uint32_t *word)
 {
 	return (struct queue){ .first = word[QUEUE_FIRST], .last = word[QUEUE_LAST],
@@ -99,8 +111,8 @@ static void read_lane(struct lane *lane, const uint32_t *word)
 {
 	lane->flags = word[LANE_FLAGS];
 	for (int kind = 0; kind < KINDS; kind++) {
-		lane->counts[kind] = word[LANE_COUNTS + kind];
-		lane->snapshot[kind] = word[LANE_SNAPSHOT + kind];
+		lane->counts[kind] = read_count(word + LANE_COUNTS + COUNT_WORDS * kind);
+		lane->snapshot[kind] = read_count(word + LANE_SNAPSHOT + COUNT_WORDS * kind);
 	}
 	lane->retired.generation = word[LANE_GENERATION];
 	lane->retired.next = read_queue(word + LANE_NEXT);
@@ -114,8 +126,8 @@ static void write_lane(const struct lane *lane, uint32_t *word)
 {
 	word[LANE_FLAGS] = lane->flags;
 	for (int kind = 0; kind < KINDS; kind++) {
-		word[LANE_COUNTS + kind] = lane->counts[kind];
-		word[LANE_SNAPSHOT + kind] = lane->snapshot[kind];
+		write_count(word + LANE_COUNTS + COUNT_WORDS * kind, lane->counts[kind]);
+		write_count(word + LANE_SNAPSHOT + COUNT_WORDS * kind, lane->snapshot[kind]);
 	}
 	word[LANE_GENERATION] = lane->retired.generation;
 	write_queue(word + LANE_NEXT, lane->retired.next);

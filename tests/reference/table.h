@@ -29,8 +29,8 @@ struct retired {
 
 struct lane {
 	uint32_t flags;
-	uint32_t counts[KINDS]; /* quiescent states by kind */
-	uint32_t snapshot[KINDS];
+	uint64_t counts[KINDS]; /* quiescent states by kind */
+	uint64_t snapshot[KINDS];
 	struct retired retired;
 	uint64_t code; /* of the lookup */
 	uint32_t position;

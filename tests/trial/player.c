@@ -29,6 +29,10 @@ static void count(const struct step *step)
 		tally_label(player.tally, &player.beside, step);
 		return;
 	}
+	if (step->kind == STEP_CARRY) {
+		tally_carry(player.tally, &player.beside);
+		return;
+	}
 	if (player.by_ledger && trial.program == NULL)
 		tally_judged(player.tally, &player.beside.call, player.beside.left.answer, (struct verdict){
 			.fault = player.record->difference != SAME,

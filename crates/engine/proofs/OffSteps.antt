@@ -6,33 +6,26 @@ use mathlib.Core.List.{List, [], _∷_}
 use native.Mathlib.Omega.{arith}
 use lib.ListN.{set}
 use Rattle.model.specs.Lists.{update}
-use Rattle.model.specs.State.{Sizes, laneCount, isRunning, isHeld, Queues, Lane, State}
-use Rattle.model.specs.Layout.{flagsAt, generationAt, laneAddress, onlineBit}
+use Rattle.model.specs.State.{Sizes, laneCount, Queues, Lane, State}
+use Rattle.model.specs.Layout.{generationAt, laneAddress}
 use Rattle.model.specs.Engine.{freshLane, laneAt, setOnline, withLanes, withGlobal, atLane, taken, emptied}
 use Rattle.model.specs.Rules.{withEngine, withLane}
 use Rattle.model.specs.Memory.{at, flags, laneWords}
 use Rattle.model.specs.Calls.{stored}
 use Rattle.laws.specs.ListLaws.{getD-update-same, update-update}
-use Rattle.masks.specs.Bits.{withoutBit}
-use Rattle.masks.proofs.BitLaws.{withoutBit-mask}
-use Rattle.representation.proofs.Addresses.Fields.{lane}
 use Rattle.representation.proofs.Causes.Passed.{within}
 use Rattle.lanes.specs.declared.Change.the-variants.{Leave}
 use Rattle.lanes.specs.RecordChanges.{changedAt}
-use Rattle.lanes.proofs.CabinetLaws.{changed-offline}
 use Rattle.changes.proofs.Shows.{Shows, shows-then, stored-then}
 use Rattle.changes.proofs.Shape.{Shape}
 use Rattle.changes.proofs.OfLanes.EngineWords.{atGeneration}
-use Rattle.changes.proofs.OfLanes.LaneWords.{lane-flags, lane-generation}
+use Rattle.changes.proofs.OfLanes.LaneWords.{lane-generation}
+use Rattle.changes.proofs.OfLanes.LaneRecords.{record-offline}
 use Rattle.changes.proofs.OfLanes.OneLane.{shape-lane}
 use Rattle.changes.proofs.OfOwners.HandOver.{unqueued, handedOver, handedOverWords, hand-over, shape-hand-over}
 use Rattle.engine.specs.Off.{handedWords}
 
 -- ---- mark off
-
-flags-off : (l : Lane) → withoutBit onlineBit (flags l) ≡ flags (setOnline false l)
-unfolding flags
-flags-off l = withoutBit-mask (l .online ∷ l .reading ∷ isRunning (l .lookup) ∷ isHeld (l .snapshot) ∷ []) (omega arith) onlineBit (omega arith)
 
 module _ (s : State) (m : List ℕ) (shows : Shows m s) (w : Shape s) (i : ℕ) (within : i < laneCount (s .sizes)) where
   abbrev z : Sizes
@@ -45,12 +38,7 @@ module _ (s : State) (m : List ℕ) (shows : Shows m s) (w : Shape s) (i : ℕ) 
   marked = withLane s i (setOnline false)
 
   marked-stored : changedAt m a Leave ≡ stored marked m
-  unfolding laneWords
-  marked-stored =
-      let e : a ≡ a + flagsAt = omega arith in
-      changed-offline m a
-      ∙ ap (set m a) (ap (withoutBit onlineBit) (ap (at m) e ∙ shows .image (lane i flagsAt) (within, omega arith)) ∙ flags-off (laneAt (s .engine) i))
-      ∙ lane-flags s m shows (w .lanes) i within (setOnline false) refl refl refl
+  marked-stored = record-offline s m shows i within (w .lanes)
 
   shape-marked : Shape marked
   shape-marked = shape-lane s i (setOnline false) refl refl w

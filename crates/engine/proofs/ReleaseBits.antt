@@ -6,29 +6,20 @@ use mathlib.Core.Logic.{_≢_}
 use mathlib.Core.List.{List, [], _∷_, _++_}
 use native.Mathlib.Omega.{arith}
 use native.Mathlib.Decide.{decLt}
-use lib.ListN.{getD, set}
-use lib.Seq.{sets}
+use lib.ListN.{getD}
 use lib.Dec.{eqb}
 use Rattle.model.specs.Lists.{update, concatMap}
 use Rattle.model.specs.State.{laneCount, unheld, Lane, State}
-use Rattle.model.specs.Layout.{snapshotAt, laneAddress, snapshotBit}
 use Rattle.model.specs.Engine.{freshLane, laneAt, setPending, runs, ended}
 use Rattle.model.specs.Rules.{withEngine, withLane}
-use Rattle.model.specs.Memory.{at, flags, snapshotCount, laneWords, laneQueues}
+use Rattle.model.specs.Memory.{flags, laneWords, laneQueues}
 use Rattle.model.specs.Calls.{stored}
 use Rattle.laws.specs.Tests.{other}
 use Rattle.representation.proofs.Addresses.Fields.{lane}
 use Rattle.changes.proofs.Shows.{Shows, stored-shown}
 use Rattle.changes.proofs.Shape.{LaneAtEach}
-use Rattle.changes.proofs.OfLanes.LaneWords.{lane-snapshot}
-use Rattle.masks.specs.Bits.{withoutBit}
-use Rattle.lanes.specs.declared.LaneRecord.{LaneRecord}
-use Rattle.lanes.specs.declared.Change.the-variants.{Drop}
-use Rattle.lanes.specs.Record.{recordAt, droppedRecord}
-use Rattle.lanes.proofs.RecordLaws.{recordOf-dropped}
-use Rattle.lanes.specs.RecordChanges.{changedAt}
-use Rattle.lanes.specs.Cabinet.{droppedAt}
-use Rattle.lanes.proofs.CabinetLaws.{row-within, changed-dropped}
+use Rattle.changes.proofs.OfLanes.LaneRecords.{holding}
+use Rattle.lanes.proofs.CabinetLaws.{row-within}
 use Rattle.engine.specs.Period.{endedWords}
 use Rattle.engine.proofs.PeriodLaws.{mask-shown, mask-runs, ended-stored}
 use Rattle.engine.specs.Release.{overWords}
@@ -37,22 +28,7 @@ use Rattle.engine.specs.Release.{overWords}
 
 -- the lane drops its snapshot, and keeps its bit
 abbrev pub unsampled : Lane → Lane
-unsampled k = setPending (k .pending) unheld k
-
-flags-dropped : (l : Lane) → withoutBit snapshotBit (flags l) ≡ flags (unsampled l)
-unfolding recordAt droppedRecord laneWords
-flags-dropped l = sym (ap (λ (r : LaneRecord). r .flags) (recordOf-dropped l (l .pending)))
-
-pub dropped-stored : (s : State) (m : List ℕ) → Shows m s → LaneAtEach s → (i : ℕ) → i < laneCount (s .sizes)
-    → changedAt m (laneAddress (s .sizes) i) Drop ≡ stored (withLane s i unsampled) m
-unfolding droppedAt snapshotCount laneWords
-dropped-stored s m shows each i h =
-    let a = laneAddress (s .sizes) i in
-    let e : a ≡ a + 0 = omega arith in
-    changed-dropped m a
-    ∙ ap (λ (w : ℕ). sets (set m a w) (a + snapshotAt) (0 ∷ 0 ∷ 0 ∷ 0 ∷ []))
-    (ap (withoutBit snapshotBit) (ap (at m) e ∙ shows .image (lane i 0) (h, omega arith)) ∙ flags-dropped (laneAt (s .engine) i))
-    ∙ lane-snapshot s m shows each i h unheld
+unsampled k = holding unheld k
 
 -- ---- the bit
 

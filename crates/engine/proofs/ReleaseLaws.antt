@@ -23,7 +23,8 @@ use Rattle.lanes.specs.Cabinet.{stand}
 use Rattle.lanes.proofs.CabinetLaws.{cabinetAt-lane, row-within}
 use Rattle.engine.proofs.PeriodLaws.{shape-ended}
 use Rattle.engine.specs.Release.{passedWords, releasedWords}
-use Rattle.engine.proofs.ReleaseBits.{unsampled, dropped-stored, unawaited}
+use Rattle.changes.proofs.OfLanes.LaneRecords.{record-dropped}
+use Rattle.engine.proofs.ReleaseBits.{unsampled, unawaited}
 use Rattle.engine.proofs.ReleaseStores.{passedEngine, passed-stored}
 
 -- ---- both
@@ -46,7 +47,7 @@ module _ (s : State) (m : List ℕ) (shows : Shows m s) (each : LaneAtEach s) (c
   lane-within = omega (arith, row-within c (s .sizes .cabinets) (s .sizes .places) inCabinets)
 
   first-stored : dropped ≡ stored u m
-  first-stored = ap (λ (a : ℕ). changedAt m a Drop) (cabinetAt-lane (s .sizes) c p) ∙ dropped-stored s m shows each lane-number lane-within
+  first-stored = ap (λ (a : ℕ). changedAt m a Drop) (cabinetAt-lane (s .sizes) c p) ∙ record-dropped s m shows lane-number lane-within each
 
   each-u : LaneAtEach u
   each-u = length-update (s .engine .lanes) lane-number unsampled ∙ each

@@ -4,32 +4,27 @@ use mathlib.Core.Bool.{Bool, true, false, not, cond, _&&_}
 use mathlib.Core.Path.{_≡_, refl, ap, ap₂, sym, _∙_}
 use mathlib.Core.List.{List}
 use native.Mathlib.Omega.{arith}
-use lib.ListN.{set}
-use lib.Seq.{sets}
 use Rattle.model.specs.State.{Sizes, laneCount, held, isHeld, Lane, State}
-use Rattle.model.specs.Layout.{snapshotAt, masksAt, laneAddress, snapshotBit}
+use Rattle.model.specs.Layout.{masksAt, laneAddress}
 use Rattle.model.specs.Engine.{freshLane, laneAt, setPending, withLanes, sampled}
 use Rattle.model.specs.Rules.{withEngine, withLane}
-use Rattle.model.specs.Memory.{at, flag, flags, snapshotCount, laneWords, laneQueues, pendingAt}
+use Rattle.model.specs.Memory.{at, flag, laneQueues, pendingAt}
 use Rattle.model.specs.Calls.{stored}
 use Rattle.laws.specs.Tests.{and-true}
 use Rattle.laws.specs.Masks.{flag-mask-from}
-use Rattle.representation.proofs.Addresses.Fields.{mask, lane}
+use Rattle.representation.proofs.Addresses.Fields.{mask}
 use Rattle.laws.specs.Updates.{update-same, update-alike}
 use Rattle.changes.proofs.Shows.{Shows, stored-shown}
 use Rattle.changes.proofs.Shape.{LaneAtEach, Shape}
 use Rattle.changes.proofs.OfLanes.OneLane.{shape-lane}
-use Rattle.changes.proofs.OfLanes.LaneWords.{lane-snapshot}
-use Rattle.masks.specs.Bits.{withBit}
-use Rattle.lanes.specs.declared.LaneRecord.{LaneRecord}
+use Rattle.changes.proofs.OfLanes.LaneRecords.{holding, record-sampled}
 use Rattle.lanes.specs.declared.Change.the-variants.{Sample}
-use Rattle.lanes.specs.Record.{recordAt, isHolding, sampledRecord}
+use Rattle.lanes.specs.Record.{recordAt, isHolding}
 use Rattle.lanes.specs.RecordChanges.{changedAt}
-use Rattle.lanes.proofs.RecordLaws.{recordOf-sampled}
-use Rattle.lanes.specs.Cabinet.{stand, sampledAt}
-use Rattle.lanes.proofs.CabinetLaws.{cabinetAt-lane, row-within, changed-sampled}
+use Rattle.lanes.specs.Cabinet.{stand}
+use Rattle.lanes.proofs.CabinetLaws.{cabinetAt-lane, row-within}
 use Rattle.engine.specs.Clock.{sampleWords}
-use Rattle.engine.proofs.CompareLaws.{held-shown, counts-shown}
+use Rattle.engine.proofs.CompareLaws.{held-shown}
 
 module _ (s : State) (m : List ℕ) (shows : Shows m s) (i : ℕ) (h : i < laneCount (s .sizes)) where
   abbrev l : Lane
@@ -38,23 +33,6 @@ module _ (s : State) (m : List ℕ) (shows : Shows m s) (i : ℕ) (h : i < laneC
   abbrev a : ℕ
   a = laneAddress (s .sizes) i
 
-  -- the lane holds its counts as they are, and keeps its bit
-  abbrev holding : Lane → Lane
-  holding k = setPending (k .pending) (held (l .quiescent)) k
-
-  flags-sampled : withBit snapshotBit (flags l) ≡ flags (holding l)
-  unfolding recordAt sampledRecord laneWords
-  flags-sampled = sym (ap (λ (r : LaneRecord). r .flags) (recordOf-sampled l (l .pending)))
-
-  copied-stored : LaneAtEach s → changedAt m a Sample ≡ stored (withLane s i holding) m
-  unfolding sampledAt snapshotCount laneWords
-  copied-stored each =
-      let e : a ≡ a + 0 = omega arith in
-      changed-sampled m a
-      ∙ ap₂ (λ (w : ℕ) (c : List ℕ). sets (set m a w) (a + snapshotAt) c)
-      (ap (withBit snapshotBit) (ap (at m) e ∙ shows .image (lane i 0) (h, omega arith)) ∙ flags-sampled) (counts-shown s m shows i h)
-      ∙ lane-snapshot s m shows each i h (held (l .quiescent))
-
   abbrev unsampled : Bool
   unsampled = l .pending && not (isHeld (l .snapshot))
 
@@ -62,9 +40,9 @@ module _ (s : State) (m : List ℕ) (shows : Shows m s) (i : ℕ) (h : i < laneC
   copied-by : LaneAtEach s → (b : Bool) → unsampled ≡ b → cond b (changedAt m a Sample) m ≡ stored (withLane s i sampled) m
   unfolding sampled
   copied-by each true e =
-      copied-stored each
+      record-sampled s m shows i h each
       ∙ ap (λ (ls : List Lane). stored (withEngine s (withLanes ls (s .engine))) m)
-      (update-alike freshLane (s .engine .lanes) i holding sampled
+      (update-alike freshLane (s .engine .lanes) i (holding (held (l .quiescent))) sampled
       (ap (λ (b : Bool). setPending b (held (l .quiescent)) l) (and-true (l .pending) (not (isHeld (l .snapshot))) e .0)
       ∙ sym (ap (λ (d : Bool). cond d (setPending true (held (l .quiescent)) l) l) e)))
   copied-by each false e =

@@ -60,10 +60,10 @@ pub recordAt-lane : (m : List ℕ) (a : ℕ) (l : Lane) → wordsAt m a recordLe
 recordAt-lane m a l e = recordAt-words m a ∙ ap (λ (ws : List ℕ). recordAt ws 0) e ∙ sym (recordAt-words (laneWords l) 0)
 
 -- four counts, one by one
-abbrev four : (ℕ → ℕ) → List ℕ
+abbrev pub four : (ℕ → ℕ) → List ℕ
 four c = c 0 ∷ c 1 ∷ c 2 ∷ c 3 ∷ []
 
-four-back : (c : List ℕ) → length c ≡ kinds → four (at c) ≡ c
+pub four-back : (c : List ℕ) → length c ≡ kinds → four (at c) ≡ c
 unfolding from
 four-back c h = map-from-getD (at c) 0 c kinds h (λ i b. refl)
 
@@ -75,52 +75,55 @@ wholes-back : (c : ℕ → ℕ) → readCounts (countWords c) 0 ≡ four c
 wholes-back c = λ j. whole-back (c 0) j ∷ whole-back (c 1) j ∷ whole-back (c 2) j ∷ whole-back (c 3) j ∷ []
 
 -- the record of lane l with these counts and snapshot counts
-abbrev ofLane : Lane → List ℕ → List ℕ → LaneRecord
+abbrev pub ofLane : Lane → List ℕ → List ℕ → LaneRecord
 ofLane l q s = recordWith (laneWords l) 0 q s (queueAt (laneWords l) queuesAt) (queueAt (laneWords l) (queuesAt + currentOffset))
     (queueAt (laneWords l) (queuesAt + doneOffset)) (lookupWordsAt (laneWords l) lookupAt)
 
--- of a lane with a count for each kind
-pub recordOf-is : (l : Lane) → length (l .quiescent) ≡ kinds → recordOf l ≡ ofLane l (l .quiescent) (four (snapshotCount (l .snapshot)))
+pub recordOf-is : (l : Lane) → recordOf l ≡ ofLane l (four (quiescentCount l)) (four (snapshotCount (l .snapshot)))
 unfolding recordAt laneWords
-recordOf-is l h =
-    ap₂ (ofLane l) (wholes-back (quiescentCount l) ∙ four-back (l .quiescent) h) (wholes-back (snapshotCount (l .snapshot)))
+recordOf-is l = ap₂ (ofLane l) (wholes-back (quiescentCount l)) (wholes-back (snapshotCount (l .snapshot)))
 
 -- its words are the lane's
-pub recordWords-recordOf : (l : Lane) → length (l .quiescent) ≡ kinds → recordWords (recordOf l) ≡ wordsAt (laneWords l) 0 recordLength
+pub recordWords-recordOf : (l : Lane) → recordWords (recordOf l) ≡ wordsAt (laneWords l) 0 recordLength
 unfolding recordWords laneWords from
-recordWords-recordOf l h = ap recordWords (recordOf-is l h)
+recordWords-recordOf l = ap recordWords (recordOf-is l)
 
 -- the flags of a lane, bit 0 first
 abbrev laneFlags : Lane → List Bool
 laneFlags l = l .online ∷ l .reading ∷ isRunning (l .lookup) ∷ isHeld (l .snapshot) ∷ []
 
-module _ (l : Lane) (h : length (l .quiescent) ≡ kinds) where
-  pub recordOf-counted : (k : ℕ) → recordOf (counted k l) ≡ countedRecord (recordOf l) k
-  unfolding countedRecord laneWords counted flags update
-  recordOf-counted k =
-      recordOf-is (counted k l) (length-update (l .quiescent) k (upTo countLimit) ∙ h)
-      ∙ sym (ap (λ (r : LaneRecord). countedRecord r k) (recordOf-is l h))
+module _ (l : Lane) where
+  pub recordOf-counted : (k : ℕ) → length (l .quiescent) ≡ kinds → recordOf (counted k l) ≡ countedRecord (recordOf l) k
+  unfolding countedRecord laneWords counted flags
+  recordOf-counted k h =
+      recordOf-is (counted k l)
+      ∙ ap (λ (q : List ℕ). ofLane l q (four (snapshotCount (l .snapshot))))
+      (four-back (update (l .quiescent) k (upTo countLimit)) (length-update (l .quiescent) k (upTo countLimit) ∙ h)
+      ∙ ap (λ (q : List ℕ). update q k (upTo countLimit)) (sym (four-back (l .quiescent) h)))
+      ∙ sym (ap (λ (r : LaneRecord). countedRecord r k) (recordOf-is l))
+
+  -- with these flags and snapshot counts
+  abbrev marked : (w : ℕ) (c : List ℕ) → LaneRecord
+  marked w c = withSnapshot w c (ofLane l (four (quiescentCount l)) [])
 
   pub recordOf-sampled : (b : Bool) → recordOf (setPending b (held (l .quiescent)) l) ≡ sampledRecord (recordOf l)
   unfolding sampledRecord laneWords snapshotCount isHeld flags
   recordOf-sampled b =
-      recordOf-is (setPending b (held (l .quiescent)) l) h
-      ∙ ap₂ (λ (w : ℕ) (c : List ℕ). withSnapshot w c (ofLane l (l .quiescent) c))
-      (sym (withBit-mask (laneFlags l) (omega arith) snapshotBit (omega arith))) (four-back (l .quiescent) h)
-      ∙ sym (ap sampledRecord (recordOf-is l h))
+      recordOf-is (setPending b (held (l .quiescent)) l)
+      ∙ ap (λ (w : ℕ). marked w (four (quiescentCount l)))
+      (sym (withBit-mask (laneFlags l) (omega arith) snapshotBit (omega arith)))
+      ∙ sym (ap sampledRecord (recordOf-is l))
 
   pub recordOf-dropped : (b : Bool) → recordOf (setPending b unheld l) ≡ droppedRecord (recordOf l)
   unfolding droppedRecord laneWords snapshotCount isHeld flags
   recordOf-dropped b =
-      recordOf-is (setPending b unheld l) h
-      ∙ ap (λ (w : ℕ). withSnapshot w (0 ∷ 0 ∷ 0 ∷ 0 ∷ []) (ofLane l (l .quiescent) []))
-      (sym (withoutBit-mask (laneFlags l) (omega arith) snapshotBit (omega arith)))
-      ∙ sym (ap droppedRecord (recordOf-is l h))
+      recordOf-is (setPending b unheld l)
+      ∙ ap (λ (w : ℕ). marked w (0 ∷ 0 ∷ 0 ∷ 0 ∷ [])) (sym (withoutBit-mask (laneFlags l) (omega arith) snapshotBit (omega arith)))
+      ∙ sym (ap droppedRecord (recordOf-is l))
 
   pub recordOf-offline : recordOf (setOnline false l) ≡ offlineRecord (recordOf l)
-  unfolding offlineRecord laneWords snapshotCount isHeld flags
+  unfolding offlineRecord laneWords isHeld flags
   recordOf-offline =
-      recordOf-is (setOnline false l) h
-      ∙ ap (λ (w : ℕ). withSnapshot w (four (snapshotCount (l .snapshot))) (ofLane l (l .quiescent) []))
-      (sym (withoutBit-mask (laneFlags l) (omega arith) onlineBit (omega arith)))
-      ∙ sym (ap offlineRecord (recordOf-is l h))
+      recordOf-is (setOnline false l)
+      ∙ ap (λ (w : ℕ). marked w (four (snapshotCount (l .snapshot)))) (sym (withoutBit-mask (laneFlags l) (omega arith) onlineBit (omega arith)))
+      ∙ sym (ap offlineRecord (recordOf-is l))

@@ -3,11 +3,9 @@ use Prim.Native.Nat.{ℕ, _+_, _<_}
 use mathlib.Core.Path.{_≡_, refl, ap, sym, _∙_}
 use mathlib.Core.List.{List}
 use lib.ListN.{set}
-use borrow.Author.Tests.{leb-false}
-use Rattle.model.specs.Word.{upTo}
 use Rattle.model.specs.Lists.{update, first}
 use Rattle.model.specs.State.{Lookup, laneCount, running, Lane, State}
-use Rattle.model.specs.Layout.{kinds, countLimit, quiescentAt, positionAt, laneAddress}
+use Rattle.model.specs.Layout.{positionAt, laneAddress}
 use Rattle.model.specs.Engine.{freshLane, setLookup, withLanes}
 use Rattle.model.specs.Table.{chainOf, linkOf}
 use Rattle.model.specs.Rules.{start, step, pass, laneOf, outcome, going, continued, stepped, withEngine, performed}
@@ -18,7 +16,10 @@ use Rattle.representation.proofs.WellFormed.{WellFormed}
 use Rattle.laws.specs.Updates.{update-alike}
 use Rattle.changes.proofs.Shows.{Shows}
 use Rattle.changes.proofs.OfLanes.OneLane.{storedFrom}
-use Rattle.changes.proofs.OfLanes.LaneWords.{lookupWords, lane-lookup, lane-position, lane-count}
+use Rattle.lanes.specs.declared.Change.the-variants.{Pass}
+use Rattle.lanes.specs.RecordChanges.{changedAt}
+use Rattle.changes.proofs.OfLanes.LaneWords.{lookupWords, lane-lookup, lane-position}
+use Rattle.changes.proofs.OfLanes.LaneRecords.{record-passed}
 
 module _ (s : State) (m : List ℕ) (shows : Shows m s) (w : WellFormed s) (i : ℕ) where
   abbrev l : Lane
@@ -36,9 +37,9 @@ module _ (s : State) (m : List ℕ) (shows : Shows m s) (w : WellFormed s) (i : 
   unfolding performed
   start-stored c known = lane-lookup s m shows (w .lanes) i known (started c)
 
-  pub pass-stored : (k : ℕ) → PassAccepted s i k → update m (a + quiescentAt + k) (upTo countLimit) ≡ stored (performed s (pass i k)) m
+  pub pass-stored : (k : ℕ) → PassAccepted s i k → changedAt m a (Pass k) ≡ stored (performed s (pass i k)) m
   unfolding performed
-  pass-stored k h = lane-count s m shows (w .lanes) i (h .lane .known) k (leb-false kinds k (h .inRange)) (w .fits i .counts .four)
+  pass-stored k h = record-passed s m shows i (h .lane .known) (w .lanes) k (w .fits i .counts .four)
 
   -- ---- step
 
