@@ -22,7 +22,7 @@
  * so are those that differ by a shift of a lane's count and snapshot of one kind, or of
  * the count alone where no snapshot is held; the search goes on from the one that has the
  * generation and the snapshots named below. A count ahead of its snapshot is 1, 2 and so
- * on ahead, which differ alike: 1 stands for all of them but the last, PT_NONE ahead, from
+ * on ahead, which differ alike: 1 stands for all of them but the last, UINT64_MAX ahead, from
  * which a pass brings the count round to its snapshot. Where a table says "around" that
  * last one is reached at once, by "many passes"; elsewhere lists that long are left out.
  * Nothing else is: on a table without a bound of levels the search covers lists of any
@@ -38,6 +38,7 @@
 #include "compare.h"
 #include "layout.h"
 #include "ledger.h"
+#include "lent.h"
 #include "line.h"
 #include "progress.h"
 #include "reference.h"
@@ -50,7 +51,7 @@ struct table_form {
 	uint32_t changing, reading; /* masks of the lanes that change records, and that read */
 	uint32_t around;	    /* 1: counts come round to their snapshots, as above */
 	uint32_t generation;	    /* the current one of every state */
-	uint32_t count;		    /* every snapshot, and every count without one */
+	uint64_t count;		    /* every snapshot, and every count without one */
 	uint32_t levels;	    /* calls of the longest lists; 0: no bound */
 };
 
@@ -58,7 +59,7 @@ struct table_form {
 static const struct table_form forms[] = {
 	{ 1, 1, 1, 2, 1, 4, 1, 1, 1, 1, 0, 0 },
 	{ 1, 1, 2, 2, 1, 2, 1, 1, 1, 1, 0, 0 },
-	{ 1, 1, 2, 2, 0, 2, 1, 1, 1, PT_NONE, PT_NONE, 0 },
+	{ 1, 1, 2, 2, 0, 2, 1, 1, 1, PT_NONE, UINT64_MAX, 0 },
 	{ 1, 1, 3, 2, 1, 1, 1, 1, 1, 1, 0, 14 },
 	{ 1, 2, 1, 2, 0, 1, 3, 3, 1, 1, 0, 0 },
 	{ 1, 3, 1, 1, 0, 1, 1, 6, 1, 1, 0, 0 },
@@ -206,16 +207,14 @@ static uint32_t *lane_words(uint32_t *memory, uint32_t lane)
 
 static void shift_counts(uint32_t *lane, uint32_t kind)
 {
-	uint32_t *count = &lane[LANE_COUNTS + kind];
-	uint32_t *snapshot = &lane[LANE_SNAPSHOT + kind];
-	uint32_t ahead = *count - *snapshot;
+	uint64_t ahead = lent_count(lane + LANE_COUNTS, kind) - lent_count(lane + LANE_SNAPSHOT, kind);
 
-	*count = form->count;
+	lent_put_count(lane + LANE_COUNTS, kind, form->count);
 	if (!(lane[LANE_FLAGS] & FLAG_SNAPSHOT))
 		return;
-	*snapshot = form->count;
+	lent_put_count(lane + LANE_SNAPSHOT, kind, form->count);
 	if (ahead != 0)
-		*count += ahead == PT_NONE ? PT_NONE : 1;
+		lent_put_count(lane + LANE_COUNTS, kind, form->count + (ahead == UINT64_MAX ? ahead : 1));
 }
 
 static void shift_generation(uint32_t *generation, const uint32_t *current_queue, uint32_t by)
@@ -438,14 +437,14 @@ static bool drops(const struct state *state, const struct call *call)
 static void many_passes(const struct state *from, uint32_t number, uint32_t at)
 {
 	const struct call *call = &alphabet[at];
-	uint32_t place_of_count = LANE_COUNTS + (uint32_t)call->argument[1];
+	uint32_t kind = (uint32_t)call->argument[1];
 	struct state state = *from;
 	uint32_t *lane = lane_words(state.memory, (uint32_t)call->argument[0]);
 
 	if (!(lane[LANE_FLAGS] & FLAG_SNAPSHOT) || lane[LANE_FLAGS] & FLAG_READING ||
-			lane[place_of_count] != form->count + 1)
+			lent_count(lane + LANE_COUNTS, kind) != form->count + 1)
 		return;
-	lane[place_of_count] = form->count - 1;
+	lent_put_count(lane + LANE_COUNTS, kind, form->count - 1);
 	meet(&state, number, at, kept[number].level + 1);
 }
 

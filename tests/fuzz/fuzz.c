@@ -3,7 +3,8 @@
  * bytes (stream.h). Each step is taken on both and judged as in every comparison (beside.h):
  * status, answer and every word; what stays; legality; and the ledger of demand 3, which
  * counts the steps of lookups and what comes to done queues too, as long as nothing was
- * damaged. A difference is shrunk and printed, and ends the run.
+ * damaged. A difference is shrunk and printed, and ends the run. Old memories, of version 2,
+ * are made by the C version of version 2, and carried.
  *
  * The library is not compiled with the sanitizers. So memory and answer end where a page
  * begins that may be neither read nor written: a word past what is lent ends the run, and
@@ -15,6 +16,7 @@
 #include <stdlib.h>
 
 #include "layout.h"
+#include "old.h"
 #include "record.h"
 #include "shrink.h"
 #include "stream.h"
@@ -34,6 +36,7 @@ static uint64_t labels[2][PT_WRONG_LABEL + 1]; /* read and written: 0, and by ca
 static uint64_t dropped; /* lookups, by the ends of their sections */
 static uint64_t attained; /* lookups that step n + 1 answered, and none before it */
 static uint64_t moving[CALLS]; /* calls that brought slots to done queues */
+static uint64_t old_calls, carries[PT_SHORT_SECOND + 1], stepped; /* carries: 0, and by cause; calls after one, in step */
 
 static void report(void)
 {
@@ -48,6 +51,9 @@ static void report(void)
 	printf("\nfuzz: lookups dropped %" PRIu64 ", answered by step n + 1 and no sooner %" PRIu64, dropped, attained);
 	printf("\nfuzz: clocks that moved slots into done queues %" PRIu64 ", offs %" PRIu64, moving[CALL_CLOCK],
 		moving[CALL_OFF]);
+	printf("\nfuzz: calls on old memories %" PRIu64 ", carried %" PRIu64 ", 3: %" PRIu64 ", 19: %" PRIu64
+		"; calls after it in step with the old memory %" PRIu64,
+		old_calls, carries[PT_OK], carries[PT_NOT_LEGAL], carries[PT_SHORT_SECOND], stepped);
 	printf("\nfuzz: labels read %" PRIu64 ", 18: %" PRIu64 "; written %" PRIu64 ", 11: %" PRIu64 ", 18: %" PRIu64 "\n",
 		labels[0][PT_OK], labels[0][PT_WRONG_LABEL], labels[1][PT_OK], labels[1][PT_OUT_OF_RANGE],
 		labels[1][PT_WRONG_LABEL]);
@@ -69,6 +75,7 @@ static void count_call(const struct call *call, uint32_t status)
 	fed += beside.fed ? 1 : 0;
 	attained += beside.attained ? 1 : 0;
 	moving[call->name] += beside.moved > 0 ? 1 : 0;
+	stepped += beside.stepped ? 1 : 0;
 	if (status == PT_SHORT_ANSWER)
 		short_answers++;
 	else if (status != PT_OK)
@@ -109,8 +116,12 @@ static void take(const struct step *step)
 	record_step(&record, &beside, step);
 	if (record.difference != SAME)
 		fault();
-	if (step->kind == STEP_CALL)
+	if (step_is_old_call(step))
+		old_calls++;
+	else if (step->kind == STEP_CALL)
 		count_call(&step->call, beside.left.status);
+	else if (step->kind == STEP_CARRY && beside.left.status != PT_SHORT_ANSWER)
+		carries[beside.left.status]++;
 	else if (step_is_label(step) && beside.left.status != PT_SHORT_ANSWER)
 		labels[step->kind == STEP_WRITE][beside.left.status]++;
 }
@@ -131,12 +142,22 @@ static uint32_t size(int n, uint32_t most)
 	return beside.memory[n] % (most + 1);
 }
 
-/* How many words a number lends. */
-static uint32_t lent(uint32_t number)
+static uint32_t total_now(void)
 {
-	uint32_t total = (uint32_t)PT_WORDS(size(1, PT_MAX_CABINETS), size(2, PT_MAX_LANES),
-			size(3, PT_MAX_SLOTS));
+	return (uint32_t)PT_WORDS(size(1, PT_MAX_CABINETS), size(2, PT_MAX_LANES), size(3, PT_MAX_SLOTS));
+}
 
+static uint32_t old_total_now(void)
+{
+	const uint32_t sizes[3] = { beside.old[1] % (PT_MAX_CABINETS + 1), beside.old[2] % (PT_MAX_LANES + 1),
+		beside.old[3] % (PT_MAX_SLOTS + 1) };
+
+	return old_total(sizes);
+}
+
+/* How many words a number lends, of a memory that takes so many. */
+static uint32_t lent(uint32_t number, uint32_t total)
+{
 	if (number < 16)
 		return total + number - 8;
 	if (number < 32)
@@ -152,6 +173,39 @@ static void damage(struct stream *stream, uint32_t operation)
 	if (words == 0)
 		return;
 	take_other(STEP_POKE, at % words, operation == POKE ? value : beside.memory[value % words]);
+}
+
+/* The same on the old memory. */
+static void damage_old(struct stream *stream, uint32_t operation)
+{
+	uint32_t at = (uint32_t)stream_bytes(stream, 2), words = (uint32_t)beside.old_words;
+	uint32_t value = operation == POKE ? stream_number(stream) : (uint32_t)stream_bytes(stream, 2);
+
+	if (words == 0)
+		return;
+	take(&(struct step){ .kind = STEP_POKE, .old = true, .number = at % words,
+		.value = operation == POKE ? value : beside.old[value % words] });
+}
+
+/* An operation on the old memory. */
+static void operate_old(struct stream *stream)
+{
+	uint32_t operation = stream_byte(stream) % OPERATIONS;
+	uint32_t lanes = beside.old[1] % (PT_MAX_CABINETS + 1) * (beside.old[2] % (PT_MAX_LANES + 1));
+
+	switch (operation) {
+	case POKE:
+	case COPY:
+		damage_old(stream, operation);
+		break;
+	case LEND:
+		take(&(struct step){ .kind = STEP_LEND, .old = true, .number = lent(stream_number(stream), old_total_now()) });
+		break;
+	default:
+		if (operation < CALLS)
+			take(&(struct step){ .kind = STEP_CALL, .old = true,
+				.call = stream_call(stream, (enum call_name)operation, lanes) });
+	}
 }
 
 static uint32_t lanes_of_table(void)
@@ -185,7 +239,7 @@ static void operate(struct stream *stream)
 		damage(stream, operation);
 		break;
 	case LEND:
-		take_other(STEP_LEND, lent(stream_number(stream)), 0);
+		take_other(STEP_LEND, lent(stream_number(stream), total_now()), 0);
 		break;
 	case ANSWER:
 		take_other(STEP_ANSWER, stream_byte(stream) % (BESIDE_ANSWER + 1), 0);
@@ -195,6 +249,12 @@ static void operate(struct stream *stream)
 		break;
 	case ROUND:
 		round_of_lanes();
+		break;
+	case OLD:
+		operate_old(stream);
+		break;
+	case CARRY:
+		take_other(STEP_CARRY, 0, 0);
 		break;
 	case READ:
 	case WRITE:

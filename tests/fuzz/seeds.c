@@ -106,6 +106,11 @@ static void put_line(const char *line)
 	} else if (sscanf(line, "answer %" SCNu32, &a) == 1) {
 		put(ANSWER, 1);
 		put(a, 1);
+	} else if (strncmp(line, "old ", strlen("old ")) == 0) {
+		put(OLD, 1);
+		put_line(line + strlen("old "));
+	} else if (strcmp(line, "carry") == 0) {
+		put(CARRY, 1);
 	} else if (strcmp(line, "mend") == 0) {
 		put(MEND, 1);
 	} else if (strcmp(line, "round") == 0) {
@@ -134,14 +139,24 @@ static void make_written(const char *path, const char *directory)
 	fclose(text);
 }
 
-/* A list of calls on a table: many of the calls are accepted. */
-static void put_random(uint32_t cabinets, uint32_t lanes, uint32_t slots, uint32_t count)
+/* A list of calls on a table: many of the calls are accepted. The old ones are carried after them. */
+static void put_random(uint32_t cabinets, uint32_t lanes, uint32_t slots, uint32_t count, uint32_t old)
 {
 	uint64_t state = cabinets * 100 + lanes * 10 + slots;
 	const struct list list = { cabinets, lanes, slots, 8, count, 1 };
 	struct call call = { CALL_SETUP, { cabinets, lanes, slots } };
 
-	put_call(&call);
+	for (uint32_t n = 0; n < old; n++) {
+		put(OLD, 1);
+		put_call(&call);
+		do
+			call = draw_call(&state, &list);
+		while (call.name == CALL_SETUP);
+	}
+	if (old > 0)
+		put(CARRY, 1);
+	else
+		put_call(&call);
 	for (uint32_t n = 0; n < count; n++) {
 		call = draw_call(&state, &list);
 		put_call(&call);
@@ -160,11 +175,13 @@ int main(int arguments, char **argument)
 
 	CHECK(arguments == 3);
 	make_written(argument[1], argument[2]);
-	for (size_t n = 0; n < sizeof sizes / sizeof sizes[0]; n++) {
-		snprintf(name, sizeof name, "random-%" PRIu32 "-%" PRIu32 "-%" PRIu32,
-			sizes[n][0], sizes[n][1], sizes[n][2]);
+	for (size_t n = 0; n < 2 * sizeof sizes / sizeof sizes[0]; n++) {
+		const uint32_t *size = sizes[n / 2];
+
+		snprintf(name, sizeof name, "%s-%" PRIu32 "-%" PRIu32 "-%" PRIu32, n % 2 == 0 ? "random" : "carried",
+			size[0], size[1], size[2]);
 		seed_open(argument[2], name);
-		put_random(sizes[n][0], sizes[n][1], sizes[n][2], 100);
+		put_random(size[0], size[1], size[2], 100, n % 2 == 0 ? 0 : 60);
 	}
 	CHECK(seed == NULL || fclose(seed) == 0);
 	return 0;

@@ -13,7 +13,10 @@
  *   READ, a byte: a label of so many bytes, modulo LABEL_MOST and one, is read, and then its
  *     bytes follow: one below BYTES is a digit by its last, one from there on comes before
  *     the byte that is meant;
- *   WRITE, a byte and a code: the code's label is written into so many bytes.
+ *   WRITE, a byte and a code: the code's label is written into so many bytes;
+ *   OLD, and then a call, POKE, COPY or LEND on the old memory, of version 2; other operations
+ *     have none there, and do nothing;
+ *   CARRY: from the old memory into the memory.
  * A number is a byte below EDGES for itself, one of the edges, or RAW and four bytes,
  * low byte first. A lane is a number too, but bytes from LANES to EDGES are taken modulo
  * the table's lanes and one. A code is a byte below EDGES for one of 32 codes, a code
@@ -39,6 +42,8 @@ enum {
 	ROUND,
 	READ,
 	WRITE,
+	OLD,
+	CARRY,
 	OPERATIONS
 };
 

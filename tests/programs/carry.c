@@ -14,6 +14,7 @@
 #include "damages.h"
 #include "draw.h"
 #include "lent.h"
+#include "old.h"
 #include "record.h"
 #include "reference_v2.h"
 
@@ -31,55 +32,17 @@ static uint32_t draw(uint32_t below)
 
 /* ---- the words that the papers' numbers give */
 
-struct sizes {
-	uint32_t cabinets, lanes, slots;
-};
-
-static struct sizes sizes_of(const uint32_t *memory)
-{
-	return (struct sizes){ memory[1], memory[2], memory[3] };
-}
-
-static uint32_t old_total(struct sizes s)
-{
-	return 92 + s.cabinets + 22 * s.cabinets * s.lanes + 6 * s.slots;
-}
-
-static uint32_t new_total(struct sizes s)
-{
-	return 92 + s.cabinets + 30 * s.cabinets * s.lanes + 6 * s.slots;
-}
-
-/*
- * Where a word of version 3 stood in version 2, in a table of so many cabinets and lanes: none
- * for the high word of a count. Words 1 to 16 of a lane are counts and snapshot counts.
- */
-static uint32_t old_address(struct sizes s, uint32_t address)
-{
-	uint32_t first = 92 + s.cabinets, all = s.cabinets * s.lanes, lane, word;
-
-	if (address < first)
-		return address;
-	if (address >= first + 30 * all)
-		return address - 8 * all;
-	lane = (address - first) / 30;
-	word = (address - first) % 30;
-	if (word >= 1 && word <= 16)
-		return word % 2 == 0 ? PT_NONE : first + 22 * lane + 1 + word / 2;
-	return first + 22 * lane + (word == 0 ? 0 : word - 8);
-}
-
 /* The second memory has the old one's words, counts in two and contents of its own. */
 static void check_words(const uint32_t *old, const uint32_t *memory)
 {
-	struct sizes s = sizes_of(old);
-	uint32_t lanes = 30 * s.cabinets * s.lanes, first = 92 + s.cabinets;
-	const uint32_t contents[12] = { 3, s.cabinets, s.lanes, s.slots, 12, 80, 92, s.cabinets, first, lanes,
-		first + lanes, 6 * s.slots };
+	const uint32_t *sizes = old + 1;
+	uint32_t lanes = 30 * sizes[0] * sizes[1], first = 92 + sizes[0];
+	const uint32_t contents[12] = { 3, sizes[0], sizes[1], sizes[2], 12, 80, 92, sizes[0], first, lanes,
+		first + lanes, 6 * sizes[2] };
 
 	CHECK(memcmp(memory, contents, sizeof contents) == 0);
-	for (uint32_t n = 12; n < new_total(s); n++) {
-		uint32_t address = old_address(s, n);
+	for (uint32_t n = 12; n < new_total(sizes); n++) {
+		uint32_t address = old_address(sizes, n);
 
 		CHECK(memory[n] == (address == PT_NONE ? 0 : old[address]));
 	}
@@ -112,12 +75,12 @@ static void count_lane(const uint32_t *lane)
 
 static void count_carried(void)
 {
-	struct sizes s = sizes_of(beside.old);
+	const uint32_t *sizes = beside.old + 1;
 
 	carried++;
 	running += beside.old[V2_CONTENTS_WORDS + V2_GLOBAL_PENDING] != 0 ? 1 : 0;
-	for (uint32_t l = 0; l < s.cabinets * s.lanes; l++)
-		count_lane(beside.old + 92 + s.cabinets + 22 * l);
+	for (uint32_t l = 0; l < sizes[0] * sizes[1]; l++)
+		count_lane(beside.old + 92 + sizes[0] + 22 * l);
 }
 
 /* From the old memory into so many words of no meaning, at one edge; @status is expected. */
@@ -145,7 +108,7 @@ static void carry(size_t words, size_t answer_words, uint32_t status)
 	for (int edge = 0; edge < 2; edge++) {
 		carry_at(edge == 1, words, answer_words, status);
 		if (status == PT_OK) {
-			CHECK(beside.left.answer[1] == new_total(sizes_of(beside.old)));
+			CHECK(beside.left.answer[1] == new_total(beside.old + 1));
 			check_words(beside.old, beside.left.memory);
 		}
 	}
@@ -160,7 +123,7 @@ static void carry(size_t words, size_t answer_words, uint32_t status)
 /* The old memory is legal, and is carried. */
 static void carry_legal(void)
 {
-	carry(new_total(sizes_of(beside.old)) + draw(4), BESIDE_ANSWER, PT_OK);
+	carry(new_total(beside.old + 1) + draw(4), BESIDE_ANSWER, PT_OK);
 }
 
 /* ---- old memories */
@@ -189,7 +152,7 @@ static void start_halfway(void)
 {
 	start();
 	old_lines(halfway, HALFWAY);
-	CHECK(old_total(sizes_of(beside.old)) == HALFWAY_OLD && new_total(sizes_of(beside.old)) == HALFWAY_NEW);
+	CHECK(old_total(beside.old + 1) == HALFWAY_OLD && new_total(beside.old + 1) == HALFWAY_NEW);
 	beside.old_words = HALFWAY_OLD;
 }
 
@@ -241,10 +204,10 @@ static void test_counts(void)
 /* ---- drawn memories */
 
 /* Counts and held snapshots about the wrap: alike, behind, ahead, and far off. */
-static void draw_counts(struct sizes s)
+static void draw_counts(const uint32_t sizes[3])
 {
-	for (uint32_t l = 0; l < s.cabinets * s.lanes; l++) {
-		uint32_t *lane = beside.old + 92 + s.cabinets + 22 * l;
+	for (uint32_t l = 0; l < sizes[0] * sizes[1]; l++) {
+		uint32_t *lane = beside.old + 92 + sizes[0] + 22 * l;
 
 		for (uint32_t kind = 0; kind < V2_KINDS; kind++) {
 			uint32_t count = draw(2) == 0 ? PT_NONE - draw(3) : draw(3);
@@ -267,10 +230,10 @@ static void old_call(const struct call *call)
 
 static void test_drawn_list(const struct list *list, uint32_t calls)
 {
-	struct sizes s = { list->cabinets, list->lanes, list->slots };
+	const uint32_t sizes[3] = { list->cabinets, list->lanes, list->slots };
 
 	start();
-	old_call(&(struct call){ CALL_SETUP, { s.cabinets, s.lanes, s.slots } });
+	old_call(&(struct call){ CALL_SETUP, { sizes[0], sizes[1], sizes[2] } });
 	beside.old_fed = false; /* words are changed that no call has changed */
 	beside.old[V2_CONTENTS_WORDS + V2_GLOBAL_CURRENT_GENERATION] = list->generation;
 	beside.old[V2_CONTENTS_WORDS + V2_GLOBAL_LARGEST_GENERATION] = list->generation - 1u;
@@ -281,8 +244,8 @@ static void test_drawn_list(const struct list *list, uint32_t calls)
 			old_call(&call);
 		if (n % 8 != 7)
 			continue;
-		draw_counts(s);
-		beside.old_words = old_total(s) + draw(4);
+		draw_counts(sizes);
+		beside.old_words = old_total(sizes) + draw(4);
 		carry_legal();
 	}
 }
@@ -344,7 +307,7 @@ static void test_no_memory(void)
 
 /* ---- damaged old memories */
 
-static const struct sizes damaged_sizes = { DAMAGES_CABINETS, DAMAGES_LANES, DAMAGES_SLOTS };
+static const uint32_t damaged_sizes[3] = { DAMAGES_CABINETS, DAMAGES_LANES, DAMAGES_SLOTS };
 static uint32_t fresh[BESIDE_WORDS], rich[BESIDE_WORDS];
 
 static void build_damaged(void)

@@ -1,6 +1,6 @@
 /*
  * parts.c - the lists of a trial: the cases of documents 01 and 02, every cause with its neighbours,
- * damaged memories, lengths at the edge of a page, labels, and lists that are drawn.
+ * damaged memories, lengths at the edge of a page, carries, labels, and lists that are drawn.
  */
 #include "trial.h"
 
@@ -14,6 +14,7 @@
 #include "damages.h"
 #include "draw.h"
 #include "layout.h"
+#include "old.h"
 
 #define COUNT(list) (uint32_t)(sizeof(list) / sizeof((list)[0]))
 
@@ -78,6 +79,31 @@ static const char *const stars[][CASE_STEPS] = {
 	{ "setup 1 1 2", "poke 0 1", "awaited", "clock 0", "poke 0 2", "awaited", "poke 0 4", "awaited", "poke 0 3", "awaited" },
 	{ "setup 1 1 2", "poke 81 1", "awaited", "poke 81 3", "awaited", "poke 81 2", "poke 113 1", "clock 0", "poke 113 0",
 		"poke 116 1", "clock 0", "poke 116 0", "poke 119 1", "back 0", "poke 119 0", "awaited" },
+	/* a count carries into its high word, and wraps; one that differs from its snapshot in the high word alone */
+	{ "setup 1 1 2", "add 0 17 1 1", "del 0 17", "poke 94 4294967295", "clock 0", "clock 0", "pass 0 0", "clock 0", "back 0" },
+	{ "setup 1 1 2", "add 0 17 1 1", "del 0 17", "poke 94 4294967295", "poke 95 4294967295", "clock 0", "clock 0",
+		"pass 0 0", "clock 0", "back 0" },
+	{ "setup 1 1 2", "add 0 17 1 1", "del 0 17", "clock 0", "poke 95 1", "clock 0", "back 0" },
+	/* a section open, a lookup on a removed slot, a period running: carried, and all of it ends */
+	{ "old setup 1 2 3", "old add 0 17 25 1", "old add 0 529 30 2", "old begin 1", "old start 1 17", "old step 1",
+		"old del 0 17", "old clock 0", "carry", "awaited", "step 1", "end 1", "clock 1", "pass 1 0", "clock 1", "pass 0 0",
+		"clock 0", "back 0", "awaited" },
+	/* slots in every line, a lane that is off, kinds of counts: carried into a memory that has a list of its own */
+	{ "old setup 1 2 4", "old add 0 17 1 1", "old add 0 24 1 1", "old pass 0 3", "old pass 0 2", "old del 0 17", "old off 0",
+		"old del 1 24", "old clock 1", "setup 1 2 4", "add 0 31 1 1", "begin 0", "carry", "on 0", "pass 1 1", "clock 1",
+		"pass 1 1", "clock 1", "back 1", "awaited" },
+	/* counts are carried as they are: 6 before a snapshot of 7; and one that version 2 would wrap to its snapshot */
+	{ "old setup 1 1 2", "old add 0 17 1 1", "old del 0 17", "old clock 0", "old poke 94 6", "old poke 98 7", "carry", "clock 0",
+		"clock 0" },
+	{ "old setup 1 1 2", "old add 0 17 1 1", "old del 0 17", "old clock 0", "old poke 94 6", "old poke 98 7", "carry", "pass 0 0",
+		"clock 0", "pass 0 0", "clock 0", "back 0" },
+	{ "old setup 1 1 2", "old add 0 17 1 1", "old del 0 17", "old clock 0", "old poke 94 4294967295", "carry", "pass 0 0",
+		"clock 0", "back 0" },
+	{ "old setup 1 1 2", "old add 0 17 1 1", "old poke 94 4294967295", "old poke 97 4294967295", "carry", "del 0 17",
+		"clock 0", "clock 0", "pass 0 0", "clock 0", "back 0" },
+	/* a refused carry changes nothing and ends nothing: a short second memory, and an old one that is not legal */
+	{ "old setup 1 1 2", "setup 1 1 2", "begin 0", "start 0 17", "lend 134", "carry", "lend 135", "step 0", "old poke 0 3",
+		"carry", "lend 134", "carry", "lend 135", "end 0", "answer 4", "carry" },
 };
 
 /* The files of tests/listing that are lists of calls. */
@@ -372,6 +398,83 @@ static void play_edges(uint32_t n)
 	play_lengths(&list, STEP_LEND, 0, 30, &seed);
 }
 
+/* ---- carries: every sentence of legality of the old memory, every length of both, at both edges of a page */
+
+static const uint32_t damaged_sizes[3] = { DAMAGES_CABINETS, DAMAGES_LANES, DAMAGES_SLOTS };
+static const uint32_t halfway_sizes[3] = { 1, 2, 3 };
+
+/* A section open, a lookup halfway, a period running. */
+static const char *const halfway[] = {
+	"setup 1 2 3", "add 0 17 25 1", "add 0 529 30 2", "begin 1", "start 1 17", "step 1", "pass 0 3", "del 0 17", "clock 0",
+};
+
+static uint32_t carry_lists(void)
+{
+	return (uint32_t)damage_count + 2;
+}
+
+static void play_old_lines(const char *const *lines, size_t count)
+{
+	for (size_t n = 0; n < count; n++) {
+		char line[STEP_TEXT];
+
+		snprintf(line, sizeof line, "old %s", lines[n]);
+		player_line(line);
+	}
+}
+
+static void play_carry(void)
+{
+	player_step(&(struct step){ .kind = STEP_CARRY });
+}
+
+/* The words of version 2 that a damage changes; into enough words, and into too few. */
+static void play_damaged_carry(const struct damage *damage)
+{
+	play_old_lines(rich_calls, damage->base == BASE_RICH ? rich_count : 1);
+	for (int n = 0; n < POKES; n++) {
+		uint32_t address = old_address(damaged_sizes, damage->poke[n].address);
+
+		if (address != PT_NONE && (damage->poke[n].address != 0 || damage->poke[n].value != 0))
+			player_step(&(struct step){ .kind = STEP_POKE, .old = true, .number = address,
+				.value = damage->poke[n].value });
+	}
+	play_lend(new_total(damaged_sizes));
+	play_carry();
+	play_lend(new_total(damaged_sizes) - 1);
+	play_carry();
+}
+
+static void play_carry_lengths(void)
+{
+	uint32_t old = old_total(halfway_sizes), total = new_total(halfway_sizes);
+
+	play_old_lines(halfway, COUNT(halfway));
+	for (uint32_t words = 0; words <= total + 3; words++) {
+		play_lend(words);
+		play_carry();
+	}
+	for (uint32_t words = 0; words <= PT_ANSWER_WORDS + 3; words++) {
+		player_step(&(struct step){ .kind = STEP_ANSWER, .number = words });
+		play_carry();
+	}
+	for (uint32_t words = 0; words <= old + 3; words++) {
+		player_step(&(struct step){ .kind = STEP_LEND, .old = true, .number = words });
+		play_carry();
+	}
+}
+
+static void play_carries(uint32_t n)
+{
+	player_start(false);
+	player.beside.at_start = n % 2 == 1;
+	player.beside.all_lent = true;
+	if (n < damage_count)
+		play_damaged_carry(&damages[n]);
+	else
+		play_carry_lengths();
+}
+
 /* ---- labels: every length and every byte at every place, codes about every length, at both edges of a page */
 
 static const uint32_t label_lengths[] = { PT_LABEL_8, PT_LABEL_13, PT_LABEL_14 };
@@ -476,6 +579,7 @@ const struct part parts[] = {
 	{ "every cause with each of its neighbours", true, false, cause_lists, play_causes, 0 },
 	{ "damaged memories, a sentence of legality at a time", false, false, damage_lists, play_damages, 0 },
 	{ "every length at the edge of a page", false, false, edge_lists, play_edges, 0 },
+	{ "carries: every sentence of legality, every length", false, false, carry_lists, play_carries, 0 },
 	{ "labels: every length, every byte at every place", false, false, label_lists, play_labels, 0 },
 	{ "drawn lists, on a dozen sizes", true, false, NULL, play_random, 0.75 },
 	{ "drawn lists, judged by the ledger of demand 3", true, true, NULL, play_judged, 0.25 },

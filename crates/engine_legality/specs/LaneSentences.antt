@@ -8,7 +8,7 @@ use Rattle.model.specs.Word.{none, up, down, later}
 use Rattle.model.specs.Lists.{all, every, from}
 use Rattle.model.specs.Layout.{currentGenerationAt, largestGenerationAt, cabinetMaskAt, globalQueuesAt, globalGenerationAt, onlineBit, readingBit}
 use Rattle.model.specs.Layout.{lookupBit, snapshotBit, flagCount}
-use Rattle.model.specs.Layout.{kinds, flagsAt, snapshotAt, generationAt, queuesAt, currentOffset, doneOffset, lastOffset, lookupAt, positionAt, laneLength}
+use Rattle.model.specs.Layout.{countsWidth, flagsAt, snapshotAt, generationAt, queuesAt, currentOffset, doneOffset, lastOffset, lookupAt, positionAt, laneLength}
 use Rattle.model.specs.Rules.{wrongCode}
 use Rattle.model.specs.Memory.{at, wide, laneWord, maskWord, flag}
 use Rattle.model.specs.Legal.{implies, largestFits, periodRuns}
@@ -35,11 +35,15 @@ module _ (m : List ℕ) (b : ℕ) where
   abbrev pub lookupInRange : Bool
   lookupInRange = not (wrongCode (wide m (b + lookupAt)))
 
-  -- the snapshot's counts, and the lookup's words, hold their rest value
+  -- the words of the snapshot's counts, and the lookup's, hold their rest value
   abbrev pub snapshotBlank : Bool
   snapshotBlank =
       eqb (at m (b + snapshotAt)) 0
-      && (eqb (at m (b + (snapshotAt + 1))) 0 && (eqb (at m (b + (snapshotAt + 2))) 0 && (eqb (at m (b + (snapshotAt + 3))) 0 && true)))
+      && (eqb (at m (b + (snapshotAt + 1))) 0
+      && (eqb (at m (b + (snapshotAt + 2))) 0
+      && (eqb (at m (b + (snapshotAt + 3))) 0
+      && (eqb (at m (b + (snapshotAt + 4))) 0
+      && (eqb (at m (b + (snapshotAt + 5))) 0 && (eqb (at m (b + (snapshotAt + 6))) 0 && (eqb (at m (b + (snapshotAt + 7))) 0 && true)))))))
 
   abbrev pub lookupBlank : Bool
   lookupBlank = eqb (at m (b + lookupAt)) 0 && (eqb (at m (b + (lookupAt + 1))) 0 && (eqb (at m (b + positionAt)) none && true))
@@ -54,7 +58,7 @@ module _ (m : List ℕ) (b : ℕ) where
 -- the same of lane i, a test a sentence
 abbrev pub laneRests : List ℕ → List (ℕ → Bool)
 laneRests m =
-    (λ (i : ℕ). flag snapshotBit (laneWord m i flagsAt) || all (λ (k : ℕ). eqb (laneWord m i k) 0) (from snapshotAt kinds))
+    (λ (i : ℕ). flag snapshotBit (laneWord m i flagsAt) || all (λ (k : ℕ). eqb (laneWord m i k) 0) (from snapshotAt countsWidth))
     ∷ (λ (i : ℕ). flag lookupBit (laneWord m i flagsAt)
     || every (eqb (laneWord m i lookupAt) 0 ∷ eqb (laneWord m i (lookupAt + 1)) 0 ∷ eqb (laneWord m i positionAt) none ∷ []))
     ∷ []

@@ -4,7 +4,7 @@ ghost use Prim.Native.Nat.{_+_, _*_, _≤_};
 ghost use lib.ListN.{length};
 ghost use Rattle.model.specs.Layout.{maxPlaces, masksAt, laneLength, lanesBody};
 ghost use Rattle.words.specs.Lent.{sizesOf, Lent};
-ghost use Rattle.engine_legality.specs.LaneSentences.{laneInRange, lookupInRange, wordsAtRest, laneAtRest, noneQueuedAt, laneAgrees, laneFits};
+ghost use Rattle.engine_legality.specs.LaneSentences.{laneInRange, lookupInRange, snapshotBlank, wordsAtRest, laneAtRest, noneQueuedAt, laneAgrees, laneFits};
 ghost use Rattle.engine_legality.specs.LaneSentences.{cabinetLanes, allLanes};
 
 // how many flags a lane has
@@ -35,16 +35,27 @@ fn lookup_in_range(m: &[u32], b: usize) -> bool
     !(words::code_at(m, b + words::LOOKUP_AT) > words::MAX_CODE)
 }
 
+// The words of the snapshot's counts hold their rest value.
+fn snapshot_blank(m: &[u32], b: usize) -> bool
+    requires { ⌜ b + laneLength ≤ length (now m) ⌝ }
+    ensures { λ r. ⌜ r ≡ snapshotBlank (now (m .entry)) b ⌝ }
+{
+    (m[b + words::SNAPSHOT_AT] == 0)
+        & ((m[b + (words::SNAPSHOT_AT + 1)] == 0)
+            & ((m[b + (words::SNAPSHOT_AT + 2)] == 0)
+                & ((m[b + (words::SNAPSHOT_AT + 3)] == 0)
+                    & ((m[b + (words::SNAPSHOT_AT + 4)] == 0)
+                        & ((m[b + (words::SNAPSHOT_AT + 5)] == 0)
+                            & ((m[b + (words::SNAPSHOT_AT + 6)] == 0)
+                                & ((m[b + (words::SNAPSHOT_AT + 7)] == 0) & true)))))))
+}
+
 // The words that hold a rest value do, of a lane that holds a snapshot or not and runs a lookup or not.
 fn words_at_rest(m: &[u32], b: usize, held: bool, running: bool) -> bool
     requires { ⌜ b + laneLength ≤ length (now m) ⌝ }
     ensures { λ r. ⌜ r ≡ wordsAtRest (now (m .entry)) b held running ⌝ }
 {
-    (held
-        | ((m[b + words::SNAPSHOT_AT] == 0)
-            & ((m[b + (words::SNAPSHOT_AT + 1)] == 0)
-                & ((m[b + (words::SNAPSHOT_AT + 2)] == 0)
-                    & ((m[b + (words::SNAPSHOT_AT + 3)] == 0) & true)))))
+    (held | snapshot_blank(m, b))
         & ((running
             | ((m[b + words::LOOKUP_AT] == 0)
                 & ((m[b + (words::LOOKUP_AT + 1)] == 0)

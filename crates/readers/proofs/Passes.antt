@@ -12,8 +12,7 @@ use Rattle.words.specs.Lent.{sizesOf}
 use Rattle.lanes.specs.declared.Place.{Place}
 use Rattle.lanes.specs.declared.Change.the-variants.{Pass}
 use Rattle.lanes.specs.RecordChanges.{Fits, changedAt}
-use Rattle.lanes.specs.Cabinet.{LaneLent, countedAt}
-use Rattle.lanes.proofs.CabinetLaws.{changed-counted}
+use Rattle.lanes.specs.Cabinet.{LaneLent}
 use Rattle.changes.proofs.OfLanes.LaneCalls.{pass-stored}
 use Rattle.access.specs.declared.Answer.{Answer}
 use Rattle.access.specs.declared.Lane.{Lane}
@@ -49,7 +48,5 @@ module _ (m : List ℕ) (l : Lane) (v : Named m l) (k x : ℕ) (e : x ≡ refusa
     pass-done j r w ej er ew =
         performs m (pass (l .number) k) (v .sound) x r w e h er
         (ew
-        ∙ ap₂ (λ (a n : ℕ). changedAt m a (Pass n)) (place-address m l p v ep) ej
-        ∙ changed-counted m (l .address) k (pass-lane .inside) pass-kind
-        ∙ ap (λ (a : ℕ). countedAt m a k) (v .address)
+        ∙ ap₂ (λ (a n : ℕ). changedAt m a (Pass n)) (place-address m l p v ep ∙ v .address) ej
         ∙ pass-stored (state m) m (shown m (v .sound)) (wellFormed m (v .sound)) (l .number) k accepted)
