@@ -34,28 +34,15 @@
 #include <stdlib.h>
 #include <string.h>
 
-#include "codes.h"
+#include "alphabet.h"
 #include "compare.h"
 #include "layout.h"
 #include "ledger.h"
 #include "lent.h"
-#include "line.h"
 #include "progress.h"
 #include "reference.h"
 
-/* A table and its alphabet. */
-struct table_form {
-	uint32_t cabinets, lanes, slots, codes;
-	uint32_t absent; /* 1: lookups, too, of a code that no record has */
-	uint32_t kinds;
-	uint32_t changing, reading; /* masks of the lanes that change records, and that read */
-	uint32_t around;	    /* 1: counts come round to their snapshots, as above */
-	uint32_t generation;	    /* the current one of every state */
-	uint64_t count;		    /* every snapshot, and every count without one */
-	uint32_t levels;	    /* calls of the longest lists; 0: no bound */
-};
-
-/* In the order of the fields above. */
+/* In the order of the fields of alphabet.h. */
 static const struct table_form forms[] = {
 	{ 1, 1, 1, 2, 1, 4, 1, 1, 1, 1, 0, 0 },
 	{ 1, 1, 2, 2, 1, 2, 1, 1, 1, 1, 0, 0 },
@@ -75,9 +62,6 @@ enum {
 		LANE_WORDS * LEDGER_LANES + SLOT_WORDS * LEDGER_SLOTS,
 	LEDGER_WORDS = sizeof(struct ledger) / sizeof(uint32_t),
 	PACKED = WORDS + LEDGER_WORDS,
-	ALPHABET = 100,
-	MANY_PASSES = CALLS, /* stands for a call's name */
-	CODES = 2,	     /* at most */
 	PACKED_CODE = 100,   /* stands for the first code in a byte; plain words are below */
 };
 
@@ -94,13 +78,8 @@ struct kept {
 	uint32_t level;
 };
 
-static const struct table_form *form;
-static uint32_t lanes; /* of all cabinets */
 static size_t total;
 static uint32_t contents[CONTENTS_WORDS];
-static uint32_t codes[CODES]; /* of chain 0; the first is 0, as in free slots */
-static struct call alphabet[ALPHABET];
-static uint32_t letters;
 
 static struct kept *kept;
 static size_t states, room;
@@ -117,83 +96,6 @@ static uint64_t dropped; /* lookups, by the ends of their sections */
 static uint64_t attained; /* the figure, by lookups that step n + 1 answered */
 static uint64_t moving[CALLS]; /* calls that brought slots to done queues */
 static uint64_t moved_more;    /* clocks that brought more than one */
-
-/* ---- the alphabet */
-
-static void letter(enum call_name name, uint64_t a, uint64_t b, uint64_t c, uint64_t d)
-{
-	if (letters == ALPHABET) {
-		fprintf(stderr, "exhaustive: the alphabet is too long\n");
-		exit(2);
-	}
-	alphabet[letters++] = (struct call){ name, { a, b, c, d } };
-}
-
-/* The calls of a lane with a code. */
-static void code_letters(uint32_t lane, uint64_t code)
-{
-	if (form->changing >> lane & 1u) {
-		letter(CALL_ADD, lane, code, 1, 1);
-		letter(CALL_REPLACE, lane, code, 2, 2);
-		letter(CALL_DELETE, lane, code, 0, 0);
-	}
-	if (form->reading >> lane & 1u)
-		letter(CALL_START, lane, code, 0, 0);
-}
-
-static void pass_letters(uint32_t lane)
-{
-	for (uint32_t kind = 0; kind < form->kinds; kind++) {
-		letter(CALL_PASS, lane, kind, 0, 0);
-		if (form->around)
-			letter((enum call_name)MANY_PASSES, lane, kind, 0, 0);
-	}
-}
-
-static void lane_letters(uint32_t lane)
-{
-	for (uint32_t n = 0; n < form->codes; n++)
-		code_letters(lane, codes[n]);
-	if (form->absent && form->reading >> lane & 1u)
-		letter(CALL_START, lane, wrong_code(codes[0]), 0, 0);
-	if (form->reading >> lane & 1u) {
-		letter(CALL_BEGIN, lane, 0, 0, 0);
-		letter(CALL_STEP, lane, 0, 0, 0);
-		letter(CALL_END, lane, 0, 0, 0);
-	}
-	pass_letters(lane);
-	letter(CALL_CLOCK, lane, 0, 0, 0);
-	letter(CALL_ON, lane, 0, 0, 0);
-	letter(CALL_OFF, lane, 0, 0, 0);
-	letter(CALL_HAND_BACK, lane, 0, 0, 0);
-}
-
-/* Calls that are refused in every state. */
-static void refused_letters(void)
-{
-	letter(CALL_SETUP, 0, form->lanes, form->slots, 0);
-	letter(CALL_SETUP, form->cabinets, form->lanes, form->slots + 1, 0); /* no words for it */
-	letter(CALL_ADD, 0, PT_MAX_CODE + 1, 1, 1);
-	for (uint32_t n = 0; n < form->codes; n++) { /* wrong check digits; delete takes them, and finds no record */
-		letter(CALL_ADD, 0, wrong_code(codes[n]), 1, 1);
-		letter(CALL_REPLACE, 0, wrong_code(codes[n]), 2, 2);
-		letter(CALL_DELETE, 0, wrong_code(codes[n]), 0, 0);
-	}
-	letter(CALL_PASS, 0, KINDS, 0, 0);
-	for (int name = CALL_ADD; name < CALL_AWAITED; name++)
-		letter((enum call_name)name, lanes, 0, 0, 0);
-}
-
-static void make_alphabet(void)
-{
-	letters = 0;
-	letter(CALL_SETUP, form->cabinets, form->lanes, form->slots, 0);
-	letter(CALL_AWAITED, 0, 0, 0, 0);
-	for (uint32_t lane = 0; lane < lanes; lane++)
-		lane_letters(lane);
-	if (lanes * form->slots <= 2)
-		refused_letters();
-}
 
 /* ---- where the words stand */
 
@@ -364,24 +266,12 @@ static void meet(struct state *state, uint32_t parent, uint32_t call, uint32_t l
 
 /* ---- calls */
 
-static void print_call(const struct call *call)
-{
-	char text[LINE_TEXT];
-
-	if (call->name == (enum call_name)MANY_PASSES) {
-		fprintf(stderr, "  many passes of lane %" PRIu64 "\n", call->argument[0]);
-		return;
-	}
-	line_text(call, text);
-	fprintf(stderr, "  %s\n", text);
-}
-
 static void print_list(uint32_t state)
 {
 	if (state == 0)
 		return;
 	print_list(kept[state].parent);
-	print_call(&alphabet[kept[state].call]);
+	print_letter(&alphabet[kept[state].call]);
 }
 
 static void fault(uint32_t state, const struct call *call, const char *what)
@@ -392,7 +282,7 @@ static void fault(uint32_t state, const struct call *call, const char *what)
 	fflush(stdout);
 	fprintf(stderr, "exhaustive: after the set-up and\n");
 	print_list(state);
-	print_call(call);
+	print_letter(call);
 	fprintf(stderr, "exhaustive: %s\nFAILED exhaustive, table %zu\n  again, alone: tests/exhaustive/run %s--table %zu %s\n",
 		what, (size_t)(form - forms) + 1, compared ? "" : "--ledger ", (size_t)(form - forms) + 1,
 		archive != NULL ? archive : "");
@@ -541,8 +431,7 @@ static void run(void)
 	uint32_t level;
 
 	room = 0;
-	lanes = form->cabinets * form->lanes;
-	make_alphabet();
+	make_alphabet(form);
 	start();
 	level = search();
 	progress_clear();
@@ -573,8 +462,6 @@ int main(int arguments, char **argument)
 		return 2;
 	}
 	begun = seconds_now();
-	for (uint32_t n = 0; n < CODES; n++)
-		codes[n] = (uint32_t)CODE_OF_CHAIN(0, n);
 	if (!compared)
 		printf("exhaustive: judged by legality and the ledger alone\n");
 	for (size_t n = 0; n < tables; n++) {

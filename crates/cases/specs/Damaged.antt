@@ -1,12 +1,12 @@
 -- Damaged memories that one sentence of legality alone refuses: what calls have made, with a word changed.
-use Prim.Native.Nat.{ℕ, _+_}
+use Prim.Native.Nat.{ℕ, _+_, _-_}
 use mathlib.Core.Path.{_≡_, refl}
 use mathlib.Core.Bool.{Bool, true, false}
 use mathlib.Core.List.{List, [], _∷_, map}
 use lib.ListN.{set}
 use Rattle.model.specs.Word.{none}
 use Rattle.model.specs.Layout.{lastOffset, lengthOffset, currentOffset, doneOffset, cabinetMaskAt, freeAt, globalQueuesAt, masksAt, queuesAt, queueLinkAt}
-use Rattle.model.specs.Layout.{laneAddress, slotAddress}
+use Rattle.model.specs.Layout.{countWidth, generationAt, laneAddress, slotAddress}
 use Rattle.model.specs.Rules.{add, delete, pass, clock, off}
 use Rattle.model.specs.Legal.{legal}
 use Rattle.model.specs.Calls.{Call, set-up, on-state, sized, leftAll}
@@ -65,6 +65,9 @@ damages =
     ∷ damage oneDone (laneAddress (sized 1 2 3) 0 + queuesAt + doneOffset + lengthOffset) 1 true
     ∷ damage oneDone (laneAddress (sized 1 2 3) 0 + queuesAt + doneOffset + lengthOffset) 0 false
     ∷ damage oneDone (laneAddress (sized 1 2 3) 1 + queuesAt + doneOffset + lengthOffset) 1 false
+    -- unused words hold their rest value: the low and the high word of the last count of a snapshot that is not held
+    ∷ damage new (laneAddress (sized 1 2 3) 1 + generationAt - countWidth) 1 false
+    ∷ damage new (laneAddress (sized 1 2 3) 1 + generationAt - 1) 1 false
     -- a slot outside every line has line link none
     ∷ damage oneChained (slotAddress (sized 1 2 3) 0 + queueLinkAt) 1 false
     ∷ []

@@ -1,28 +1,30 @@
 -- Tables of scripts, and how they are run: by the definitions of `model`, through legality, reading and writing at every call; and of labels.
-use Prim.Native.Nat.{ℕ}
+use Prim.Native.Nat.{ℕ, _+_}
 use Prim.Native.String.{String}
 use mathlib.Core.Bool.{Bool}
 use mathlib.Core.List.{List, [], _∷_, _++_, map}
 use lib.ListN.{replicate, set}
+use lib.Seq.{sets}
 use Rattle.model.specs.Word.{later}
 use Rattle.model.specs.Lists.{update, isEmpty, any, all, tail, concat, every, concatMap, from, first, last, count}
 use Rattle.model.specs.Lists.{member, same, distinct, successor, successorIn, without, swapped, bit, mask}
 use Rattle.model.specs.State.{isRunning, isHeld}
 use Rattle.model.specs.Digits.{digits, numberFrom, bytes, digitOf}
 use Rattle.model.specs.CheckDigit.{weighed, rightFromRight, rightDigits, rightCheckDigit}
+use Rattle.model.specs.Layout.{quiescentAt, laneAddress}
 use Rattle.model.specs.Engine.{started, ended, released, counted, settled, settling, ready, target, requested}
 use Rattle.model.specs.Engine.{advancedLane, advancedGlobal, differs, sampled, clocked, clockMoves, wentOff}
 use Rattle.model.specs.Table.{slotIn, added, replaced, deleted, reclaimed}
 use Rattle.model.specs.Rules.{add, delete, begin, end, start, step, pass, clock, off, hand-back, awaited}
 use Rattle.model.specs.Rules.{Op, Answer, firstOf, causes, outcomeAnswer, outcome, continued, performed, pendingFrom, queuedIn, result, fresh}
-use Rattle.model.specs.Memory.{contents, flags, lookupCode, lookupPosition, snapshotCount, laneWords, slotWords}
+use Rattle.model.specs.Memory.{at, contents, flags, lookupCode, lookupPosition, snapshotCount, laneWords, slotWords}
 use Rattle.model.specs.Memory.{globalWords, words, walk, readChains, readLane, readProduct, state}
 use Rattle.model.specs.Legal.{sizesFit, contentsAgree, flagsInRange, masksInRange, linksInRange, fieldsInRange, standsOnce, lastsAgree, lengthsAgree}
 use Rattle.model.specs.Legal.{onTheirChains, noCodeTwice, snapshotsAtRest, lookupsAtRest, generationsAtRest, queueLinksAtRest, offLanes, lookupsInSections}
 use Rattle.model.specs.Legal.{snapshotsPending, cabinetBits, freeBlank, largestAgrees, laneGenerations, globalGeneration, legal}
 use Rattle.model.specs.Labels.{noLabel, labelCode, readRefusal, readReplyOf, readReply}
 use Rattle.model.specs.Labels.{labelLength, labelText, writeRefusal, writeReplyOf, writtenOf, writeReply, written}
-use Rattle.model.specs.Calls.{Call, set-up, on-state, refusalOf, replyOf, leftOf, reply, left, replies, leftAll}
+use Rattle.model.specs.Calls.{Call, set-up, on-state, sized, refusalOf, replyOf, leftOf, reply, left, replies, leftAll}
 use Rattle.model.specs.Ledger.{Event, events}
 
 -- the five words of an answer
@@ -60,29 +62,29 @@ op k = line (on-state k)
 -- ---- set-ups, with the totals that they must answer
 
 abbrev pub setUp111 : Line
-setUp111 = line (set-up 1 1 1) 0 121 0 0 0
+setUp111 = line (set-up 1 1 1) 0 129 0 0 0
 
 abbrev pub setUp112 : Line
-setUp112 = line (set-up 1 1 2) 0 127 0 0 0
+setUp112 = line (set-up 1 1 2) 0 135 0 0 0
 
 abbrev pub setUp122 : Line
-setUp122 = line (set-up 1 2 2) 0 149 0 0 0
+setUp122 = line (set-up 1 2 2) 0 165 0 0 0
 
 abbrev pub setUp123 : Line
-setUp123 = line (set-up 1 2 3) 0 155 0 0 0
+setUp123 = line (set-up 1 2 3) 0 171 0 0 0
 
 abbrev pub setUp124 : Line
-setUp124 = line (set-up 1 2 4) 0 161 0 0 0
+setUp124 = line (set-up 1 2 4) 0 177 0 0 0
 
 abbrev pub setUp138 : Line
-setUp138 = line (set-up 1 3 8) 0 207 0 0 0
+setUp138 = line (set-up 1 3 8) 0 231 0 0 0
 
 abbrev pub setUp811 : Line
-setUp811 = line (set-up 8 1 1) 0 282 0 0 0
+setUp811 = line (set-up 8 1 1) 0 346 0 0 0
 
 -- the largest table's
 abbrev pub largestTotal : ℕ
-largestTotal = 7652
+largestTotal = 8164
 
 -- ---- the listing of document 01
 
@@ -178,15 +180,21 @@ eventsOf [] = []
 eventsOf (l ∷ ls) = events (left (lentWords 200) (callOf l)) (map callOf ls)
 
 -- a row of a table. `script`: the number of words lent, and the lines. `poked`: the same, with a word put at an address between the first lines and the
--- others. `order`: whether generation a is later than b. `digit`: whether a text of digits ends with a right check digit. `reads`: a text, and the status and
--- two words of the reader's answer. `writes`: a text and a code, the status and a word of the writer's answer, and the text after it
+-- others. `passes`: the two words of a pass count before a pass of its kind, and after it. `order`: whether generation a is later than b. `digit`: whether a
+-- text of digits ends with a right check digit. `reads`: a text, and the status and two words of the reader's answer. `writes`: a text and a code, the status
+-- and a word of the writer's answer, and the text after it
 pub data Row : Type 0 where
   script : (lent : ℕ) (lines : List Line) → Row
   poked : (lent : ℕ) (lines : List Line) (address word : ℕ) (others : List Line) → Row
+  passes : (low high lowAfter highAfter : ℕ) → Row
   order : (a b : ℕ) (isLater : Bool) → Row
   digit : (text : String) (isRight : Bool) → Row
   reads : (text : String) (status a b : ℕ) → Row
   writes : (text : String) (code status a : ℕ) (after : String) → Row
+
+-- where the counts of lane 0 of a table 1 1 1 stand, kind 0 first
+abbrev pub countsAt : ℕ
+countsAt = laneAddress (sized 1 1 1) 0 + quiescentAt
 
 -- a truth as a line of output
 abbrev pub verdict : Bool → List (List ℕ)
@@ -197,6 +205,7 @@ unfoldable pub expected : Row → List (List ℕ)
 unfolding bytes
 expected (script n ls) = map outputOf ls
 expected (poked n ls a w ks) = map outputOf (ls ++ ks)
+expected (passes l h l′ h′) = (l′ ∷ h′ ∷ []) ∷ []
 expected (order a b t) = verdict t
 expected (digit x t) = verdict t
 expected (reads x s a b) = (s ∷ a ∷ b ∷ 0 ∷ 0 ∷ []) ∷ []
@@ -210,6 +219,9 @@ run (script n ls) = answered (lentWords n) (map callOf ls)
 run (poked n ls a w ks) =
     let cs = map callOf ls in
     answered (lentWords n) cs ++ answered (set (leftAll (lentWords n) cs) a w) (map callOf ks)
+run (passes l h l′ h′) =
+    let m = left (sets (leftAll (lentWords 200) (set-up 1 1 1 ∷ [])) countsAt (l ∷ h ∷ [])) (on-state (pass 0 0)) in
+    (at m countsAt ∷ at m (countsAt + 1) ∷ []) ∷ []
 run (order a b t) = verdict (later a b)
 run (digit x t) = verdict (rightDigits (map digitOf (bytes x)))
 run (reads x s a b) = fiveWords (readReply (bytes x)) ∷ []

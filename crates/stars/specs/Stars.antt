@@ -10,7 +10,7 @@ use Rattle.model.specs.Layout.{versionAt, codeAt, slotAddress, lookupAt, laneAd
 use Rattle.model.specs.Calls.{set-up, sized}
 use Rattle.scripts.specs.Scripts.{Line, line, op, setUp111, setUp112, setUp123, setUp124, setUp811, largestTotal, listing}
 use Rattle.scripts.specs.Scripts.{twoQueuesMoved, countedAfter, offUntold}
-use Rattle.scripts.specs.Scripts.{Row, script, poked, order, digit, reads, writes, expected, run}
+use Rattle.scripts.specs.Scripts.{Row, script, poked, passes, countsAt, order, digit, reads, writes, expected, run}
 
 -- replace with code missing and no free slot
 abbrev pub missingFirst : List Line
@@ -277,9 +277,32 @@ lastStepNeeded =
 
 -- ---- request 6: line lengths kept; its lists are those of `scripts`, and `cases` Tallies adds up what they move
 
--- a table of version 1 is refused
+-- a table of version 1 is refused; and from request 7 on one of version 2
 abbrev pub olderVersion : List Line
 olderVersion = op awaited 3 0 0 0 0 ∷ op (clock 0) 3 0 0 0 0 ∷ op (add 0 17 25 1) 3 0 0 0 0 ∷ []
+
+-- ---- request 7: wider pass counts
+
+-- Lane 0, alone, has removed a slot and holds a snapshot of counts that are 0
+abbrev pub holdsZeros : List Line
+holdsZeros = setUp111 ∷ op (add 0 17 25 1) 0 0 0 0 0 ∷ op (delete 0 17) 0 0 0 0 0 ∷ op (clock 0) 0 1 1 1 0 ∷ []
+
+-- after 4,294,967,296 passes its count is no 0: the clock lets it go. The count with the largest word in it, and a pass more; or the high word alone
+abbrev pub noWrap : List Line
+noWrap = op (pass 0 0) 0 0 0 0 0 ∷ op (clock 0) 0 2 1 0 1 ∷ []
+
+abbrev pub highCounts : List Line
+highCounts = op (clock 0) 0 2 1 0 1 ∷ []
+
+-- a pass: of a low word, with and without a carry into the high one; and from 18,446,744,073,709,551,615 to 0
+abbrev pub countWords : List Row
+countWords =
+    passes 0 0 1 0
+    ∷ passes 6 5 7 5
+    ∷ passes 4294967294 5 4294967295 5
+    ∷ passes 4294967295 5 0 6
+    ∷ passes 4294967295 4294967295 0 0
+    ∷ []
 
 -- ---- all of them
 
@@ -308,12 +331,15 @@ stars =
     ∷ script 200 droppedOnChain
     ∷ script 200 droppedInPeriod
     ∷ script 200 droppedThenOff
-    ∷ script 300 lastCabinets
+    ∷ script 400 lastCabinets
     ∷ script 200 lastStepNeeded
     ∷ script 300 (twoQueuesMoved ++ countedAfter)
     ∷ script 300 offUntold
     ∷ poked 200 (setUp123 ∷ []) versionAt 1 olderVersion
-    ∷ (labelDigits ++ labelsRead ++ labelsWritten)
+    ∷ poked 200 (setUp123 ∷ []) versionAt 2 olderVersion
+    ∷ poked 200 holdsZeros countsAt 4294967295 noWrap
+    ∷ poked 200 holdsZeros (countsAt + 1) 1 highCounts
+    ∷ (countWords ++ labelDigits ++ labelsRead ++ labelsWritten)
 
 -- each row comes out. That no generation at all is later than itself is a law (`laws` Generations `later-self`)
 pub stars-hold : map run stars ≡ map expected stars

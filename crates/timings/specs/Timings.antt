@@ -53,7 +53,7 @@ run (timed ls ts) = results (eventsOf ls) ts
 -- ---- the figure is attained: lookups of code 0, which has no record, with 0 to 6 records on its chain
 
 abbrev pub setUp116 : Line
-setUp116 = line (set-up 1 1 6) 0 151 0 0 0
+setUp116 = line (set-up 1 1 6) 0 159 0 0 0
 
 -- lane i's step that goes, and that finds the code absent
 abbrev pub goes : ℕ → Line
