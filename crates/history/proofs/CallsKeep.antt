@@ -2,6 +2,7 @@
 pub mod SlotFacts
 pub mod Respects
 pub mod Unseen
+pub mod Recounts
 pub mod Sections
 pub mod LookupSteps
 pub mod StartStep

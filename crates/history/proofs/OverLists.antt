@@ -3,6 +3,7 @@ pub mod Answers
 pub mod Instants
 pub mod OneEach
 pub mod Stands
+pub mod Courses
 pub mod ListInvariant
 pub mod OneSection
 pub mod Counted
