@@ -1,3 +1,5 @@
 -- Version 2 and version 3 stand for the same states, but for counts that wrap; what a carry keeps; lists that go over it.
 pub mod Relaid
 pub mod LaneForms
+pub mod Widened
+pub mod LegalTwo

@@ -9,7 +9,7 @@ use Rattle.model.specs.Lists.{concatMap, from}
 use Rattle.model.specs.State.{Sizes, laneCount}
 use Rattle.model.specs.Layout.{contentsLength, globalBody, globalLength, slotLength, lanesBody}
 use Rattle.model.specs.Memory.{at}
-use Rattle.laws.specs.ListLaws.{length-map-from, getD-map-from}
+use Rattle.laws.specs.ListLaws.{length-map-from, getD-map-from, map-from-getD}
 use Rattle.laws.specs.Areas.{Extent, rows, extent, Within, Spot, address as addressIn, address-lt, address-onto, Area, laidOut, length-laidOut, getD-laidOut, noArea}
 use Rattle.carry.specs.Version2.{run, relaid}
 
@@ -75,6 +75,11 @@ module _ (z : Sizes) (w : ℕ) (c : List ℕ) (lane : ℕ → List ℕ) (m : Lis
       (λ i k g h. v .lanes i k g h ∙ sym (u .lanes i k g h))
       (λ k h. v .slots k h ∙ sym (u .slots k h))
       x (omega arith))
+
+  -- the words of lane i, one by one, are its words
+  pub laid-lane : (n : List ℕ) → Laid z w c lane m a n → (i : ℕ) → i < laneCount z → length (lane i) ≡ w
+      → run (λ (k : ℕ). at n (lanesBody z + w * i + k)) 0 w ≡ lane i
+  laid-lane n v i g l = map-from-getD (λ (k : ℕ). at n (lanesBody z + w * i + k)) 0 (lane i) w l (λ k h. v .lanes i k g h)
 
   module _ (twelve : length c ≡ contentsLength) (filled : (i : ℕ) → length (lane i) ≡ w) where
     areas : List Area
