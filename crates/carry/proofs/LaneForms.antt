@@ -55,12 +55,12 @@ countWords-low : (c d : ℕ → ℕ) → ((k : ℕ) → d k ≡ low (c k)) → c
 unfolding lowWords
 countWords-low c d e = rw (e 0, e 1, e 2, e 3, low-low (c 0), low-low (c 1), low-low (c 2), low-low (c 3), high-low (c 0), high-low (c 1), high-low (c 2), high-low (c 3))
 
-getD-low : (xs : List ℕ) (k : ℕ) → getD (map low xs) k 0 ≡ low (getD xs k 0)
+pub getD-low : (xs : List ℕ) (k : ℕ) → getD (map low xs) k 0 ≡ low (getD xs k 0)
 getD-low [] k = omega arith
 getD-low (x ∷ xs) zero = refl
 getD-low (x ∷ xs) (suc k) = getD-low xs k
 
-snapshot-low : (s : Snapshot) (k : ℕ) → snapshotCount (recountedSnapshot low s) k ≡ low (snapshotCount s k)
+pub snapshot-low : (s : Snapshot) (k : ℕ) → snapshotCount (recountedSnapshot low s) k ≡ low (snapshotCount s k)
 unfolding recountedSnapshot snapshotCount
 snapshot-low unheld k = omega arith
 snapshot-low (held c) k = getD-low c k

@@ -3,3 +3,5 @@ pub mod Relaid
 pub mod LaneForms
 pub mod Widened
 pub mod LegalTwo
+pub mod Narrow
+pub mod ReadTwo
