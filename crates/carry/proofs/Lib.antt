@@ -5,3 +5,5 @@ pub mod Widened
 pub mod LegalTwo
 pub mod Narrow
 pub mod ReadTwo
+mod RecountedWords
+pub mod WriteTwo

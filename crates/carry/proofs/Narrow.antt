@@ -1,19 +1,19 @@
 -- Counts of one word each, and states whose counts all are: what a memory of version 2 stands for. A state written there is read with the low words of its counts.
-use Prim.Native.Nat.{ℕ, zero, suc, _≤_, _<_}
-use mathlib.Core.Path.{_≡_, refl, sym, ap, ap₂, subst, _∙_}
+use Prim.Native.Nat.{ℕ, zero, suc, _<_}
+use mathlib.Core.Path.{_≡_, refl, ap, ap₂}
 use mathlib.Core.List.{List, [], _∷_, map}
 use native.Mathlib.Omega.{arith}
 use lib.ListN.{getD}
 use Rattle.model.specs.Word.{wordLimit}
-use Rattle.model.specs.State.{Sizes, laneCount, Snapshot, unheld, held, Lane, Engine, State}
+use Rattle.model.specs.State.{Sizes, laneCount, Snapshot, unheld, held, Lane, State}
 use Rattle.model.specs.Layout.{countLimit}
 use Rattle.model.specs.Engine.{freshLane, laneAt, setQuiescent, setPending, withLanes}
 use Rattle.model.specs.Rules.{withEngine, fresh}
-use Rattle.model.specs.Memory.{low, snapshotCount, quiescentCount}
+use Rattle.model.specs.Memory.{low, snapshotCount}
 use Rattle.laws.specs.Elements.{map-cases-default}
 use Rattle.laws.specs.ListLaws.{getD-replicate-default}
 use Rattle.representation.proofs.WellFormed.{WellFormed}
-use Rattle.representation.proofs.CallsWellFormed.Recounted.{recountedSnapshot, recountedLane, recounted, recounted-cases, recounted-wellFormed}
+use Rattle.representation.proofs.CallsWellFormed.Recounted.{recountedSnapshot, recountedLane, recounted, recounted-wellFormed}
 use Rattle.carry.proofs.LaneForms.{getD-low, snapshot-low}
 
 -- each count and each snapshot's count is a word; a snapshot that is not held has counts 0

@@ -6,10 +6,10 @@ use mathlib.Core.Bool.{Bool, true}
 use mathlib.Core.List.{List, _++_}
 use native.Mathlib.Omega.{arith}
 use native.Mathlib.Decide.{decLt}
-use lib.ListN.{getD, length, take, drop, take-append-drop, List·getD-eq-default}
+use lib.ListN.{getD, drop, take-append-drop, List·getD-eq-default}
 use lib.Seq.{take-all}
 use Rattle.model.specs.Word.{wordLimit}
-use Rattle.model.specs.State.{Sizes, laneCount, Snapshot, unheld, held, Lane, State}
+use Rattle.model.specs.State.{Sizes, laneCount, Snapshot, unheld, held}
 use Rattle.model.specs.Layout.{kinds, laneLength, total}
 use Rattle.model.specs.Engine.{freshLane, laneAt}
 use Rattle.model.specs.Memory.{at, high, Words, sizes, contents, snapshotCount, quiescentCount, laneWords, words, state}
@@ -17,7 +17,7 @@ use Rattle.model.specs.Calls.{stored}
 use Rattle.representation.proofs.WellFormed.{WellFormed, Counts, SnapshotFits}
 use Rattle.representation.proofs.Addresses.Fields.{lane}
 use Rattle.representation.proofs.Round.{Ready, ready, words-state}
-use Rattle.carry.specs.Version2.{total₂, slotsBody₂, widenedLane, relaid, laneWord₂, widened, narrowed, legal₂, state₂, stored₂}
+use Rattle.carry.specs.Version2.{total₂, widenedLane, relaid, laneWord₂, widened, narrowed, legal₂, state₂, stored₂}
 use Rattle.carry.proofs.Widened.{laid-widened, length-widened, words-widened}
 use Rattle.carry.proofs.LegalTwo.{Legal₂, legal-facts₂, narrowed-back}
 use Rattle.carry.proofs.Narrow.{NarrowLane, fresh-narrow, Narrow}

@@ -1,6 +1,6 @@
 -- Words relaid, by place: the contents, the house's words with the cabinets' masks, each lane's words, the slots' words.
 use Prim.Native.Nat.{ℕ, zero, suc, _+_, _*_, _<_}
-use mathlib.Core.Path.{_≡_, refl, sym, ap, ap₂, subst, _∙_}
+use mathlib.Core.Path.{_≡_, sym, ap, ap₂, subst, _∙_}
 use mathlib.Core.List.{List, [], _∷_, _++_, append-nil, append-assoc}
 use native.Mathlib.Omega.{arith}
 use lib.ListN.{getD, length, List·getD-append}
@@ -10,7 +10,7 @@ use Rattle.model.specs.State.{Sizes, laneCount}
 use Rattle.model.specs.Layout.{contentsLength, globalBody, globalLength, slotLength, lanesBody}
 use Rattle.model.specs.Memory.{at}
 use Rattle.laws.specs.ListLaws.{length-map-from, getD-map-from, map-from-getD}
-use Rattle.laws.specs.Areas.{Extent, rows, extent, Within, Spot, address as addressIn, address-lt, address-onto, Area, laidOut, length-laidOut, getD-laidOut, noArea}
+use Rattle.laws.specs.Areas.{Extent, rows, Within, Spot, address as addressIn, address-lt, address-onto, Area, laidOut, length-laidOut, getD-laidOut, noArea}
 use Rattle.carry.specs.Version2.{run, relaid}
 
 -- ---- a run of words

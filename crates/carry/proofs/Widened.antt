@@ -1,30 +1,26 @@
 -- A memory of version 2 in the words of version 3: their length, sizes and words; and words of version 3 in those of version 2.
-use Prim.Native.Nat.{ℕ, _+_, _≤_, _<_}
-use mathlib.Core.Path.{_≡_, refl, sym, ap, subst, _∙_}
-use mathlib.Core.Bool.{Bool, true, false, cond}
-use mathlib.Core.List.{List, [], _∷_, _++_, append-nil}
+use Prim.Native.Nat.{ℕ, _+_}
+use mathlib.Core.Path.{_≡_, refl, sym, subst}
+use mathlib.Core.Bool.{true}
+use mathlib.Core.List.{List, [], _++_, append-nil}
 use native.Mathlib.Omega.{arith}
 use native.Mathlib.Decide.{decLt}
-use lib.ListN.{length, take, List·getD-eq-default}
-use lib.Seq.{getD-take, length-take-le}
-use borrow.Author.Tests.{leb-true, le-leb}
-use Rattle.model.specs.Word.{wordLimit}
+use lib.ListN.{length, List·getD-eq-default}
 use Rattle.model.specs.Lists.{from}
-use Rattle.model.specs.State.{Sizes, laneCount}
-use Rattle.model.specs.Layout.{contentsLength, globalBody, laneLength, lanesBody, slotsBody, total}
+use Rattle.model.specs.State.{Sizes}
+use Rattle.model.specs.Layout.{contentsLength, laneLength, slotsBody, total}
 use Rattle.model.specs.Memory.{at, Words, sizes, laneWord, contents}
-use Rattle.model.specs.Legal.{sizesFit, legal}
-use Rattle.laws.specs.Tests.{_&_, clash, every-true, every-intro, same-true, same-self}
+use Rattle.model.specs.Legal.{sizesFit}
+use Rattle.laws.specs.Tests.{_&_}
 use Rattle.laws.specs.Elements.{Each, each-map, each-getD}
-use Rattle.laws.specs.ListLaws.{map-from-getD}
 use Rattle.representation.proofs.ExtraWords.{Word}
 use Rattle.representation.proofs.Sentences.Split.{sizes-fit}
-use Rattle.carry.specs.Version2.{version₂, laneLength₂, laneAddress₂, slotsBody₂, generationAt₂, restLength, total₂, contents₂, run, widenedLane, narrowedLane, relaid}
-use Rattle.carry.specs.Version2.{laneWord₂, widened, narrowed, contentsAgree₂, legal₂}
-use Rattle.carry.proofs.Relaid.{length-run, at-run, Laid, part-cases, laid-equal, length-relaid, laid-relaid}
-use Rattle.carry.proofs.LaneForms.{length-widenedLane, length-narrowedLane, narrowed-widened}
+use Rattle.carry.specs.Version2.{laneLength₂, laneAddress₂, slotsBody₂, generationAt₂, restLength, total₂, contents₂, widenedLane, narrowedLane, relaid}
+use Rattle.carry.specs.Version2.{laneWord₂, widened, narrowed}
+use Rattle.carry.proofs.Relaid.{Laid, part-cases, length-relaid, laid-relaid}
+use Rattle.carry.proofs.LaneForms.{length-widenedLane, length-narrowedLane}
 
-length-contents : (z : Sizes) → length (contents z) ≡ contentsLength
+pub length-contents : (z : Sizes) → length (contents z) ≡ contentsLength
 unfolding contents
 length-contents z = refl
 
