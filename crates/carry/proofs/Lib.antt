@@ -7,3 +7,6 @@ pub mod Narrow
 pub mod ReadTwo
 mod RecountedWords
 pub mod WriteTwo
+pub mod CountsKept
+pub mod NarrowKept
+pub mod StandsTwo
