@@ -10,3 +10,5 @@ pub mod WriteTwo
 pub mod CountsKept
 pub mod NarrowKept
 pub mod StandsTwo
+pub mod Carried
+pub mod AsBefore
