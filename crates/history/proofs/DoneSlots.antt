@@ -1,7 +1,7 @@
--- What the clocks' fourth numbers add up to (document 02, request 6): over every list the slots that clocks and offs moved into done queues are those
+-- What the clocks' fourth numbers add up to (document 02, request 6): over every course the slots that clocks and offs moved into done queues are those
 -- that stand there and those that were handed back.
 use Prim.Native.Nat.{ℕ, zero, suc, _+_, _<_}
-use mathlib.Core.Path.{_≡_, refl, sym, ap, _∙_}
+use mathlib.Core.Path.{_≡_, refl, sym, ap, subst}
 use mathlib.Core.Bool.{Bool, true, false, cond, _&&_}
 use mathlib.Core.List.{List, [], _∷_, map}
 use native.Mathlib.Omega.{arith}
@@ -9,23 +9,27 @@ use lib.ListN.{length, getD, replicate}
 use lib.Dec.{eqb}
 use borrow.Author.Tests.{ne-eqb}
 use Rattle.model.specs.Lists.{update, isEmpty, first, tail}
-use Rattle.model.specs.State.{laneCount, running, Lane, Engine, State}
+use Rattle.model.specs.State.{Sizes, laneCount, running, Lane, Engine, State}
 use Rattle.model.specs.Engine.{freshLane, laneAt, setOnline, setReading, setLookup, awaiting, atLane, counted}
 use Rattle.model.specs.Table.{chainOf, slotOf}
 use Rattle.model.specs.Rules.{Op, add, replace, delete, begin, end, start, step, pass, clock, on, off, hand-back, awaited, Answer, refused, Outcome, going, found}
 use Rattle.model.specs.Rules.{absent, outcome, outcomeAnswer, stepped, leaving, retiring, reclaiming, performed, result, answer, next, fresh}
 use Rattle.model.specs.Memory.{state}
-use Rattle.model.specs.Calls.{Call, set-up, on-state, sized, reply, left, leftAll}
-use Rattle.model.specs.Ledger.{events, RefusesSetUps, doneIn, doneSlots, Moving, clocks, handsBack, other, goesOff, moving, clockTold, offMoved, handedOne}
-use Rattle.model.specs.Ledger.{movedByClocks, handBacks, movedByOffs, DoneCounted}
+use Rattle.model.specs.Legal.{sizesFit}
+use Rattle.model.specs.Calls.{Call, set-up, on-state, sized, left, leftAll}
+use Rattle.model.specs.Ledger.{Event, events, doneIn, doneSlots, Moving, clocks, handsBack, other, goesOff, moving, clockTold, offMoved, handedOne}
+use Rattle.model.specs.Ledger.{movedByClocks, handBacks, DoneCounted}
 use Rattle.laws.specs.Tests.{clash}
 use Rattle.representation.proofs.Causes.Accepted.{Accepted, accepts, HandBackAccepted}
 use Rattle.representation.proofs.Causes.Passed.{call-cases}
-use Rattle.representation.proofs.MemoryCalls.{refused-keeps}
 use Rattle.representation.proofs.WellFormed.{WellFormed}
 use Rattle.representation.proofs.Discipline.Done.{laneDone, counted-clocked, counted-wentOff}
-use Rattle.history.proofs.OverLists.Stands.{Stands, reply-on, stands-next}
-use Rattle.history.proofs.Demand3.{set-up-stands}
+use Rattle.representation.proofs.CallsWellFormed.Fresh.{fresh-wellFormed}
+use Rattle.representation.proofs.CallsWellFormed.Next.{next-wellFormed}
+use Rattle.representation.proofs.CallsWellFormed.Recounted.{recountedLane, recounted, recounted-wellFormed}
+use Rattle.history.proofs.OverLists.Courses.{Begins, Course, Leads, after, onwards, course-list}
+use Rattle.history.proofs.OverLists.OffsMoved.{offsMoved, offs-list}
+use Rattle.history.proofs.OverLists.EveryCourse.{set-up-stands}
 
 -- ---- the lanes' done queues
 
@@ -36,10 +40,11 @@ doneIn-changed i [] f h = absurd (omega arith)
 doneIn-changed zero (l ∷ ls) f h = omega arith
 doneIn-changed (suc i) (l ∷ ls) f h = omega (arith, doneIn-changed i ls f (omega arith))
 
-doneIn-awaits : (ls : List Lane) → doneIn (map awaiting ls) ≡ doneIn ls
+-- a change of each lane that leaves its done queue
+doneIn-map : (f : Lane → Lane) → ((l : Lane) → laneDone (f l) ≡ laneDone l) → (ls : List Lane) → doneIn (map f ls) ≡ doneIn ls
 unfolding doneIn
-doneIn-awaits [] = refl
-doneIn-awaits (l ∷ ls) = omega (arith, doneIn-awaits ls)
+doneIn-map f h [] = refl
+doneIn-map f h (l ∷ ls) = omega (arith, h l, doneIn-map f h ls)
 
 doneIn-fresh : (n : ℕ) → doneIn (replicate n freshLane) ≡ 0
 unfolding doneIn
@@ -106,9 +111,9 @@ module _ (s : State) (w : WellFormed s) where
   counts-performed (begin i) a = omega (arith, lane-kept i (a .lane .known) (setReading true) refl)
   counts-performed (end i) a = omega (arith, lane-kept i (a .lane .known) leaving refl)
   counts-performed (step i) a = rw (step-status (outcome (s .table) (laneAt e i .lookup))) (omega (arith, lane-kept i (a .lane .known) (stepped (s .table)) refl))
-  counts-performed (clock i) a = omega (arith, counted-clocked i doneIn (doneIn-changed i) doneIn-awaits e (inside i (a .known)))
+  counts-performed (clock i) a = omega (arith, counted-clocked i doneIn (doneIn-changed i) (doneIn-map awaiting (λ l. refl)) e (inside i (a .known)))
   counts-performed (on i) a = omega (arith, lane-kept i (a .known) (setOnline true) refl)
-  counts-performed (off i) a = omega (arith, counted-wentOff i doneIn (doneIn-changed i) doneIn-awaits e (inside i (a .lane .known)))
+  counts-performed (off i) a = omega (arith, counted-wentOff i doneIn (doneIn-changed i) (doneIn-map awaiting (λ l. refl)) e (inside i (a .lane .known)))
   counts-performed (hand-back i) a = omega (arith, one-fewer i a)
   counts-performed awaited a = omega arith
 
@@ -117,21 +122,45 @@ module _ (s : State) (w : WellFormed s) where
       call-cases (Counts s o) s o (λ z. counts-performed o (accepts s o z))
       (λ m. rw (ne-eqb (suc m) 0 (λ z. omega arith), told-refused (moving (on-state o)) (suc m)) (omega arith))
 
--- ---- a list
+-- ---- a course
 
-counts-list : (ks : List Call) (s : State) (m : List ℕ) → Stands s m → RefusesSetUps m ks
-    → doneSlots (s .engine) + (movedByClocks (events m ks) + movedByOffs m ks) ≡ doneSlots (state (leftAll m ks) .engine) + handBacks (events m ks)
-unfolding events leftAll movedByClocks handBacks movedByOffs RefusesSetUps moving clockTold offMoved handedOne
-counts-list [] s m v r = rw (v .read) (omega arith)
-counts-list (set-up c p n ∷ ks) s m v (f, r) =
-    let same = refused-keeps m (set-up c p n) f in
-    rw (ne-eqb (reply m (set-up c p n) .status) 0 f, same) (omega (arith, counts-list ks s m v (rw same at r)))
-counts-list (on-state o ∷ ks) s m v r =
-    let one = counts-next s (v .wellFormed) o in
-    let rest = counts-list ks (next s o) (left m (on-state o)) (stands-next v o) r in
-    rw (reply-on v o, v .read) (omega (arith, one, rest))
+cond-zero : (b : Bool) → _≡_ {A = ℕ} (cond b 0 0) 0
+cond-zero true = refl
+cond-zero false = refl
+
+-- from any well-formed state on
+pub counts-course : (es : List Event) (s t : State) (c : Course s es t) → WellFormed s
+    → doneSlots (s .engine) + (movedByClocks es + offsMoved es s t c) ≡ doneSlots (t .engine) + handBacks es
+unfolding movedByClocks handBacks offsMoved moving clockTold offMoved handedOne
+counts-course [] s t c w = omega (arith, ap (λ (u : State). doneSlots (u .engine)) c)
+counts-course (x ∷ es) s t c w = go (x .call) (x .answer) c (λ u b w. counts-course es u t b w)
+  where
+    go : (k : Call) (r : Answer) (b : Begins s k r (Leads es t))
+        → ((u : State) (b : Leads es t u) → WellFormed u → doneSlots (u .engine) + (movedByClocks es + offsMoved es u t b) ≡ doneSlots (t .engine) + handBacks es)
+        → doneSlots (s .engine) + (clockTold (moving k) r + movedByClocks es
+        + (cond (eqb (r .status) 0) (offMoved (moving k) (s .engine)) 0 + offsMoved es (after s k r (Leads es t) b) t (onwards s k r (Leads es t) b)))
+        ≡ doneSlots (t .engine) + (cond (eqb (r .status) 0) (handedOne (moving k)) 0 + handBacks es)
+    go (set-up x y z) r b ih = omega (arith, cond-zero (eqb (r .status) 0), ih s b w)
+    go (on-state o) r b ih =
+        let u = next s o in
+        let one : Counts s o u r = subst (Counts s o u) (sym (b .answers)) (counts-next s w o) in
+        let rest = ih (recounted (b .recount) u) (b .onward) (recounted-wellFormed (b .recount) (b .inRange) u (next-wellFormed s o w)) in
+        omega (arith, one, doneIn-map (recountedLane (b .recount)) (λ l. refl) (u .engine .lanes), rest)
+
+-- from a fresh table on
+pub done-course : (z : Sizes) → sizesFit z ≡ true → (h : List Event) (t : State) (c : Course (fresh z) h t)
+    → movedByClocks h + offsMoved h (fresh z) t c ≡ doneSlots (t .engine) + handBacks h
+unfolding fresh
+done-course z fit h t c = omega (arith, counts-course h (fresh z) t c (fresh-wellFormed z fit), doneIn-fresh (laneCount z))
 
 pub done-counted : DoneCounted
 unfolding fresh
 done-counted m c p n ok ks r =
-    omega (arith, counts-list ks (fresh (sized c p n)) (left m (set-up c p n)) (set-up-stands m c p n ok) r, doneIn-fresh (laneCount (sized c p n)))
+    let m₀ = left m (set-up c p n) in
+    let s = fresh (sized c p n) in
+    let v = set-up-stands m c p n ok in
+    omega (
+      arith,
+      done-course (sized c p n) (v .wellFormed .sizes) (events m₀ ks) (state (leftAll m₀ ks)) (course-list ks s m₀ v r .0),
+      offs-list ks s m₀ v r,
+    )
