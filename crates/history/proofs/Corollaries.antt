@@ -9,7 +9,6 @@ use native.Mathlib.Omega.{arith}
 use lib.ListN.{length, length-append}
 use Rattle.model.specs.State.{State}
 use Rattle.model.specs.Rules.{Op, Answer, answer, fresh}
-use Rattle.model.specs.Memory.{state}
 use Rattle.model.specs.Calls.{on-state, reply}
 use Rattle.model.specs.Ledger.{Section, Search, Ledger, Event, ledgerFrom, ledger, isAnswer, search, Came, Explained, Holds, stepEvent}
 use Rattle.history.proofs.Ties.Invariant.{Invariant, Anchored, inChain, retained}

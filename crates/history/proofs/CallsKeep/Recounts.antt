@@ -1,7 +1,7 @@
 -- Counts renumbered by any function that keeps them in range: no section, lookup, queue, table, generation or pending bit changes, and a snapshot that
 -- equals the counts does after it. So what a call keeps it keeps with its counts renumbered.
 use Prim.Native.Nat.{ℕ, _<_}
-use mathlib.Core.Path.{_≡_, ap, _∙_}
+use mathlib.Core.Path.{ap, _∙_}
 use native.Mathlib.Omega.{arith}
 use Rattle.model.specs.State.{Queues, Lane, Engine, State}
 use Rattle.model.specs.Layout.{countLimit}

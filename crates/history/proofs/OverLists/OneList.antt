@@ -7,7 +7,7 @@ use native.Mathlib.Omega.{arith}
 use lib.ListN.{length}
 use Rattle.model.specs.State.{Product, State}
 use Rattle.model.specs.Table.{blank, product, productAt}
-use Rattle.model.specs.Rules.{Op, step, hand-back, Answer, answer}
+use Rattle.model.specs.Rules.{Op, Answer, answer}
 use Rattle.model.specs.Memory.{at, wide, sizes, readProduct, state}
 use Rattle.model.specs.Calls.{on-state}
 use Rattle.model.specs.Ledger.{Section, Search, Event, ledgerFrom, ledger, isAnswer, Came, Explained, Holds, Kept, Returned, stepEvent, handBackEvent}
