@@ -3,7 +3,7 @@
 use Prim.Native.Nat.{ℕ, zero, suc}
 use mathlib.Core.Path.{_≡_, refl}
 use mathlib.Core.Bool.{true}
-use mathlib.Core.List.{List, []}
+use mathlib.Core.List.{List, [], _++_}
 use native.Mathlib.Omega.{arith}
 use lib.ListN.{length}
 use Rattle.model.specs.State.{Sizes, State}
@@ -18,7 +18,7 @@ use Rattle.history.proofs.Ties.Invariant.{Invariant}
 use Rattle.history.proofs.CallsKeep.Start.{invariant-fresh}
 use Rattle.history.proofs.OverLists.Instants.{past}
 use Rattle.history.proofs.OverLists.Stands.{Stands, stands-stored}
-use Rattle.history.proofs.OverLists.Courses.{Course, course-list}
+use Rattle.history.proofs.OverLists.Courses.{Course, course-append, course-list}
 use Rattle.history.proofs.OverLists.ListInvariant.{At, to-end}
 
 -- ---- every course
@@ -37,6 +37,14 @@ at-fresh z fit h t c = record { all = refl; course = c; invariant = invariant-fr
 pub every-end : (P : List Event → List ℕ → Type 0)
     → ((h : List Event) (m : List ℕ) (s : State) → Stands s m → Invariant (past h) (length h) s (ledger h) → P h m) → EveryCourse P
 every-end P f z fit h t c m v = f h m t v (to-end h h [] (fresh z) t (at-fresh z fit h t c) .invariant)
+
+-- a course, and after it the calls of a list on a memory that holds its last state
+pub every-joined : (P : List Event → List ℕ → Type 0) → EveryCourse P
+    → (z : Sizes) → sizesFit z ≡ true → (h : List Event) (t : State) → Course (fresh z) h t → (m : List ℕ) → Stands t m
+    → (ks : List Call) → RefusesSetUps m ks → P (h ++ events m ks) (leftAll m ks)
+every-joined P f z fit h t c m v ks r =
+    let w = course-list ks t m v r in
+    f z fit (h ++ events m ks) (state (leftAll m ks)) (course-append h (events m ks) (fresh z) t (state (leftAll m ks)) c (w .0)) (leftAll m ks) (w .1)
 
 -- ---- every list
 
@@ -66,7 +74,5 @@ set-up-stands m c p n h =
 pub every-list : (P : List Event → List ℕ → Type 0) → EveryCourse P → EveryList P
 unfolding fresh
 every-list P f m c p n ok ks r =
-    let m₀ = left m (set-up c p n) in
     let v = set-up-stands m c p n ok in
-    let w = course-list ks (fresh (sized c p n)) m₀ v r in
-    f (sized c p n) (v .wellFormed .sizes) (events m₀ ks) (state (leftAll m₀ ks)) (w .0) (leftAll m₀ ks) (w .1)
+    every-joined P f (sized c p n) (v .wellFormed .sizes) [] (fresh (sized c p n)) refl (left m (set-up c p n)) v ks r
