@@ -1,4 +1,4 @@
--- A fresh state has the invariant, and every call keeps it.
+-- A fresh state has the invariant, and every call keeps it; and what a call moves into done queues.
 pub mod SlotFacts
 pub mod Respects
 pub mod Unseen
@@ -16,3 +16,4 @@ pub mod EveryCall
 pub mod Lookups
 pub mod Runs
 pub mod Start
+pub mod DoneMoves

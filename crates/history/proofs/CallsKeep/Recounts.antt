@@ -1,18 +1,34 @@
 -- Counts renumbered by any function that keeps them in range: no section, lookup, queue, table, generation or pending bit changes, and a snapshot that
 -- equals the counts does after it. So what a call keeps it keeps with its counts renumbered.
 use Prim.Native.Nat.{ℕ, _<_}
-use mathlib.Core.Path.{_≡_, ap, _∙_}
+use mathlib.Core.Path.{_≡_, refl, ap, subst, _∙_}
+use mathlib.Core.Bool.{true, false, not}
+use mathlib.Core.List.{List, map}
 use native.Mathlib.Omega.{arith}
-use Rattle.model.specs.State.{Queues, Lane, Engine, State}
+use borrow.Author.Tests.{not-false}
+use Rattle.model.specs.Lists.{same}
+use Rattle.model.specs.State.{Snapshot, unheld, held, Queues, Lane, Engine, State}
 use Rattle.model.specs.Layout.{countLimit}
-use Rattle.model.specs.Engine.{laneAt}
+use Rattle.model.specs.Engine.{laneAt, differs, quiesced}
 use Rattle.model.specs.Ledger.{Ledger}
-use Rattle.representation.proofs.CallsWellFormed.Recounted.{recountedSnapshot, recountedEngine, recounted}
-use Rattle.representation.proofs.CallsWellFormed.Recounted.{recounted-cases, lane-recounted, queued-recounted, quiesced-recounted, recounted-wellFormed}
+use Rattle.laws.specs.Tests.{same-true, same-self}
+use Rattle.representation.proofs.CallsWellFormed.Recounted.{recountedSnapshot, recountedLane, recountedEngine, recounted}
+use Rattle.representation.proofs.CallsWellFormed.Recounted.{recounted-cases, lane-recounted, queued-recounted, recounted-wellFormed}
 use Rattle.history.proofs.Ties.Halves.{Awaited, AwaitedIn, SafeIn, Asked, now, soon, quiet, Unsampled, Reads, Grace}
 use Rattle.history.proofs.Ties.Invariant.{Tied}
 use Rattle.history.proofs.EngineHalf.SafeQueues.{safe-mono}
 use Rattle.history.proofs.CallsKeep.Respects.{sections-kept, outs-kept, Keeps}
+
+-- counts that equal their snapshot do after it
+quiesced-recounted : (f : ℕ → ℕ) (l : Lane) → quiesced l ≡ false → quiesced (recountedLane f l) ≡ false
+unfolding recountedSnapshot differs
+quiesced-recounted f l = go (l .snapshot)
+  where
+    go : (s : Snapshot) → differs s (l .quiescent) ≡ false → differs (recountedSnapshot f s) (map f (l .quiescent)) ≡ false
+    go unheld h = refl
+    go (held c) h =
+        let e = same-true (l .quiescent) c (not-false (same (l .quiescent) c) h) in
+        ap not (subst (λ (xs : List ℕ). same (map f (l .quiescent)) (map f xs) ≡ true) e (same-self (map f (l .quiescent))))
 
 -- the engine half
 grace-recounted : (f : ℕ → ℕ) {W : ℕ → ℕ → Type 0} (e : Engine) → Grace W e → Grace W (recountedEngine f e)

@@ -30,6 +30,10 @@ abbrev pub Course : State → List Event → State → Type 0
 Course s [] t = s ≡ t
 Course s (e ∷ es) t = Begins s (e .call) (e .answer) (λ (u : State). Course u es t)
 
+-- the same, of the state that they lead from
+abbrev pub Leads : List Event → State → State → Type 0
+Leads es t s = Course s es t
+
 -- the state after the first call, and the rest from there on
 abbrev pub after : (s : State) (k : Call) (r : Answer) (rest : State → Type 0) → Begins s k r rest → State
 after s (set-up c p n) r rest b = s

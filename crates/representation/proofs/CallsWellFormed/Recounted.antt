@@ -1,18 +1,15 @@
 -- Counts renumbered: of each lane, every quiescent count and every count of its snapshot becomes f of it, and all else stays. A well-formed state stays so
--- if f keeps counts in range; and counts that equal their snapshot do after it.
+-- if f keeps counts in range.
 use Prim.Native.Nat.{ℕ, _<_}
-use mathlib.Core.Path.{_≡_, refl, sym, ap, ap₂, subst, _∙_}
-use mathlib.Core.Bool.{Bool, true, false, not}
+use mathlib.Core.Path.{_≡_, refl, sym, ap, ap₂, _∙_}
+use mathlib.Core.Bool.{Bool, true}
 use mathlib.Core.List.{List, [], _∷_, map, map-id}
 use native.Mathlib.Omega.{arith}
 use lib.ListN.{length-map}
-use borrow.Author.Tests.{not-false}
-use Rattle.model.specs.Lists.{same}
 use Rattle.model.specs.State.{Snapshot, unheld, held, Lane, Engine, State}
 use Rattle.model.specs.Layout.{countLimit}
-use Rattle.model.specs.Engine.{freshLane, isPending, laneAt, setQuiescent, setPending, withLanes, runs, differs, quiesced}
+use Rattle.model.specs.Engine.{freshLane, isPending, laneAt, setQuiescent, setPending, withLanes, runs}
 use Rattle.model.specs.Rules.{withEngine}
-use Rattle.laws.specs.Tests.{same-true, same-self}
 use Rattle.laws.specs.Elements.{map-cases, any-map}
 use Rattle.laws.specs.Sums.{sum-map}
 use Rattle.representation.proofs.Discipline.Frame.{inLane, queued}
@@ -61,17 +58,6 @@ module _ (f : ℕ → ℕ) where
 
   pub queued-recounted : (x : ℕ) (e : Engine) → queued x (recountedEngine f e) ≡ queued x e
   queued-recounted x e = omega (arith, sum-map (inLane x) (e .lanes) (recountedLane f) (λ l. refl))
-
-  -- counts that equal their snapshot do after it
-  pub quiesced-recounted : (l : Lane) → quiesced l ≡ false → quiesced (recountedLane f l) ≡ false
-  unfolding recountedSnapshot differs
-  quiesced-recounted l = go (l .snapshot)
-    where
-      go : (s : Snapshot) → differs s (l .quiescent) ≡ false → differs (recountedSnapshot f s) (map f (l .quiescent)) ≡ false
-      go unheld h = refl
-      go (held c) h =
-          let e = same-true (l .quiescent) c (not-false (same (l .quiescent) c) h) in
-          ap not (subst (λ (xs : List ℕ). same (map f (l .quiescent)) (map f xs) ≡ true) e (same-self (map f (l .quiescent))))
 
 -- ---- well-formed states
 
