@@ -12,3 +12,5 @@ pub mod NarrowKept
 pub mod StandsTwo
 pub mod Carried
 pub mod AsBefore
+pub mod CoursesTwo
+pub mod JoinedLists
