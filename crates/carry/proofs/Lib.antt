@@ -14,3 +14,5 @@ pub mod Carried
 pub mod AsBefore
 pub mod CoursesTwo
 pub mod JoinedLists
+pub mod CarryCases
+pub mod Theorems
