@@ -1,20 +1,18 @@
 -- Document 02, request 7, over lists: a memory that was carried goes on as the old one would have until a count would have wrapped, and the list of a memory of
 -- version 3 begins with its set-up, or with the calls of the memory that was carried into it.
-use Prim.Native.Nat.{ℕ, _+_, _-_, _≤_}
+use Prim.Native.Nat.{ℕ, _+_, _-_}
 use mathlib.Core.Path.{_≡_}
 use mathlib.Core.Logic.{_≢_}
-use mathlib.Core.Bool.{true, cond}
+use mathlib.Core.Bool.{cond}
 use mathlib.Core.List.{List, [], _∷_, _++_, map}
-use lib.ListN.{length}
 use lib.Dec.{eqb}
 use Rattle.model.specs.Word.{wordLimit}
-use Rattle.model.specs.Layout.{total}
 use Rattle.model.specs.Engine.{laneAt}
 use Rattle.model.specs.Rules.{Op, pass}
-use Rattle.model.specs.Memory.{Words, sizes, quiescentCount, state}
+use Rattle.model.specs.Memory.{Words, quiescentCount, state}
 use Rattle.model.specs.Calls.{Call, set-up, on-state, reply, left, replies, leftAll}
 use Rattle.model.specs.Ledger.{Event, events, RefusesSetUps, doneSlots, moving, offMoved, movedByClocks, handBacks, movedByOffs}
-use Rattle.carry.specs.Version2.{legal₂, state₂, stored₂, reply₂, left₂, replies₂, leftAll₂}
+use Rattle.carry.specs.Version2.{state₂, stored₂, reply₂, left₂, replies₂, leftAll₂}
 use Rattle.carry.specs.Carrying.{carryReply, carried}
 
 -- ---- nothing stored is lost

@@ -8,9 +8,9 @@ use lib.ListN.{length, take, drop}
 use lib.Dec.{leb, ltb}
 use Rattle.model.specs.Lists.{every, same, from, concatMap}
 use Rattle.model.specs.State.{Sizes, laneCount, State}
-use Rattle.model.specs.Layout.{kinds, countWidth, contentsLength, globalBody, globalLength, masksAt, quiescentAt, snapshotAt, generationAt}
-use Rattle.model.specs.Layout.{laneLength, slotLength, lanesBody, laneAddress, slotsBody}
-use Rattle.model.specs.Memory.{at, sizes, contents, words, state}
+use Rattle.model.specs.Layout.{kinds, countWidth, contentsLength, globalBody, globalLength, masksAt, flagsAt, quiescentAt, snapshotAt, generationAt}
+use Rattle.model.specs.Layout.{laneLength, slotLength, lanesBody, slotsBody}
+use Rattle.model.specs.Memory.{at, sizes, laneWord, contents, words, state}
 use Rattle.model.specs.Legal.{sizesFit, legal}
 use Rattle.model.specs.Rules.{Answer, accepted, refused, cause, firstOf, causes, result, performed, fresh}
 use Rattle.model.specs.Calls.{Call, set-up, on-state, sized}
@@ -52,39 +52,43 @@ contents₂ z =
 
 -- ---- from one version to the other
 
--- n words of m from a on
-abbrev pub run : List ℕ → ℕ → ℕ → List ℕ
-run m a n = map (λ (k : ℕ). at m (a + k)) (from 0 n)
+-- n words from a on, of words that are given by their places
+abbrev pub run : (ℕ → ℕ) → ℕ → ℕ → List ℕ
+run f a n = map f (from a n)
 
--- four counts that stand in m from a on, one word each, in two words each; and back
-abbrev pub spread : List ℕ → ℕ → List ℕ
-spread m a = at m a ∷ 0 ∷ at m (a + 1) ∷ 0 ∷ at m (a + 2) ∷ 0 ∷ at m (a + 3) ∷ 0 ∷ []
+-- four counts that stand from a on, one word each, in two words each; and back
+abbrev pub spread : (ℕ → ℕ) → ℕ → List ℕ
+spread f a = f a ∷ 0 ∷ f (a + 1) ∷ 0 ∷ f (a + 2) ∷ 0 ∷ f (a + 3) ∷ 0 ∷ []
 
-abbrev pub lows : List ℕ → ℕ → List ℕ
-lows m a = at m a ∷ at m (a + countWidth) ∷ at m (a + countWidth * 2) ∷ at m (a + countWidth * 3) ∷ []
+abbrev pub lows : (ℕ → ℕ) → ℕ → List ℕ
+lows f a = f a ∷ f (a + countWidth) ∷ f (a + countWidth * 2) ∷ f (a + countWidth * 3) ∷ []
 
--- the lane's words that stand in m from b on
-unfoldable pub widenedLane : List ℕ → ℕ → List ℕ
-widenedLane m b = at m b ∷ spread m (b + quiescentAt) ++ spread m (b + snapshotAt₂) ++ run m (b + generationAt₂) restLength
+-- a lane's words, in version 3 and in version 2
+unfoldable pub widenedLane : (ℕ → ℕ) → List ℕ
+widenedLane f = f flagsAt ∷ spread f quiescentAt ++ spread f snapshotAt₂ ++ run f generationAt₂ restLength
 
-unfoldable pub narrowedLane : List ℕ → ℕ → List ℕ
-narrowedLane m b = at m b ∷ lows m (b + quiescentAt) ++ lows m (b + snapshotAt) ++ run m (b + generationAt) restLength
+unfoldable pub narrowedLane : (ℕ → ℕ) → List ℕ
+narrowedLane f = f flagsAt ∷ lows f quiescentAt ++ lows f snapshotAt ++ run f generationAt restLength
 
 -- other contents and other lanes; the house's words and the cabinets' masks before the lanes, and the slots' words, from a on in m, are as they were
 unfoldable pub relaid : Sizes → List ℕ → (ℕ → List ℕ) → List ℕ → ℕ → List ℕ
 relaid z c lane m a =
     c
-    ++ run m globalBody (globalLength + z .cabinets)
+    ++ run (at m) globalBody (globalLength + z .cabinets)
     ++ concatMap lane (from 0 (laneCount z))
-    ++ run m a (slotLength * z .slots)
+    ++ run (at m) a (slotLength * z .slots)
+
+-- word k of lane i in a memory of version 2
+abbrev pub laneWord₂ : List ℕ → ℕ → ℕ → ℕ
+laneWord₂ m i k = at m (laneAddress₂ (sizes m) i + k)
 
 -- a memory of version 2 in the words of version 3
 unfoldable pub widened : List ℕ → List ℕ
-widened m = let z = sizes m in relaid z (contents z) (λ (i : ℕ). widenedLane m (laneAddress₂ z i)) m (slotsBody₂ z)
+widened m = let z = sizes m in relaid z (contents z) (λ (i : ℕ). widenedLane (laneWord₂ m i)) m (slotsBody₂ z)
 
 -- words of version 3 in those of version 2
 unfoldable pub narrowed : List ℕ → List ℕ
-narrowed m = let z = sizes m in relaid z (contents₂ z) (λ (i : ℕ). narrowedLane m (laneAddress z i)) m (slotsBody z)
+narrowed m = let z = sizes m in relaid z (contents₂ z) (λ (i : ℕ). narrowedLane (laneWord m i)) m (slotsBody z)
 
 -- ---- legal as version 2, read and written
 

@@ -1,7 +1,8 @@
--- A fresh state has the invariant, and every call keeps it.
+-- A fresh state has the invariant, and every call keeps it; and what a call moves into done queues.
 pub mod SlotFacts
 pub mod Respects
 pub mod Unseen
+pub mod Recounts
 pub mod Sections
 pub mod LookupSteps
 pub mod StartStep
@@ -15,3 +16,4 @@ pub mod EveryCall
 pub mod Lookups
 pub mod Runs
 pub mod Start
+pub mod DoneMoves

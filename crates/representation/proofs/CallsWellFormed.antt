@@ -7,3 +7,4 @@ pub mod NextLanes
 pub mod NextTables
 pub mod Next
 pub mod Fresh
+pub mod Recounted
