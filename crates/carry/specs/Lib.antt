@@ -2,3 +2,4 @@
 pub mod Version2
 pub mod Carrying
 pub mod Joined
+pub mod Contract
