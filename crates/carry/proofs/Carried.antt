@@ -62,7 +62,8 @@ module _ (old second : List ℕ) where
     -- the second memory holds the state that the first did
     pub stands-carried : (s : State) → Stands₂ s old → Stands s (carried old second)
     stands-carried s v = subst (Stands s) (sym (carried-stored ∙ ap (λ (t : State). stored t second) (v .read)))
-        (stands-stored s second (v .wellFormed) (subst (λ (z : Sizes). total z ≤ length second) (sym (sizes-state₂ old) ∙ ap (λ (t : State). t .sizes) (v .read)) (cleared .1)))
+        (stands-stored s second (v .wellFormed)
+        (subst (λ (z : Sizes). total z ≤ length second) (sym (sizes-state₂ old) ∙ ap (λ (t : State). t .sizes) (v .read)) (cleared .1)))
 
 -- ---- nothing stored is lost
 
