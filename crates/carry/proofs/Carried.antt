@@ -16,6 +16,8 @@ use Rattle.model.specs.Calls.{on-state, stored, reply}
 use Rattle.laws.specs.Tests.{refuted}
 use Rattle.representation.proofs.Causes.Passed.{clear}
 use Rattle.representation.proofs.Sentences.Split.{legal-facts}
+use Rattle.representation.specs.Sound.{Sound}
+use Rattle.representation.proofs.FromState.Worded.{stored-words}
 use Rattle.representation.proofs.MemoryCalls.{reply-illegal}
 use Rattle.history.proofs.OverLists.Stands.{Stands, stands-stored}
 use Rattle.carry.specs.Version2.{contents₂, legal₂, state₂, stored₂}
@@ -60,7 +62,8 @@ module _ (old second : List ℕ) where
     -- the second memory holds the state that the first did
     pub stands-carried : (s : State) → Stands₂ s old → Stands s (carried old second)
     stands-carried s v = subst (Stands s) (sym (carried-stored ∙ ap (λ (t : State). stored t second) (v .read)))
-        (stands-stored s second (v .wellFormed) (subst (λ (z : Sizes). total z ≤ length second) (sym (sizes-state₂ old) ∙ ap (λ (t : State). t .sizes) (v .read)) (cleared .1)))
+        (stands-stored s second (v .wellFormed)
+        (subst (λ (z : Sizes). total z ≤ length second) (sym (sizes-state₂ old) ∙ ap (λ (t : State). t .sizes) (v .read)) (cleared .1)))
 
 -- ---- nothing stored is lost
 
@@ -72,6 +75,15 @@ nothing-lost = record { same = same; back = back }
 
     back : (old second : List ℕ) → Words old → carryReply old second .status ≡ 0 → stored₂ (state (carried old second)) old ≡ old
     back old second w h = ap (λ (s : State). stored₂ s old) (same old second w h) ∙ stored-back old (carry-legal old second h) w
+
+-- the second memory is legal, and of words
+pub carried-sound : (old second : List ℕ) → Words old → Words second → carryReply old second .status ≡ 0 → Sound (carried old second)
+carried-sound old second w u h =
+    let v = stands-read₂ old (carry-legal old second h) w in
+    record {
+      lawful = stands-carried old second h (state₂ old) v .lawful;
+      words = subst Words (sym (carried-stored old second h)) (stored-words (state₂ old) (v .wellFormed) second u);
+    }
 
 -- ---- no memory is legal as both versions
 

@@ -7,7 +7,8 @@ use mathlib.Core.List.{List}
 use Rattle.model.specs.Word.{up}
 use Rattle.model.specs.State.{Snapshot, unheld, held, isHeld, Queues, Lane, Engine, State}
 use Rattle.model.specs.Engine.{freshLane, laneAt, setPending, setQueues, withCurrent, withLargest, withGlobal, atLane, awaiting, runs, started, released}
-use Rattle.model.specs.Engine.{settled, ready, target, batched, requested, advancedLane, advancedGlobal, quiesced, sampled, compared, clocked, taken, emptied, leftBy, wentOff}
+use Rattle.model.specs.Engine.{settled, ready, target, batched, requested, advancedLane, advancedGlobal}
+use Rattle.model.specs.Engine.{quiesced, sampled, compared, clocked, taken, emptied, leftBy, wentOff}
 use Rattle.model.specs.Rules.{Op, add, replace, delete, begin, end, start, step, pass, clock, on, off, hand-back, awaited, fromGlobal, performed}
 use Rattle.laws.specs.Tests.{cond-cases}
 use Rattle.laws.specs.ListLaws.{update-cases}
@@ -15,7 +16,12 @@ use Rattle.laws.specs.Elements.{map-cases}
 use Rattle.representation.proofs.Discipline.Frame.{ended-cases}
 use Rattle.representation.proofs.Discipline.Requests.{raised}
 
-module _ (P : List ℕ → Snapshot → Type 0) (dropped : (c : List ℕ) (s : Snapshot) → P c s → P c unheld) (copied : (c : List ℕ) (s : Snapshot) → P c s → P c (held c)) where
+-- what is kept where a snapshot is dropped, and where the counts are copied
+pub record Closed (P : List ℕ → Snapshot → Type 0) : Type 0 where
+  pub dropped : (c : List ℕ) (s : Snapshot) → P c s → P c unheld
+  pub copied : (c : List ℕ) (s : Snapshot) → P c s → P c (held c)
+
+module _ (P : List ℕ → Snapshot → Type 0) (closed : Closed P) where
   abbrev pub OfLane : Lane → Type 0
   OfLane l = P (l .quiescent) (l .snapshot)
 
@@ -41,7 +47,7 @@ module _ (P : List ℕ → Snapshot → Type 0) (dropped : (c : List ℕ) (s : S
       f = atLane i (setPending false unheld) e
 
       k : OfEngine f
-      k = kept-at i (setPending false unheld) e (dropped _ _ (h i)) h
+      k = kept-at i (setPending false unheld) e (closed .dropped _ _ (h i)) h
 
   kept-requested : (g : ℕ) (e : Engine) → OfEngine e → OfEngine (requested g e)
   unfolding requested
@@ -65,7 +71,7 @@ module _ (P : List ℕ → Snapshot → Type 0) (dropped : (c : List ℕ) (s : S
 
   kept-sampled : (l : Lane) → OfLane l → OfLane (sampled l)
   unfolding sampled
-  kept-sampled l h = cond-cases OfLane (l .pending && not (isHeld (l .snapshot))) (λ r. copied _ _ h) (λ r. h)
+  kept-sampled l h = cond-cases OfLane (l .pending && not (isHeld (l .snapshot))) (λ r. closed .copied _ _ h) (λ r. h)
 
   kept-clocked : (i : ℕ) (e : Engine) → OfEngine e → OfEngine (clocked i e)
   unfolding clocked

@@ -41,19 +41,20 @@ narrowed-widened f g e = narrowed-whole g (widenedLane f) e
 
 -- ---- narrowed, then widened
 
-low-low : (c : ℕ) → low (low c) ≡ low c
-low-low c = omega arith
-
-high-low : (c : ℕ) → high (low c) ≡ 0
-high-low c = omega arith
-
 -- the words of counts that are low words
 lowWords : (c : ℕ → ℕ) → List ℕ
 lowWords c = low (c 0) ∷ 0 ∷ low (c 1) ∷ 0 ∷ low (c 2) ∷ 0 ∷ low (c 3) ∷ 0 ∷ []
 
+-- both words of one, and what follows them
+two-words : (c : ℕ) {d : ℕ} {xs ys : List ℕ} → d ≡ low c → xs ≡ ys → low d ∷ high d ∷ xs ≡ low c ∷ 0 ∷ ys
+two-words c {d} e r =
+    let l : low d ≡ low c = omega arith in
+    let h : high d ≡ 0 = omega arith in
+    rw (l, h, r)
+
 countWords-low : (c d : ℕ → ℕ) → ((k : ℕ) → d k ≡ low (c k)) → countWords d ≡ lowWords c
 unfolding lowWords
-countWords-low c d e = rw (e 0, e 1, e 2, e 3, low-low (c 0), low-low (c 1), low-low (c 2), low-low (c 3), high-low (c 0), high-low (c 1), high-low (c 2), high-low (c 3))
+countWords-low c d e = two-words (c 0) (e 0) (two-words (c 1) (e 1) (two-words (c 2) (e 2) (two-words (c 3) (e 3) refl)))
 
 pub getD-low : (xs : List ℕ) (k : ℕ) → getD (map low xs) k 0 ≡ low (getD xs k 0)
 getD-low [] k = omega arith

@@ -8,15 +8,15 @@ use lib.ListN.{length, take}
 use lib.Seq.{getD-take, length-take-le}
 use borrow.Author.Tests.{leb-true, le-leb}
 use Rattle.model.specs.State.{Sizes, laneCount}
-use Rattle.model.specs.Layout.{contentsLength, globalBody, laneLength, slotsBody}
+use Rattle.model.specs.Layout.{contentsLength, globalBody}
 use Rattle.model.specs.Memory.{at, sizes, laneWord, contents}
 use Rattle.model.specs.Legal.{sizesFit, legal}
 use Rattle.laws.specs.Tests.{_&_, clash, every-true, every-intro, same-true, same-self}
-use Rattle.carry.specs.Version2.{laneLength₂, laneAddress₂, slotsBody₂, total₂, contents₂, run, widenedLane, narrowedLane, relaid}
+use Rattle.carry.specs.Version2.{laneLength₂, laneAddress₂, slotsBody₂, total₂, contents₂, run, narrowedLane, relaid}
 use Rattle.carry.specs.Version2.{laneWord₂, widened, narrowed, contentsAgree₂, legal₂}
-use Rattle.carry.proofs.Relaid.{at-run, Laid, laid-equal, laid-lane}
+use Rattle.carry.proofs.Relaid.{at-run, laid-equal, laid-lane}
 use Rattle.carry.proofs.LaneForms.{length-widenedLane, narrowed-widened}
-use Rattle.carry.proofs.Widened.{laid-narrowed, length-narrowed, laid-widened}
+use Rattle.carry.proofs.Widened.{Narrows, laid-narrowed, length-narrowed, laid-widened}
 
 -- contents agree with the sizes, and the total is not above the length
 pub record ContentsFit₂ (m : List ℕ) : Type 0 where
@@ -63,17 +63,12 @@ module _ (m : List ℕ) where
   abbrev z : Sizes
   z = sizes m
 
-  abbrev lane : ℕ → List ℕ
-  lane i = narrowedLane (laneWord (widened m) i)
-
-  lane-back : (i : ℕ) → i < laneCount z → lane i ≡ run (laneWord₂ m i) 0 laneLength₂
+  lane-back : (i : ℕ) → i < laneCount z → narrowedLane (laneWord (widened m) i) ≡ run (laneWord₂ m i) 0 laneLength₂
   unfolding widened relaid contents
-  lane-back i g = narrowed-widened (laneWord₂ m i) (laneWord (widened m) i)
-      (laid-lane z laneLength (contents z) (λ (j : ℕ). widenedLane (laneWord₂ m j)) m (slotsBody₂ z) (widened m) (laid-widened m) i g
-      (length-widenedLane (laneWord₂ m i)))
+  lane-back i g = narrowed-widened (laneWord₂ m i) (laneWord (widened m) i) (laid-lane (laid-widened m) i g (length-widenedLane (laneWord₂ m i)))
 
-  laid-back : ContentsFit₂ m → Laid z laneLength₂ (contents₂ z) lane (widened m) (slotsBody z) (take (total₂ z) m)
-  laid-back f = record {
+  narrows-back : ContentsFit₂ m → Narrows z (widened m) (take (total₂ z) m)
+  narrows-back f = record {
     contents = λ k h. kept k (omega arith) ∙ sym (getD-take contentsLength m k 0 h) ∙ ap (λ (ws : List ℕ). at ws k) (f .agree);
     fixed = λ k h. kept (globalBody + k) (omega arith) ∙ sym (laid-widened m .fixed k h);
     lanes = λ i k g h.
@@ -87,8 +82,5 @@ module _ (m : List ℕ) where
 
   pub narrowed-back : ContentsFit₂ m → narrowed (widened m) ≡ take (total₂ z) m
   unfolding widened relaid contents
-  narrowed-back f =
-      laid-equal z laneLength₂ (contents₂ z) lane (widened m) (slotsBody z) (narrowed (widened m)) (take (total₂ z) m)
-      (length-narrowed (widened m)) (length-take-le (total₂ z) m (f .long))
-      (subst (Laid z laneLength₂ (contents₂ z) lane (widened m) (slotsBody z)) (append-nil (narrowed (widened m))) (laid-narrowed (widened m) []))
-      (laid-back f)
+  narrowed-back f = laid-equal (length-narrowed (widened m)) (length-take-le (total₂ z) m (f .long))
+      (subst (Narrows z (widened m)) (append-nil (narrowed (widened m))) (laid-narrowed (widened m) [])) (narrows-back f)

@@ -16,3 +16,4 @@ pub mod CoursesTwo
 pub mod JoinedLists
 pub mod CarryCases
 pub mod Theorems
+mod Cases

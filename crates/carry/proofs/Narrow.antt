@@ -1,4 +1,5 @@
--- Counts of one word each, and states whose counts all are: what a memory of version 2 stands for. A state written there is read with the low words of its counts.
+-- Counts of one word each, and states whose counts all are: what a memory of version 2 stands for. A state written there is read with the low words of
+-- its counts.
 use Prim.Native.Nat.{ℕ, zero, suc, _<_}
 use mathlib.Core.Path.{_≡_, refl, ap, ap₂}
 use mathlib.Core.List.{List, [], _∷_, map}
@@ -55,7 +56,8 @@ unfolding fresh
 setUp-narrow z i = rw (getD-replicate-default freshLane (laneCount z) i) fresh-narrow
 
 pub lowered-narrow : (s : State) → Narrow (lowered s)
-lowered-narrow s = map-cases-default freshLane (λ (i : ℕ). NarrowLane) (s .engine .lanes) (recountedLane low) (λ i b. fresh-narrow) (λ i b. lane (laneAt (s .engine) i))
+lowered-narrow s = map-cases-default freshLane (λ (i : ℕ). NarrowLane) (s .engine .lanes) (recountedLane low)
+    (λ i b. fresh-narrow) (λ i b. lane (laneAt (s .engine) i))
   where
     lane : (l : Lane) → NarrowLane (recountedLane low l)
     lane l = record { counts = λ k. rw (getD-low (l .quiescent) k) (omega arith); snapshot = λ k. rw (snapshot-low (l .snapshot) k) (omega arith) }
@@ -74,7 +76,8 @@ snapshot-same (held c) h = ap held (low-same c h)
 lanes-same : (ls : List Lane) → ((i : ℕ) → NarrowLane (getD ls i freshLane)) → map (recountedLane low) ls ≡ ls
 lanes-same [] h = refl
 lanes-same (l ∷ ls) h = ap₂ (λ (k : Lane) (r : List Lane). k ∷ r)
-    (ap₂ (λ (c : List ℕ) (s : Snapshot). setPending (l .pending) s (setQuiescent c l)) (low-same (l .quiescent) (h 0 .counts)) (snapshot-same (l .snapshot) (h 0 .snapshot)))
+    (ap₂ (λ (c : List ℕ) (s : Snapshot). setPending (l .pending) s (setQuiescent c l))
+    (low-same (l .quiescent) (h 0 .counts)) (snapshot-same (l .snapshot) (h 0 .snapshot)))
     (lanes-same ls (λ i. h (suc i)))
 
 pub lowered-same : (s : State) → Narrow s → lowered s ≡ s

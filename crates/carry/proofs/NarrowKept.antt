@@ -2,10 +2,9 @@
 use Prim.Native.Nat.{ℕ, _-_, _<_}
 use mathlib.Core.Path.{_≡_, ap, _∙_}
 use mathlib.Core.Logic.{_≢_}
-use mathlib.Core.List.{List}
 use native.Mathlib.Omega.{arith}
 use Rattle.model.specs.Word.{wordLimit, upTo}
-use Rattle.model.specs.State.{Snapshot, unheld, held, State}
+use Rattle.model.specs.State.{State}
 use Rattle.model.specs.Layout.{countLimit}
 use Rattle.model.specs.Engine.{laneAt, counted}
 use Rattle.model.specs.Rules.{Op, pass, Answer, performed, answer, next}
@@ -14,15 +13,14 @@ use Rattle.laws.specs.ListLaws.{update-cases}
 use Rattle.representation.proofs.Causes.Passed.{call-cases, answer-accepted}
 use Rattle.representation.proofs.CallsWellFormed.Next.{status}
 use Rattle.carry.proofs.Narrow.{NarrowCounts, Narrow}
-use Rattle.carry.proofs.CountsKept.{kept-at, kept-performed}
+use Rattle.carry.proofs.CountsKept.{Closed, kept-at, kept-performed}
 
-narrow-dropped : (c : List ℕ) (s : Snapshot) → NarrowCounts c s → NarrowCounts c unheld
+closed : Closed NarrowCounts
 unfolding snapshotCount
-narrow-dropped c s h = record { counts = h .counts; snapshot = λ k. omega arith }
-
-narrow-copied : (c : List ℕ) (s : Snapshot) → NarrowCounts c s → NarrowCounts c (held c)
-unfolding snapshotCount
-narrow-copied c s h = record { counts = h .counts; snapshot = h .counts }
+closed = record {
+  dropped = λ c s h. record { counts = h .counts; snapshot = λ k. omega arith };
+  copied = λ c s h. record { counts = h .counts; snapshot = h .counts };
+}
 
 -- the count that a pass finds is not the last word
 abbrev pub Passes : State → Op → Type 0
@@ -33,7 +31,7 @@ above c h n = omega arith
 
 narrow-pass : (s : State) (i k : ℕ) → Narrow s → quiescentCount (laneAt (s .engine) i) k ≢ wordLimit - 1 → Narrow (performed s (pass i k))
 unfolding performed counted
-narrow-pass s i k h n = kept-at NarrowCounts narrow-dropped narrow-copied i (counted k) (s .engine)
+narrow-pass s i k h n = kept-at NarrowCounts closed i (counted k) (s .engine)
     (record {
       counts = update-cases 0 (λ (j x : ℕ). x < wordLimit) (laneAt (s .engine) i .quiescent) k (upTo countLimit) (h i .counts) (above _ (h i .counts k) n);
       snapshot = h i .snapshot;
@@ -41,6 +39,6 @@ narrow-pass s i k h n = kept-at NarrowCounts narrow-dropped narrow-copied i (cou
 
 pub narrow-next : (s : State) (o : Op) → Narrow s → Passes s o → Narrow (next s o)
 narrow-next s o h p = call-cases (λ (t : State) (r : Answer). Narrow t) s o
-    (λ z. kept-performed NarrowCounts narrow-dropped narrow-copied s o
+    (λ z. kept-performed NarrowCounts closed s o
     (λ i k e. narrow-pass s i k h (p i k e (ap (λ (r : Answer). r .status) (answer-accepted s o z) ∙ status s o))) h)
     (λ m. h)

@@ -66,10 +66,10 @@ pub record Laid (z : Sizes) (w : ℕ) (c : List ℕ) (lane : ℕ → List ℕ) (
   pub lanes : (i k : ℕ) → i < laneCount z → k < w → at n (lanesBody z + w * i + k) ≡ at (lane i) k
   pub slots : (k : ℕ) → k < slotsLength z → at n (lanesEnd z w + k) ≡ at m (a + k)
 
-module _ (z : Sizes) (w : ℕ) (c : List ℕ) (lane : ℕ → List ℕ) (m : List ℕ) (a : ℕ) where
+module _ {z : Sizes} {w : ℕ} {c : List ℕ} {lane : ℕ → List ℕ} {m : List ℕ} {a : ℕ} where
   -- two lists that hold the same words are equal
-  pub laid-equal : (n o : List ℕ) → length n ≡ whole z w → length o ≡ whole z w → Laid z w c lane m a n → Laid z w c lane m a o → n ≡ o
-  laid-equal n o p q v u = ext-getD 0 n o (p ∙ sym q) (λ x b. part-cases z w (λ (x : ℕ). at n x ≡ at o x)
+  pub laid-equal : {n o : List ℕ} → length n ≡ whole z w → length o ≡ whole z w → Laid z w c lane m a n → Laid z w c lane m a o → n ≡ o
+  laid-equal {n} {o} p q v u = ext-getD 0 n o (p ∙ sym q) (λ x b. part-cases z w (λ (x : ℕ). at n x ≡ at o x)
       (λ k h. v .contents k h ∙ sym (u .contents k h))
       (λ k h. v .fixed k h ∙ sym (u .fixed k h))
       (λ i k g h. v .lanes i k g h ∙ sym (u .lanes i k g h))
@@ -77,10 +77,11 @@ module _ (z : Sizes) (w : ℕ) (c : List ℕ) (lane : ℕ → List ℕ) (m : Lis
       x (omega arith))
 
   -- the words of lane i, one by one, are its words
-  pub laid-lane : (n : List ℕ) → Laid z w c lane m a n → (i : ℕ) → i < laneCount z → length (lane i) ≡ w
+  pub laid-lane : {n : List ℕ} → Laid z w c lane m a n → (i : ℕ) → i < laneCount z → length (lane i) ≡ w
       → run (λ (k : ℕ). at n (lanesBody z + w * i + k)) 0 w ≡ lane i
-  laid-lane n v i g l = map-from-getD (λ (k : ℕ). at n (lanesBody z + w * i + k)) 0 (lane i) w l (λ k h. v .lanes i k g h)
+  laid-lane {n} v i g l = map-from-getD (λ (k : ℕ). at n (lanesBody z + w * i + k)) 0 (lane i) w l (λ k h. v .lanes i k g h)
 
+module _ (z : Sizes) (w : ℕ) (c : List ℕ) (lane : ℕ → List ℕ) (m : List ℕ) (a : ℕ) where
   module _ (twelve : length c ≡ contentsLength) (filled : (i : ℕ) → length (lane i) ≡ w) where
     areas : List Area
     areas =

@@ -20,7 +20,7 @@ use Rattle.representation.proofs.CallsWellFormed.Next.{status, sizes-next, next
 use Rattle.carry.specs.Version2.{total₂, legal₂, state₂, stored₂, refusalOf₂, replyOf₂, leftOf₂, reply₂, left₂}
 use Rattle.carry.proofs.LegalTwo.{legal-facts₂}
 use Rattle.carry.proofs.Narrow.{Narrow, lowered, lowered-wellFormed, lowered-narrow, lowered-same, setUp-narrow}
-use Rattle.carry.proofs.ReadTwo.{sizes-state₂, wellFormed₂, narrow₂}
+use Rattle.carry.proofs.ReadTwo.{sizes-state₂, wellFormed₂, stored-back}
 use Rattle.carry.proofs.WriteTwo.{length-stored₂, legal-stored₂, state-stored₂}
 
 -- memory m of version 2 holds s
@@ -31,13 +31,21 @@ pub record Stands₂ (s : State) (m : List ℕ) : Type 0 where
   pub read : state₂ m ≡ s
   pub long : total₂ (s .sizes) ≤ length m
 
+long₂ : (m : List ℕ) → legal₂ m ≡ true → total₂ (state₂ m .sizes) ≤ length m
+long₂ m h = subst (λ (z : Sizes). total₂ z ≤ length m) (sym (sizes-state₂ m)) (legal-facts₂ m h .contents .long)
+
+-- a memory of words holds the state that it reads as: written again and read, it is the state with the low words of its counts
+pub narrow₂ : (m : List ℕ) → legal₂ m ≡ true → Words m → Narrow (state₂ m)
+narrow₂ m h w = subst Narrow
+    (sym (state-stored₂ (state₂ m) m (wellFormed₂ m h w) (long₂ m h)) ∙ ap state₂ (stored-back m h w)) (lowered-narrow (state₂ m))
+
 pub stands-read₂ : (m : List ℕ) → legal₂ m ≡ true → Words m → Stands₂ (state₂ m) m
 stands-read₂ m h w = record {
   wellFormed = wellFormed₂ m h w;
   narrow = narrow₂ m h w;
   lawful = h;
   read = refl;
-  long = subst (λ (z : Sizes). total₂ z ≤ length m) (sym (sizes-state₂ m)) (legal-facts₂ m h .contents .long);
+  long = long₂ m h;
 }
 
 pub stands-stored₂ : (s : State) (m : List ℕ) → WellFormed s → total₂ (s .sizes) ≤ length m → Stands₂ (lowered s) (stored₂ s m)

@@ -28,19 +28,23 @@ length-contents₂ : (z : Sizes) → length (contents₂ z) ≡ contentsLength
 unfolding contents₂
 length-contents₂ z = refl
 
+-- a list holds the words of m, of these sizes, narrowed; widened
+abbrev pub Narrows : Sizes → List ℕ → List ℕ → Type 0
+Narrows z m = Laid z laneLength₂ (contents₂ z) (λ (i : ℕ). narrowedLane (laneWord m i)) m (slotsBody z)
+
+abbrev pub Widens : Sizes → List ℕ → List ℕ → Type 0
+Widens z m = Laid z laneLength (contents z) (λ (i : ℕ). widenedLane (laneWord₂ m i)) m (slotsBody₂ z)
+
 -- ---- narrowed
 
 module _ (m : List ℕ) where
-  pub laid-narrowed : (rest : List ℕ)
-      → Laid (sizes m) laneLength₂ (contents₂ (sizes m)) (λ (i : ℕ). narrowedLane (laneWord m i)) m (slotsBody (sizes m)) (narrowed m ++ rest)
+  pub laid-narrowed : (rest : List ℕ) → Narrows (sizes m) m (narrowed m ++ rest)
   unfolding narrowed
-  laid-narrowed = laid-relaid (sizes m) laneLength₂ (contents₂ (sizes m)) (λ (i : ℕ). narrowedLane (laneWord m i)) m (slotsBody (sizes m))
-      (length-contents₂ (sizes m)) (λ i. length-narrowedLane (laneWord m i))
+  laid-narrowed = laid-relaid _ laneLength₂ _ _ m _ (length-contents₂ (sizes m)) (λ i. length-narrowedLane (laneWord m i))
 
   pub length-narrowed : length (narrowed m) ≡ total₂ (sizes m)
   unfolding narrowed
-  length-narrowed = length-relaid (sizes m) laneLength₂ (contents₂ (sizes m)) (λ (i : ℕ). narrowedLane (laneWord m i)) m (slotsBody (sizes m))
-      (length-contents₂ (sizes m)) (λ i. length-narrowedLane (laneWord m i))
+  length-narrowed = length-relaid _ laneLength₂ _ _ m _ (length-contents₂ (sizes m)) (λ i. length-narrowedLane (laneWord m i))
 
 -- ---- widened
 
@@ -48,17 +52,14 @@ module _ (m : List ℕ) where
   abbrev z : Sizes
   z = sizes m
 
-  abbrev lane : ℕ → List ℕ
-  lane i = widenedLane (laneWord₂ m i)
-
-  pub laid-widened : Laid z laneLength (contents z) lane m (slotsBody₂ z) (widened m)
+  pub laid-widened : Widens z m (widened m)
   unfolding widened
-  laid-widened = subst (Laid z laneLength (contents z) lane m (slotsBody₂ z)) (append-nil (widened m))
-      (laid-relaid z laneLength (contents z) lane m (slotsBody₂ z) (length-contents z) (λ i. length-widenedLane (laneWord₂ m i)) [])
+  laid-widened = subst (Widens z m) (append-nil (widened m))
+      (laid-relaid z laneLength _ _ m _ (length-contents z) (λ i. length-widenedLane (laneWord₂ m i)) [])
 
   pub length-widened : length (widened m) ≡ total z
   unfolding widened
-  length-widened = length-relaid z laneLength (contents z) lane m (slotsBody₂ z) (length-contents z) (λ i. length-widenedLane (laneWord₂ m i))
+  length-widened = length-relaid z laneLength _ _ m _ (length-contents z) (λ i. length-widenedLane (laneWord₂ m i))
 
   pub sizes-widened : sizes (widened m) ≡ z
   unfolding widened relaid contents
@@ -77,7 +78,7 @@ module _ (m : List ℕ) where
       & omega arith & omega arith
       & tt
 
-  lane-words : Words m → (i : ℕ) → Each Word (lane i)
+  lane-words : Words m → (i : ℕ) → Each Word (widenedLane (laneWord₂ m i))
   unfolding widenedLane
   lane-words w i =
       let v : (k : ℕ) → Word (laneWord₂ m i k) = λ k. w (laneAddress₂ z i + k) in
@@ -94,7 +95,7 @@ module _ (m : List ℕ) where
             (λ k b. subst Word (sym (laid-widened .contents k b)) (each-getD 0 Word (contents z) (contents-words h) k (omega (arith, length-contents z))))
             (λ k b. subst Word (sym (laid-widened .fixed k b)) (w _))
             (λ i k a b. subst Word (sym (laid-widened .lanes i k a b))
-            (each-getD 0 Word (lane i) (lane-words w i) k (omega (arith, length-widenedLane (laneWord₂ m i)))))
+            (each-getD 0 Word (widenedLane (laneWord₂ m i)) (lane-words w i) k (omega (arith, length-widenedLane (laneWord₂ m i)))))
             (λ k b. subst Word (sym (laid-widened .slots k b)) (w _))
             x b
         | no b ↦ subst Word (sym (List·getD-eq-default (widened m) 0 (omega (arith, length-widened)))) (omega arith)

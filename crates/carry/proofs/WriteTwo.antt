@@ -19,11 +19,11 @@ use Rattle.representation.proofs.Addresses.Fields.{Field, top, head, end, mask,
 use Rattle.representation.proofs.Addresses.Writes.{length-words, words-field}
 use Rattle.representation.proofs.Round.{ReadsBack, state-words}
 use Rattle.representation.proofs.CallsWellFormed.Recounted.{recountedLane}
-use Rattle.carry.specs.Version2.{laneLength₂, slotsBody₂, total₂, contents₂, widenedLane, narrowedLane, relaid}
+use Rattle.carry.specs.Version2.{total₂, contents₂, widenedLane, relaid}
 use Rattle.carry.specs.Version2.{laneWord₂, widened, narrowed, legal₂, state₂, stored₂}
-use Rattle.carry.proofs.Relaid.{Laid, laid-lane}
+use Rattle.carry.proofs.Relaid.{laid-lane}
 use Rattle.carry.proofs.LaneForms.{length-narrowedLane, widened-narrowed}
-use Rattle.carry.proofs.Widened.{length-contents, laid-narrowed, length-narrowed, laid-widened, length-widened}
+use Rattle.carry.proofs.Widened.{Narrows, Widens, length-contents, laid-narrowed, length-narrowed, laid-widened, length-widened}
 use Rattle.carry.proofs.LegalTwo.{facts-legal₂}
 use Rattle.carry.proofs.RecountedWords.{slot-recounted, top-recounted, mask-recounted}
 use Rattle.carry.proofs.Narrow.{lowered, lowered-wellFormed}
@@ -47,11 +47,11 @@ module _ (s : State) (m : List ℕ) where
   unfolding narrowed relaid contents₂ words contents
   contents-stored₂ = refl
 
-  laid-two : Laid z laneLength₂ (contents₂ z) (λ (i : ℕ). narrowedLane (laneWord (words s) i)) (words s) (slotsBody z) n
+  laid-two : Narrows z (words s) n
   unfolding words contents
   laid-two = laid-narrowed (words s) (drop (total₂ z) m)
 
-  laid-three : Laid z laneLength (contents z) (λ (i : ℕ). widenedLane (laneWord₂ n i)) n (slotsBody₂ z) (widened n)
+  laid-three : Widens z n (widened n)
   unfolding narrowed relaid contents₂ words contents
   laid-three = laid-widened n
 
@@ -68,8 +68,7 @@ module _ (s : State) (m : List ℕ) where
   unfolding narrowed relaid contents₂ words contents laneWords
   lane-low i g = widened-narrowed (laneAt (s .engine) i) (laneWord (words s) i) (laneWord₂ n i)
       (map-from-getD (laneWord (words s) i) 0 (laneWords (laneAt (s .engine) i)) laneLength refl (λ k h. words-field s (lane i k) (g, h)))
-      (laid-lane z laneLength₂ (contents₂ z) (λ (j : ℕ). narrowedLane (laneWord (words s) j)) (words s) (slotsBody z) n laid-two i g
-      (length-narrowedLane (laneWord (words s) i)))
+      (laid-lane laid-two i g (length-narrowedLane (laneWord (words s) i)))
 
   widened-field : WellFormed s → (f : Field) → Inside z f → at (widened n) (address z f) ≡ value (lowered s) f
   widened-field w (top k) h =
