@@ -30,7 +30,7 @@ pub record Legal₂ (m : List ℕ) : Type 0 where
   pub lawful : legal (widened m) ≡ true
 
 module _ (m : List ℕ) where
-  contents-fit₂ : contentsAgree₂ m ≡ true → ContentsFit₂ m
+  pub contents-fit₂ : contentsAgree₂ m ≡ true → ContentsFit₂ m
   unfolding contentsAgree₂
   contents-fit₂ h =
       let (present, (inRange, (agree, (long, rest)))) = every-true _ h in

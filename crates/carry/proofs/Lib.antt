@@ -17,3 +17,5 @@ pub mod JoinedLists
 pub mod CarryCases
 pub mod Theorems
 mod Cases
+mod CodeLaws
+mod WaysOut

@@ -13,9 +13,12 @@ use Rattle.access.specs.Contract.{five}
 use Rattle.carry.specs.Version2.{laneLength₂, total₂, widenedLane}
 use Rattle.carry.specs.Carrying.{carryReply, carried}
 
--- lane i of those that stand in a memory of version 2 from b on, in the words of version 3
+-- the lane that stands in a memory of version 2 from b on, in the words of version 3; and lane i of those that stand there
+abbrev pub laneFrom : List ℕ → ℕ → List ℕ
+laneFrom m b = widenedLane (λ (k : ℕ). at m (b + k))
+
 abbrev pub lanesFrom : List ℕ → ℕ → ℕ → List ℕ
-lanesFrom m b i = widenedLane (λ (k : ℕ). at m (b + laneLength₂ * i + k))
+lanesFrom m b i = laneFrom m (b + laneLength₂ * i)
 
 -- there is room for a memory of version 2 with these sizes in the words of version 3
 pub record Widens (old : List ℕ) (z : Sizes) (new : List ℕ) : Type 0 where

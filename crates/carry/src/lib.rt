@@ -2,18 +2,17 @@
 // function's own first, where the one legality check there is tells whether it is legal; only then is it widened into the
 // second memory.
 ghost use mathlib.Core.Path.{_≡_};
-ghost use mathlib.Core.Bool.{true};
 ghost use mathlib.Core.List.{_++_};
 ghost use Prim.Native.Nat.{_+_, _*_, _≤_};
 ghost use lib.ListN.{length, drop};
 ghost use lib.Seq.{sets};
 ghost use Rattle.model.specs.Layout.{countsWidth, kinds, contentsLength, laneLength, total};
-ghost use Rattle.model.specs.Memory.{at as wordAt, sizes};
+ghost use Rattle.model.specs.Memory.{at as wordAt};
 ghost use Rattle.model.specs.Legal.{legal};
 ghost use Rattle.words.specs.Lent.{sizesOf, Few};
 ghost use Rattle.set_up.specs.Written.{Written, rows};
-ghost use Rattle.carry.specs.Version2.{laneLength₂, total₂, contents₂, run, spread, widenedLane, widened, contentsAgree₂, legal₂};
-ghost use Rattle.carry.specs.Contract.{Widens, lanesFrom, Carries};
+ghost use Rattle.carry.specs.Version2.{laneLength₂, total₂, contents₂, run, spread, widened, contentsAgree₂, legal₂};
+ghost use Rattle.carry.specs.Contract.{Widens, laneFrom, lanesFrom, Carries};
 use access::causes;
 
 // the version word, and where a lane's words stood
@@ -64,9 +63,9 @@ fn spread_counts(old: &[u32], from: usize, new: &mut [u32], to: usize)
 // The lane whose words stand from b on.
 fn widen_lane(old: &[u32], b: usize, new: &mut [u32], to: usize)
     requires { ⌜ (b + laneLength₂ ≤ length (now old)) × (to + laneLength ≤ length (now new)) ⌝ }
-    ensures { λ _. ⌜ Written (now (new .entry)) to (lanesFrom (now (old .entry)) b 0) (now (new .exit)) ⌝ }
+    ensures { λ _. ⌜ Written (now (new .entry)) to (laneFrom (now (old .entry)) b) (now (new .exit)) ⌝ }
 {
-    new[to] = old[b];
+    copy_run(old, b, new, to, 1);
     spread_counts(old, b + words::QUIESCENT_AT, new, to + words::QUIESCENT_AT);
     spread_counts(old, b + SNAPSHOT_AT_2, new, to + words::SNAPSHOT_AT);
     copy_run(
