@@ -4,10 +4,10 @@
  * is the least of many rounds; printed are the plain loop's time and the ratios.
  *
  * Built with -DTEST_LIBRARY, the calls of the library are measured: step and awaited
- * on tables of several sizes, each of the fourteen on the full table, and those that
- * need a lane's cabinet and place by first and last lane. With -DBENCH_BEFORE besides,
+ * on tables of several sizes, each of the fourteen and the carry on the full table, and
+ * those that need a lane's cabinet and place by first and last lane. With -DBENCH_BEFORE besides,
  * another archive stands in the C version's place, its functions named before_ in place
- * of pt_. Otherwise the legality check alone, which each call but set-up makes first.
+ * of pt_, and the carry is left out. Otherwise the legality check alone, which each call but set-up makes first.
  */
 #define _POSIX_C_SOURCE 199309L
 #include <stdbool.h>
@@ -21,6 +21,7 @@
 #include "codes.h"
 #include "layout.h"
 #include "reference.h"
+#include "reference_v2.h"
 
 enum { WORDS = PT_WORDS(PT_MAX_CABINETS, PT_MAX_LANES, PT_MAX_SLOTS), ANSWER = PT_ANSWER_WORDS, ROUNDS = 200, ROUND_NANOSECONDS = 200000, CHANGES = 64, CODES = 1025 };
 
@@ -380,7 +381,8 @@ static uint32_t of_beside(void) { return ref_legal(memory, WORDS); }
 /* ---- time */
 
 enum { PLAIN, LIBRARY, OTHER, MEASURED };
-static uint32_t (*const measured[MEASURED])(void) = { plain, of_library, of_beside };
+typedef uint32_t measured(void);
+static measured *const of_call[MEASURED] = { plain, of_library, of_beside };
 
 static double now(void)
 {
@@ -390,7 +392,7 @@ static double now(void)
 	return (double)t.tv_sec * 1e9 + (double)t.tv_nsec;
 }
 
-static double round_of(uint32_t (*call)(void), unsigned long calls)
+static double round_of(measured *call, unsigned long calls)
 {
 	double start = now();
 	unsigned long i;
@@ -401,21 +403,21 @@ static double round_of(uint32_t (*call)(void), unsigned long calls)
 }
 
 /* Least nanoseconds of a call, of the three in turns, so that all see the same machine. */
-static void least(double nanoseconds[MEASURED])
+static void least(measured *const call[MEASURED], double nanoseconds[MEASURED])
 {
 	unsigned long calls[MEASURED];
 	int i;
 	int n;
 
 	for (i = 0; i < MEASURED; i++) {
-		double once = round_of(measured[i], 8);
+		double once = round_of(call[i], 8);
 
 		calls[i] = once < ROUND_NANOSECONDS ? (unsigned long)(ROUND_NANOSECONDS / once) : 1;
 		nanoseconds[i] = once;
 	}
 	for (n = 0; n < ROUNDS; n++)
 		for (i = 0; i < MEASURED; i++) {
-			double time = round_of(measured[i], calls[i]);
+			double time = round_of(call[i], calls[i]);
 
 			if (time < nanoseconds[i])
 				nanoseconds[i] = time;
@@ -433,7 +435,7 @@ static void row(size_t s, int use, const char *name)
 {
 	double ns[MEASURED];
 
-	least(ns);
+	least(of_call, ns);
 	printf("| %u × %u × %u | %zu | %s | %s | %.0f | %.2f | %.2f |\n",
 		(unsigned)sizes[s].cabinets, (unsigned)sizes[s].lanes, (unsigned)sizes[s].slots,
 		total, use_names[use], name, ns[PLAIN], ns[LIBRARY] / ns[PLAIN], ns[OTHER] / ns[PLAIN]);
@@ -450,6 +452,33 @@ static void rows_of_table(size_t s, int use)
 	}
 }
 
+#ifdef BENCH_BEFORE
+static void row_of_carry(void) {} /* the archive before may have none */
+#else
+static uint32_t old[WORDS];
+
+static uint32_t carry_of_library(void) { return tested.carry(old, WORDS, LENT); }
+static uint32_t carry_of_beside(void) { return BESIDE.carry(old, WORDS, LENT); }
+static measured *const of_carry[MEASURED] = { plain, carry_of_library, carry_of_beside };
+
+/* The full table of version 2, all slots used, into a memory of this one, on which the plain loop goes. */
+static void row_of_carry(void)
+{
+	enum { LANES = 64, SLOTS = 1024 };
+	double ns[MEASURED];
+	uint32_t n;
+
+	must(v2_setup(old, WORDS, answer, ANSWER, 8, 8, SLOTS));
+	for (n = 0; n < SLOTS; n++)
+		must(v2_add(old, WORDS, answer, ANSWER, n % LANES, code_of(EVEN, n), n, n % 8));
+	must(carry_of_beside());
+	total = answer[1];
+	least(of_carry, ns);
+	printf("| carry | %zu | %.0f | %.0f | %.0f | %.2f | %.2f |\n", total, ns[PLAIN], ns[LIBRARY], ns[OTHER],
+		ns[LIBRARY] / ns[PLAIN], ns[LIBRARY] / ns[OTHER]);
+}
+#endif
+
 /* Each call on the full table. Set-up is made on a table that is set up already. */
 static void rows_of_calls(void)
 {
@@ -465,10 +494,11 @@ static void rows_of_calls(void)
 		else
 			build_for_all();
 		choose(&all_calls[i]);
-		least(ns);
+		least(of_call, ns);
 		printf("| %s | %zu | %.0f | %.0f | %.0f | %.2f | %.2f |\n", call_forms[all_calls[i].name].command, change_count,
 			ns[PLAIN], ns[LIBRARY], ns[OTHER], ns[LIBRARY] / ns[PLAIN], ns[LIBRARY] / ns[OTHER]);
 	}
+	row_of_carry();
 }
 
 /* The calls that need a lane's cabinet and place, of the first lane, which takes no subtraction, and of the last. */
@@ -482,7 +512,7 @@ static void rows_of_lane(uint32_t cabinets, uint32_t lanes, uint32_t slots, uint
 
 		build_for_lane(cabinets, lanes, slots, lane);
 		choose(&calls[i]);
-		least(ns);
+		least(of_call, ns);
 		printf("| %u × %u × %u | %u | %s | %.0f | %.0f | %.3f |\n", (unsigned)cabinets, (unsigned)lanes, (unsigned)slots,
 			(unsigned)lane, call_forms[calls[i].name].command, ns[LIBRARY], ns[OTHER], ns[LIBRARY] / ns[OTHER]);
 	}

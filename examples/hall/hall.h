@@ -20,7 +20,8 @@ enum {
 	OFFICE = LANES, /* the office's number as a client */
 	CLIENTS,
 	SLOTS = 160,
-	PRODUCTS = 120
+	PRODUCTS = 120,
+	OLD_WORDS = 92 + CABINETS + 22 * LANES + 6 * SLOTS /* of the table in version 2 */
 };
 
 /*
@@ -64,7 +65,8 @@ void office_serve(struct client *client);
 
 /* ---- history.c: the calls in their order, and the ledger's verdict on them */
 
-void history_note(const struct call *call, const uint32_t *answer);
+/* A call and its answer; @carried: on the second memory, by the library. */
+void history_note(const struct call *call, const uint32_t *answer, bool carried);
 
 /* Prints what happened; returns whether there was no fault. */
 bool history_judge(void);

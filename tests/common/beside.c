@@ -169,13 +169,12 @@ static enum difference in_step(struct beside *beside, const struct left *left)
 	uint32_t answer[PT_ANSWER_WORDS];
 	bool wraps;
 
-	if (left->status == PT_SHORT_ANSWER || beside->words < total_of(beside->before))
-		return SAME;
 	if (beside->call.name == CALL_SETUP) {
 		beside->in_step = beside->in_step && left->status != PT_OK;
 		return SAME;
 	}
-	if (!beside->in_step)
+	/* lent short: the call is refused for that, or does nothing */
+	if (!beside->in_step || left->status == PT_SHORT_ANSWER || beside->words < total_of(beside->before))
 		return SAME;
 	beside->stepped = true;
 	wraps = left->status == PT_OK && wraps_before(beside);
@@ -421,6 +420,11 @@ enum difference beside_step(struct beside *beside, const struct step *step)
 	switch (step->kind) {
 	case STEP_CARRY:
 		return beside_carry(beside);
+	case STEP_HOLD:
+		memcpy(beside->old, beside->memory, sizeof beside->old);
+		beside->old_words = beside->words;
+		beside->old_fed = false;
+		return SAME;
 	case STEP_READ:
 	case STEP_WRITE:
 		return beside_label(beside, step);

@@ -364,7 +364,7 @@ static void ahead_older(struct drawer *drawer, const uint32_t *memory, size_t wo
 		ahead_call(drawer, &(struct call){ CALL_DELETE, { lane, wrong } });
 }
 
-/* A call, or the table's set-up, with fewer words lent than belong to it. */
+/* A call, the table's set-up or a carry, with fewer words lent than belong to it. */
 static void ahead_short(struct drawer *drawer, enum step_kind kind, uint32_t below, size_t whole)
 {
 	const struct list *list = drawer->list;
@@ -372,6 +372,8 @@ static void ahead_short(struct drawer *drawer, enum step_kind kind, uint32_t bel
 	ahead(drawer, kind, draw_below(&drawer->seed, below), 0);
 	if (draw_below(&drawer->seed, 4) == 0)
 		ahead_call(drawer, &(struct call){ CALL_SETUP, { list->cabinets, list->lanes, list->slots } });
+	else if (draw_below(&drawer->seed, 4) == 0)
+		ahead(drawer, STEP_CARRY, 0, 0); /* from an old memory as the last carry found it */
 	else
 		ahead_drawn(drawer, 1);
 	ahead(drawer, kind, (uint32_t)whole, 0);
@@ -435,13 +437,13 @@ static uint32_t ahead_old_calls(struct drawer *drawer)
 	return lane;
 }
 
-/* Short of words, or damaged; the memory and the list go on as they were. */
+/* Short of words, of another version, or damaged; the memory and the list go on as they were. */
 static void ahead_carry_refused(struct drawer *drawer, uint32_t total, size_t words)
 {
 	const struct list *list = drawer->list;
 	uint32_t old_total = total - (LANE_WORDS - V2_LANE_WORDS) * list->cabinets * list->lanes;
 
-	switch (draw_below(&drawer->seed, 3)) {
+	switch (draw_below(&drawer->seed, 4)) {
 	case 0:
 		ahead(drawer, STEP_LEND, draw_below(&drawer->seed, 4) == 0 ? total - 1 : draw_below(&drawer->seed, total), 0);
 		ahead(drawer, STEP_CARRY, 0, 0);
@@ -451,6 +453,9 @@ static void ahead_carry_refused(struct drawer *drawer, uint32_t total, size_t wo
 		ahead_old(drawer, STEP_LEND, draw_below(&drawer->seed, old_total), 0);
 		ahead(drawer, STEP_CARRY, 0, 0);
 		ahead_old(drawer, STEP_LEND, old_total, 0);
+		break;
+	case 2: /* a memory of this version */
+		ahead(drawer, STEP_HOLD, 0, 0);
 		break;
 	default: /* any word at all: mostly it is not legal then */
 		ahead_old(drawer, STEP_POKE, draw_below(&drawer->seed, old_total), draw_below(&drawer->seed, 20));

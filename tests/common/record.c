@@ -175,6 +175,9 @@ static void remark(const struct step *step, const uint32_t sizes[3], char text[W
 	case STEP_ANSWER:
 		snprintf(text, WORD_TEXT + 8, "(so many words of answer are lent)");
 		break;
+	case STEP_HOLD:
+		snprintf(text, WORD_TEXT + 8, "(the old memory is a copy of the memory)");
+		break;
 	default:
 		snprintf(text, WORD_TEXT + 8, "(the words of the last accepted call)");
 	}

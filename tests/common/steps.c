@@ -132,6 +132,9 @@ void step_text(const struct step *step, char text[STEP_TEXT])
 	case STEP_CARRY:
 		snprintf(text, STEP_TEXT, "carry");
 		break;
+	case STEP_HOLD:
+		snprintf(text, STEP_TEXT, "hold");
+		break;
 	case STEP_READ:
 		read_text(step, text);
 		break;
@@ -168,6 +171,8 @@ bool step_read(const char *text, struct step *step)
 		step->kind = STEP_MEND;
 	else if (strcmp(text, "carry") == 0)
 		step->kind = STEP_CARRY;
+	else if (strcmp(text, "hold") == 0)
+		step->kind = STEP_HOLD;
 	else if (sscanf(text, "write %" SCNu32 " %" SCNu64, &step->number, &step->code) == 2 && step->number <= LABEL_MOST)
 		step->kind = STEP_WRITE;
 	else if (strncmp(text, "read '", strlen("read '")) == 0 && read_bytes(text + strlen("read '"), step))

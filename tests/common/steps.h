@@ -22,6 +22,7 @@ enum step_kind {
 	STEP_READ,   /* "read 'TEXT'": the label reader on these bytes; a byte as \xHH where it does not print */
 	STEP_WRITE,  /* "write N C": the label writer on a text of N bytes, with the code C */
 	STEP_CARRY,  /* "carry": from the old memory into the memory */
+	STEP_HOLD,   /* "hold": the old memory becomes a copy of the memory, of whatever version */
 };
 
 enum { LABEL_MOST = 24 }; /* bytes of a text */

@@ -16,6 +16,7 @@
 #include <stdlib.h>
 
 #include "layout.h"
+#include "layout_v2.h"
 #include "old.h"
 #include "record.h"
 #include "shrink.h"
@@ -187,11 +188,50 @@ static void damage_old(struct stream *stream, uint32_t operation)
 		.value = operation == POKE ? value : beside.old[value % words] });
 }
 
+/* How far below its last number a count is put, by the bits of COUNT's byte. */
+static uint32_t below_last(uint32_t byte)
+{
+	return byte >> 3 & 3u;
+}
+
+static uint32_t lanes_of_table(void)
+{
+	return size(1, PT_MAX_CABINETS) * size(2, PT_MAX_LANES);
+}
+
+static uint32_t lanes_of_old(void)
+{
+	return beside.old[1] % (PT_MAX_CABINETS + 1) * (beside.old[2] % (PT_MAX_LANES + 1));
+}
+
+/* A count of the table is about to carry, or to wrap. */
+static void count_last(struct stream *stream)
+{
+	uint32_t lane = stream_lane(stream, lanes_of_table()), byte = stream_byte(stream);
+	uint32_t at = CONTENTS_WORDS + GLOBAL_WORDS + CABINET_WORDS * size(1, PT_MAX_CABINETS) + LANE_WORDS * lane +
+		LANE_COUNTS + COUNT_WORDS * (byte & 3u);
+
+	if (lane >= lanes_of_table())
+		return;
+	take_other(STEP_POKE, at + COUNT_LOW, PT_NONE - below_last(byte));
+	take_other(STEP_POKE, at + COUNT_HIGH, byte & 4u ? PT_NONE : 0);
+}
+
+/* The same of the old memory, whose counts have one word. */
+static void count_last_old(struct stream *stream)
+{
+	uint32_t lane = stream_lane(stream, lanes_of_old()), byte = stream_byte(stream);
+	uint32_t at = V2_CONTENTS_WORDS + V2_GLOBAL_WORDS + V2_CABINET_WORDS * (beside.old[1] % (PT_MAX_CABINETS + 1)) +
+		V2_LANE_WORDS * lane + V2_LANE_COUNTS + (byte & 3u);
+
+	if (lane < lanes_of_old())
+		take(&(struct step){ .kind = STEP_POKE, .old = true, .number = at, .value = PT_NONE - below_last(byte) });
+}
+
 /* An operation on the old memory. */
 static void operate_old(struct stream *stream)
 {
 	uint32_t operation = stream_byte(stream) % OPERATIONS;
-	uint32_t lanes = beside.old[1] % (PT_MAX_CABINETS + 1) * (beside.old[2] % (PT_MAX_LANES + 1));
 
 	switch (operation) {
 	case POKE:
@@ -201,16 +241,14 @@ static void operate_old(struct stream *stream)
 	case LEND:
 		take(&(struct step){ .kind = STEP_LEND, .old = true, .number = lent(stream_number(stream), old_total_now()) });
 		break;
+	case COUNT:
+		count_last_old(stream);
+		break;
 	default:
 		if (operation < CALLS)
 			take(&(struct step){ .kind = STEP_CALL, .old = true,
-				.call = stream_call(stream, (enum call_name)operation, lanes) });
+				.call = stream_call(stream, (enum call_name)operation, lanes_of_old()) });
 	}
-}
-
-static uint32_t lanes_of_table(void)
-{
-	return size(1, PT_MAX_CABINETS) * size(2, PT_MAX_LANES);
 }
 
 /* Grace periods end and begin where no lane reads. */
@@ -227,11 +265,32 @@ static void round_of_lanes(void)
 	}
 }
 
+static void take_label(struct stream *stream, enum step_kind kind)
+{
+	struct step label = stream_label(stream, kind);
+
+	take(&label);
+}
+
+static void operate_call(struct stream *stream, enum call_name name)
+{
+	struct call call = stream_call(stream, name, lanes_of_table());
+
+	take_call(&call);
+}
+
+/* What goes by the old memory. */
+static void operate_carry(struct stream *stream, uint32_t operation)
+{
+	if (operation == OLD)
+		operate_old(stream);
+	else
+		take_other(operation == CARRY ? STEP_CARRY : STEP_HOLD, 0, 0);
+}
+
 static void operate(struct stream *stream)
 {
 	uint32_t operation = stream_byte(stream) % OPERATIONS;
-	struct step label;
-	struct call call;
 
 	switch (operation) {
 	case POKE:
@@ -250,20 +309,18 @@ static void operate(struct stream *stream)
 	case ROUND:
 		round_of_lanes();
 		break;
-	case OLD:
-		operate_old(stream);
-		break;
-	case CARRY:
-		take_other(STEP_CARRY, 0, 0);
+	case COUNT:
+		count_last(stream);
 		break;
 	case READ:
 	case WRITE:
-		label = stream_label(stream, operation == READ ? STEP_READ : STEP_WRITE);
-		take(&label);
+		take_label(stream, operation == READ ? STEP_READ : STEP_WRITE);
 		break;
 	default:
-		call = stream_call(stream, (enum call_name)operation, lanes_of_table());
-		take_call(&call);
+		if (operation < CALLS)
+			operate_call(stream, (enum call_name)operation);
+		else
+			operate_carry(stream, operation);
 	}
 }
 

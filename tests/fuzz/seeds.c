@@ -85,6 +85,20 @@ static void put_label(const struct step *step)
 		}
 }
 
+/* The operation that a word alone is, or OPERATIONS. */
+static uint32_t plain_operation(const char *line)
+{
+	static const struct {
+		const char *word;
+		uint32_t operation;
+	} plain[] = { { "mend", MEND }, { "round", ROUND }, { "carry", CARRY }, { "hold", HOLD } };
+
+	for (size_t n = 0; n < sizeof plain / sizeof plain[0]; n++)
+		if (strcmp(line, plain[n].word) == 0)
+			return plain[n].operation;
+	return OPERATIONS;
+}
+
 /* An operation that is no call, or else the call that the line is. */
 static void put_line(const char *line)
 {
@@ -106,15 +120,15 @@ static void put_line(const char *line)
 	} else if (sscanf(line, "answer %" SCNu32, &a) == 1) {
 		put(ANSWER, 1);
 		put(a, 1);
+	} else if (sscanf(line, "count %" SCNu32 " %" SCNu32, &a, &b) == 2) {
+		put(COUNT, 1);
+		put_number(a);
+		put(b, 1);
 	} else if (strncmp(line, "old ", strlen("old ")) == 0) {
 		put(OLD, 1);
 		put_line(line + strlen("old "));
-	} else if (strcmp(line, "carry") == 0) {
-		put(CARRY, 1);
-	} else if (strcmp(line, "mend") == 0) {
-		put(MEND, 1);
-	} else if (strcmp(line, "round") == 0) {
-		put(ROUND, 1);
+	} else if (plain_operation(line) != OPERATIONS) {
+		put(plain_operation(line), 1);
 	} else if (step_read(line, &step) && step_is_label(&step)) {
 		put_label(&step);
 	} else {

@@ -14,9 +14,13 @@
  *     bytes follow: one below BYTES is a digit by its last, one from there on comes before
  *     the byte that is meant;
  *   WRITE, a byte and a code: the code's label is written into so many bytes;
- *   OLD, and then a call, POKE, COPY or LEND on the old memory, of version 2; other operations
- *     have none there, and do nothing;
- *   CARRY: from the old memory into the memory.
+ *   COUNT, a lane and a byte: a count of the lane, whose kind are the byte's two low bits, is
+ *     about to carry its low word, or with the next bit to wrap: 0 to 3 passes, by the two
+ *     bits after, bring it there;
+ *   OLD, and then a call, POKE, COPY, LEND or COUNT on the old memory, of version 2; other
+ *     operations have none there, and do nothing;
+ *   CARRY: from the old memory into the memory;
+ *   HOLD: the old memory becomes a copy of the memory.
  * A number is a byte below EDGES for itself, one of the edges, or RAW and four bytes,
  * low byte first. A lane is a number too, but bytes from LANES to EDGES are taken modulo
  * the table's lanes and one. A code is a byte below EDGES for one of 32 codes, a code
@@ -42,8 +46,10 @@ enum {
 	ROUND,
 	READ,
 	WRITE,
+	COUNT,
 	OLD,
 	CARRY,
+	HOLD,
 	OPERATIONS
 };
 

@@ -1,7 +1,8 @@
 /*
  * ledger_test.c - lists of calls and answers on which the ledger of demand 3 finds a
  * fault, each beside one on which it finds none; among them lookups that take one step more
- * than they may, and clocks that say one slot more or less than came to done queues.
+ * than they may, clocks that say one slot more or less than came to done queues, and lists
+ * that begin on a memory of version 2 and go on across a carry.
  */
 #include <stdio.h>
 #include <stdlib.h>
@@ -9,6 +10,7 @@
 
 #include "ledger.h"
 #include "lent.h"
+#include "reference_v2.h"
 
 static struct ledger ledger;
 static struct lent lent;
@@ -550,6 +552,75 @@ static void test_counted_memory(void)
 	CHECK(ledger_judge(&ledger, &awaited, answer, lent.memory, lent.memory) == NULL);
 }
 
+/* ---- across a carry */
+
+static uint32_t old[LENT_WORDS], old_before[LENT_WORDS];
+
+/* Slot 0 is done; lane 1 has found slot 1, its next lookup of it runs, and lane 0 has deleted it since. */
+static const char *const old_list[] = {
+	"setup 1 2 4", "add 0 24 1 1", "del 0 24", "clock 0", "clock 1", "pass 0 0", "pass 1 0", "clock 1", "clock 0",
+	"add 0 17 2 2", "begin 1", "start 1 17", "step 1", "start 1 17", "del 0 17",
+};
+
+/* The calls of version 2, with the ledger, and the carry. */
+static void carry_list(void)
+{
+	uint32_t answer[PT_ANSWER_WORDS];
+
+	ledger_reset(&ledger);
+	for (size_t n = 0; n < sizeof old_list / sizeof old_list[0]; n++) {
+		struct call call = lent_call(old_list[n]);
+
+		memcpy(old_before, old, sizeof old);
+		CHECK(call_make(&version_2, old, LENT_WORDS, answer, PT_ANSWER_WORDS, &call) == PT_OK);
+		CHECK(ledger_judge(&ledger, &call, answer, old_before, old) == NULL);
+	}
+	lent_start(&lent);
+	CHECK(ref_carry(old, LENT_WORDS, lent.memory, LENT_WORDS, answer, PT_ANSWER_WORDS) == PT_OK);
+}
+
+/* The fault of a call on the carried memory with an answer of ours. */
+static const char *after_carry(const char *line, const char *text)
+{
+	static struct ledger wrong;
+	struct call call = lent_call(line);
+	uint32_t answer[PT_ANSWER_WORDS];
+	char *word = (char *)text;
+
+	for (size_t n = 0; n < PT_ANSWER_WORDS; n++)
+		answer[n] = (uint32_t)strtoul(word, &word, 10);
+	wrong = ledger;
+	return ledger_judge(&wrong, &call, answer, lent.memory, lent.memory);
+}
+
+/* What was begun before the carry is owed after it: the find, the lookup and its figure, the section, the sum. */
+static void test_carried(void)
+{
+	carry_list();
+	CHECK(ledger.done == 1 && ledger_carried(&ledger, lent.memory) == NULL);
+	CHECK(after_carry("step 1", "0 1 1 2 2") == NULL); /* explained by the instant of its start */
+	CHECK(says(after_carry("step 1", "0 1 1 1 1"), "no instant"));
+	CHECK(ledger_fault_of(after_carry("step 1", "10 0 0 0 0")) == FAULT_OF_FIGURE);
+	CHECK(says(after_carry("begin 1", "0 0 0 0 0"), "began inside"));
+	CHECK(says(after_carry("back 0", "0 1 0 0 0"), "before a section"));
+	CHECK(ledger_fault_of(after_carry("clock 0", "0 2 2 1 1")) == FAULT_OF_COUNT);
+}
+
+/* A carry that loses what was found, or a slot of a done queue. */
+static void test_carried_wrongly(void)
+{
+	uint32_t *done;
+
+	carry_list();
+	lent_slot(lent.memory, 1)[SLOT_DEPOSIT] = 1;
+	CHECK(says(ledger_carried(&ledger, lent.memory), "lost its record"));
+	lent_slot(lent.memory, 1)[SLOT_DEPOSIT] = 2;
+	CHECK(ledger_carried(&ledger, lent.memory) == NULL);
+	done = lent_lane(lent.memory, 0) + LANE_DONE;
+	done[QUEUE_FIRST] = PT_NONE;
+	CHECK(ledger_fault_of(ledger_carried(&ledger, lent.memory)) == FAULT_OF_COUNT);
+}
+
 int main(void)
 {
 	test_whole_search();
@@ -568,6 +639,8 @@ int main(void)
 	test_counted();
 	test_counted_off();
 	test_counted_memory();
+	test_carried();
+	test_carried_wrongly();
 	puts("ledger: true lists pass, false ones are found");
 	return 0;
 }

@@ -104,6 +104,8 @@ static const char *const stars[][CASE_STEPS] = {
 	/* a refused carry changes nothing and ends nothing: a short second memory, and an old one that is not legal */
 	{ "old setup 1 1 2", "setup 1 1 2", "begin 0", "start 0 17", "lend 134", "carry", "lend 135", "step 0", "old poke 0 3",
 		"carry", "lend 134", "carry", "lend 135", "end 0", "answer 4", "carry" },
+	{ "old setup 1 1 2", "old begin 0", "setup 1 1 2", "add 0 17 1 1", "answer 4", "carry", "answer 8", "awaited", "hold",
+		"carry", "lend 134", "carry" },
 };
 
 /* The files of tests/listing that are lists of calls. */
@@ -455,6 +457,7 @@ static void play_carry_lengths(void)
 		play_carry();
 	}
 	for (uint32_t words = 0; words <= PT_ANSWER_WORDS + 3; words++) {
+		play_poke(CONTENTS_WORDS, words + 2); /* a generation that the carry writes over */
 		player_step(&(struct step){ .kind = STEP_ANSWER, .number = words });
 		play_carry();
 	}

@@ -6,7 +6,8 @@ use mathlib.Core.List.{List, _++_}
 use native.Mathlib.Omega.{arith}
 use lib.ListN.{length, take, drop, replicate, length-replicate}
 use lib.Seq.{take-at}
-use Rattle.model.specs.Layout.{contentsLength, total}
+use Rattle.model.specs.Layout.{maxCabinets, maxPlaces, maxSlots, contentsLength, total}
+use Rattle.model.specs.Calls.{sized}
 use Rattle.model.specs.Memory.{Words, sizes}
 use Rattle.model.specs.Legal.{sizesFit, legal}
 use Rattle.model.specs.Rules.{accepted, refused}
@@ -23,7 +24,7 @@ use Rattle.carry.proofs.CarryCases.{carries-illegal, carries-short, car
 
 -- the words of the largest table
 abbrev mostWords : ℕ
-mostWords = 8164
+mostWords = total (sized maxCabinets maxPlaces maxSlots)
 
 module _ (old : List ℕ) where
   -- ---- the test

@@ -27,9 +27,11 @@ const REST_LENGTH: usize = words::LANE_LENGTH - words::GENERATION_AT;
 const LANE_LENGTH_2: usize = GENERATION_AT_2 + REST_LENGTH;
 
 // the words of the largest table
-const MOST_LANES: usize = 64;
+const MOST_LANES: usize = (words::MAX_CABINETS as usize) * (words::MAX_PLACES as usize);
 
-const MOST_WORDS: usize = words::MASKS_AT + 8 + words::LANE_LENGTH * MOST_LANES + words::SLOT_LENGTH * 1024;
+const MOST_SLOTS: usize = words::MAX_SLOTS as usize;
+
+const MOST_WORDS: usize = words::MASKS_AT + (words::MAX_CABINETS as usize) + words::LANE_LENGTH * MOST_LANES + words::SLOT_LENGTH * MOST_SLOTS;
 
 // ---- from version 2 to version 3
 

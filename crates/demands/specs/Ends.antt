@@ -8,14 +8,14 @@ use Rattle.model.specs.State.{Lookup, Lane, State}
 use Rattle.model.specs.Engine.{setLookup, withLanes}
 use Rattle.model.specs.Rules.{end, withEngine, withLane, leaving, answer, performed}
 use Rattle.model.specs.Memory.{state}
-use Rattle.model.specs.Calls.{set-up, on-state, reply, left}
+use Rattle.model.specs.Calls.{on-state, reply, left}
 use Rattle.model.specs.Ledger.{Event, AfterEnds}
 use Rattle.laws.specs.ListLaws.{update-update}
 use Rattle.representation.specs.Sound.{Sound}
 use Rattle.representation.proofs.Causes.Passed.{next-accepted, status-accepted}
-use Rattle.history.proofs.AfterEnds.{after-ends}
+use Rattle.carry.proofs.Theorems.{after-ends}
 use Rattle.product_table.specs.Called.{answerLength, Called}
-use Rattle.demands.specs.Demands.{Run, Ran, NoSetUps, eventsOf}
+use Rattle.demands.specs.Demands.{OfEveryList}
 use Rattle.demands.specs.Runs.{made-long}
 use Rattle.demands.specs.Proved.{demand2, on-lists}
 
@@ -23,7 +23,7 @@ use Rattle.demands.specs.Proved.{demand2, on-lists}
 
 pub record Ends : Type 0 where
   -- over every list: after an accepted end the ledger has neither section nor lookup of the lane, and no step of it is accepted before a new start
-  pub list : (c p x : ℕ) (m a m₀ b : List ℕ) → Called (set-up c p x) m a m₀ b 0 → (xs : List Run) → Ran m₀ xs → NoSetUps xs → AfterEnds (eventsOf xs)
+  pub list : OfEveryList (λ (h : List Event) (m : List ℕ). AfterEnds h)
   -- a dropped lookup leaves no trace, and holds up no slot: whatever the lane's lookup was, an accepted end leaves the same state
   pub noTrace : (i : ℕ) (k : Lookup) (m a n b m′ a′ n′ b′ : List ℕ) → Sound m → Sound m′ → state m′ ≡ withLane (state m) i (setLookup k)
       → Called (on-state (end i)) m a n b 0 → Called (on-state (end i)) m′ a′ n′ b′ 0 → state n′ ≡ state n
