@@ -16,6 +16,5 @@ pub mod CoursesTwo
 pub mod JoinedLists
 pub mod CarryCases
 pub mod Theorems
-mod Cases
 mod CodeLaws
 mod WaysOut

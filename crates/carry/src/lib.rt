@@ -31,7 +31,10 @@ const MOST_LANES: usize = (words::MAX_CABINETS as usize) * (words::MAX_PLACES as
 
 const MOST_SLOTS: usize = words::MAX_SLOTS as usize;
 
-const MOST_WORDS: usize = words::MASKS_AT + (words::MAX_CABINETS as usize) + words::LANE_LENGTH * MOST_LANES + words::SLOT_LENGTH * MOST_SLOTS;
+const MOST_WORDS: usize = words::MASKS_AT
+    + (words::MAX_CABINETS as usize)
+    + words::LANE_LENGTH * MOST_LANES
+    + words::SLOT_LENGTH * MOST_SLOTS;
 
 // ---- from version 2 to version 3
 

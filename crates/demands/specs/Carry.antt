@@ -84,7 +84,7 @@ goes-on old second a n b w h xs ran os calls wraps =
     let alike = as-before old second w (carry-status old second a n b h) os wraps in
     let is = carry-memory old second a n b h in (
       ap (map (λ (e : Event). e .answer)) (ran-events n xs ran) ∙ replies-of n (callsOf xs) ∙ ap (replies n) calls
-      ∙ ap (λ (m : List ℕ). replies m (map on-state os)) is ∙ sym (alike .answers),
+          ∙ ap (λ (m : List ℕ). replies m (map on-state os)) is ∙ sym (alike .answers),
       ap state (ran-left n xs ran ∙ ap (leftAll n) calls ∙ ap (λ (m : List ℕ). leftAll m (map on-state os)) is) ∙ sym (alike .states),
     )
 
