@@ -28,15 +28,6 @@ use Rattle.carry.proofs.ReadTwo.{sizes-state₂, stored-back}
 use Rattle.carry.proofs.StandsTwo.{Stands₂, stands-read₂}
 
 module _ (old second : List ℕ) where
-  -- a refused carry changes no word
-  pub carry-refused : (carryReply old second .status ≡ 0 → ⊥) → carried old second ≡ second
-  unfolding carryReply carryReplyOf carried carriedOf
-  carry-refused = go (carryRefusal old second)
-    where
-      go : (n : ℕ) → (carryReplyOf old second n .status ≡ 0 → ⊥) → carriedOf old second n ≡ second
-      go zero f = absurd (f refl)
-      go (suc n) f = refl
-
   module _ (h : carryReply old second .status ≡ 0) where
     no-refusal : carryRefusal old second ≡ 0
     unfolding carryReply carryReplyOf

@@ -1,11 +1,11 @@
 -- What the carry's code writes: runs of words, lanes, and contents; and the ways out of it.
-use Prim.Native.Nat.{ℕ, zero, suc, _+_, _*_, _≤_, _<_}
+use Prim.Native.Nat.{ℕ, zero, suc, _+_, _*_, _<_}
 use mathlib.Core.Path.{_≡_, refl, ap, ap₂, sym, _∙_}
-use mathlib.Core.List.{List, [], _∷_, _++_, map}
+use mathlib.Core.List.{List, [], _∷_, _++_}
 use native.Mathlib.Omega.{arith}
 use lib.ListN.{length, set, drop, length-append}
 use lib.Seq.{sets}
-use Rattle.model.specs.Lists.{from, concatMap}
+use Rattle.model.specs.Lists.{from}
 use Rattle.model.specs.State.{Sizes, laneCount}
 use Rattle.model.specs.Layout.{versionAt, contentsLength, globalBody, globalLength, masksAt, flagsAt, quiescentAt, snapshotAt, generationAt, laneLength}
 use Rattle.model.specs.Layout.{slotLength, lanesBody, slotsBody, total}

@@ -1,6 +1,6 @@
 -- A lane's words in both versions: narrowed they are what they were before they were widened, and the words of a lane, narrowed and widened, are those of the
 -- lane with its counts' low words.
-use Prim.Native.Nat.{ℕ, zero, suc, _+_}
+use Prim.Native.Nat.{ℕ, zero, suc}
 use mathlib.Core.Path.{_≡_, refl, sym, ap, ap₂, _∙_}
 use mathlib.Core.Bool.{Bool}
 use mathlib.Core.List.{List, [], _∷_, _++_, map}

@@ -10,6 +10,7 @@ pub mod WriteTwo
 pub mod CountsKept
 pub mod NarrowKept
 pub mod StandsTwo
+pub mod PassTwo
 pub mod Carried
 pub mod AsBefore
 pub mod CoursesTwo

@@ -64,16 +64,16 @@ lowered-narrow s = map-cases-default freshLane (λ (i : ℕ). NarrowLane) (s .en
 
 -- ---- their counts' low words are their counts
 
-low-same : (xs : List ℕ) → ((k : ℕ) → getD xs k 0 < wordLimit) → map low xs ≡ xs
+pub low-same : (xs : List ℕ) → ((k : ℕ) → getD xs k 0 < wordLimit) → map low xs ≡ xs
 low-same [] h = refl
 low-same (x ∷ xs) h = ap₂ (λ (a : ℕ) (r : List ℕ). a ∷ r) (let b = h 0 in omega arith) (low-same xs (λ k. h (suc k)))
 
-snapshot-same : (s : Snapshot) → ((k : ℕ) → snapshotCount s k < wordLimit) → recountedSnapshot low s ≡ s
+pub snapshot-same : (s : Snapshot) → ((k : ℕ) → snapshotCount s k < wordLimit) → recountedSnapshot low s ≡ s
 unfolding recountedSnapshot snapshotCount
 snapshot-same unheld h = refl
 snapshot-same (held c) h = ap held (low-same c h)
 
-lanes-same : (ls : List Lane) → ((i : ℕ) → NarrowLane (getD ls i freshLane)) → map (recountedLane low) ls ≡ ls
+pub lanes-same : (ls : List Lane) → ((i : ℕ) → NarrowLane (getD ls i freshLane)) → map (recountedLane low) ls ≡ ls
 lanes-same [] h = refl
 lanes-same (l ∷ ls) h = ap₂ (λ (k : Lane) (r : List Lane). k ∷ r)
     (ap₂ (λ (c : List ℕ) (s : Snapshot). setPending (l .pending) s (setQuiescent c l))

@@ -1,6 +1,6 @@
 -- A memory of words that is legal as version 2 stands for a well-formed state: written as version 3 it is its own words widened, and
 -- written as version 2 it is the memory.
-use Prim.Native.Nat.{ℕ, _+_}
+use Prim.Native.Nat.{ℕ}
 use mathlib.Core.Path.{_≡_, refl, ap, _∙_}
 use mathlib.Core.Bool.{true}
 use mathlib.Core.List.{List, _++_}

@@ -15,7 +15,7 @@ use Rattle.laws.specs.Tests.{_&_}
 use Rattle.laws.specs.Elements.{Each, each-map, each-getD}
 use Rattle.representation.proofs.ExtraWords.{Word}
 use Rattle.representation.proofs.Sentences.Split.{sizes-fit}
-use Rattle.carry.specs.Version2.{laneLength₂, laneAddress₂, slotsBody₂, generationAt₂, restLength, total₂, contents₂, widenedLane, narrowedLane, relaid}
+use Rattle.carry.specs.Version2.{laneLength₂, laneAddress₂, slotsBody₂, generationAt₂, restLength, total₂, contents₂, widenedLane, narrowedLane}
 use Rattle.carry.specs.Version2.{laneWord₂, widened, narrowed}
 use Rattle.carry.proofs.Relaid.{Laid, part-cases, length-relaid, laid-relaid}
 use Rattle.carry.proofs.LaneForms.{length-widenedLane, length-narrowedLane}
@@ -60,10 +60,6 @@ module _ (m : List ℕ) where
   pub length-widened : length (widened m) ≡ total z
   unfolding widened
   length-widened = length-relaid z laneLength _ _ m _ (length-contents z) (λ i. length-widenedLane (laneWord₂ m i))
-
-  pub sizes-widened : sizes (widened m) ≡ z
-  unfolding widened relaid contents
-  sizes-widened = refl
 
   -- ---- its words
 

@@ -40,9 +40,6 @@ unfoldable pub poked : List ℕ → List (ℕ × ℕ) → List ℕ
 poked m [] = m
 poked m (p ∷ ps) = poked (set m (p .0) (p .1)) ps
 
-abbrev pub address : ℕ × ℕ → ℕ
-address p = p .0
-
 abbrev pub wordOf : ℕ × ℕ → ℕ
 wordOf p = p .1
 

@@ -7,7 +7,6 @@ use mathlib.Core.Bool.{true}
 use mathlib.Core.List.{List, [], _∷_, map}
 use lib.ListN.{length}
 use borrow.Author.Tests.{lt-ltb, le-ltb}
-use Rattle.model.specs.State.{State}
 use Rattle.model.specs.Layout.{total}
 use Rattle.model.specs.Rules.{Op, Answer, accepted, refused}
 use Rattle.model.specs.Memory.{Words, sizes, state}

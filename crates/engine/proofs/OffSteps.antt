@@ -2,7 +2,7 @@
 use Prim.Native.Nat.{ℕ, _+_, _<_}
 use mathlib.Core.Bool.{false}
 use mathlib.Core.Path.{_≡_, refl, ap, ap₂, sym, _∙_}
-use mathlib.Core.List.{List, [], _∷_}
+use mathlib.Core.List.{List}
 use native.Mathlib.Omega.{arith}
 use lib.ListN.{set}
 use Rattle.model.specs.Lists.{update}
@@ -10,7 +10,6 @@ use Rattle.model.specs.State.{Sizes, laneCount, Queues, Lane, State}
 use Rattle.model.specs.Layout.{generationAt, laneAddress}
 use Rattle.model.specs.Engine.{freshLane, laneAt, setOnline, withLanes, withGlobal, atLane, taken, emptied}
 use Rattle.model.specs.Rules.{withEngine, withLane}
-use Rattle.model.specs.Memory.{at, flags, laneWords}
 use Rattle.model.specs.Calls.{stored}
 use Rattle.laws.specs.ListLaws.{getD-update-same, update-update}
 use Rattle.representation.proofs.Causes.Passed.{within}

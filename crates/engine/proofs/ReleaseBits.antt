@@ -9,13 +9,11 @@ use native.Mathlib.Decide.{decLt}
 use lib.ListN.{getD}
 use lib.Dec.{eqb}
 use Rattle.model.specs.Lists.{update, concatMap}
-use Rattle.model.specs.State.{laneCount, unheld, Lane, State}
-use Rattle.model.specs.Engine.{freshLane, laneAt, setPending, runs, ended}
-use Rattle.model.specs.Rules.{withEngine, withLane}
+use Rattle.model.specs.State.{unheld, Lane, State}
+use Rattle.model.specs.Engine.{freshLane, setPending, runs, ended}
+use Rattle.model.specs.Rules.{withEngine}
 use Rattle.model.specs.Memory.{flags, laneWords, laneQueues}
 use Rattle.model.specs.Calls.{stored}
-use Rattle.laws.specs.Tests.{other}
-use Rattle.representation.proofs.Addresses.Fields.{lane}
 use Rattle.changes.proofs.Shows.{Shows, stored-shown}
 use Rattle.changes.proofs.Shape.{LaneAtEach}
 use Rattle.changes.proofs.OfLanes.LaneRecords.{holding}

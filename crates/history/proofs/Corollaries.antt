@@ -18,7 +18,7 @@ use Rattle.history.proofs.OverLists.OneSection.{OneSection, one-section
 use Rattle.history.proofs.OverLists.Stands.{Stands, reply-on}
 use Rattle.history.proofs.OverLists.ListInvariant.{At}
 use Rattle.history.proofs.OverLists.OneList.{FoundEnd, found-end, found-holds}
-pub use Rattle.history.proofs.OverLists.EveryCourse.{EveryCourse, EveryList, every-list}
+use Rattle.history.proofs.OverLists.EveryCourse.{EveryCourse, EveryList, every-list}
 use Rattle.history.proofs.OverLists.EveryCourse.{at-fresh, every-end}
 use Rattle.history.proofs.Demand3.{demand-course}
 use Rattle.history.proofs.NewSlots.{Unused, Enters, NewSlots, enters-unused}

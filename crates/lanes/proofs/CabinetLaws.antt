@@ -2,29 +2,27 @@
 use Prim.Native.Nat.{ℕ, zero, suc, _+_, _*_, _-_, _^_, _<_, _≤_}
 use mathlib.Core.Bool.{Bool, true, false, cond}
 use mathlib.Core.Path.{_≡_, refl, ap, ap₂, sym, _∙_}
-use mathlib.Core.List.{List, [], _∷_, _++_, map}
+use mathlib.Core.List.{List, _∷_, _++_, map}
 use native.Mathlib.Omega.{arith}
 use native.Mathlib.Nat.{suc-mul, mul-le-mul-right}
-use lib.ListN.{length, set, take, drop}
-use lib.Seq.{sets}
+use lib.ListN.{take, drop}
 use lib.Bits.{bitOr}
 use lib.Pow.{pow-mono}
-use Rattle.model.specs.Word.{upTo}
-use Rattle.model.specs.Lists.{update, from, mask}
+use Rattle.model.specs.Lists.{from, mask}
 use Rattle.model.specs.State.{Sizes}
 use Rattle.model.specs.Layout.{laneLength, laneAddress, onlineBit}
 use Rattle.model.specs.Memory.{at, flag}
 use Rattle.laws.specs.ListLaws.{map-from-alike}
 use Rattle.laws.specs.Masks.{mask-from-lt, mask-from-suc}
 use Rattle.laws.specs.MaskFlags.{shl-bit}
-use Rattle.laws.specs.Stores.{set-sets, sets-sets, update-sets, getD-part, part-sets}
+use Rattle.laws.specs.Stores.{getD-part, part-sets}
 use Rattle.words.specs.Lent.{Lent}
-use Rattle.masks.specs.Bits.{width, withBit, withoutBit}
+use Rattle.masks.specs.Bits.{width, withBit}
 use Rattle.masks.proofs.BitLaws.{or-withBit}
 use Rattle.lanes.specs.declared.LaneRecord.{LaneRecord}
 use Rattle.lanes.specs.declared.Place.{Place}
 use Rattle.lanes.specs.declared.Change.{Change}
-use Rattle.lanes.specs.declared.Change.the-variants.{Pass, Sample, Drop, Leave}
+use Rattle.lanes.specs.declared.Change.the-variants.{Sample, Drop, Leave}
 use Rattle.lanes.specs.Record.{recordAt, recordWords, recordStored, recordLength}
 use Rattle.lanes.proofs.RecordLaws.{wordsAt, recordAt-words}
 use Rattle.lanes.specs.RecordChanges.{Fits, changedRecord, changedAt}

@@ -1,12 +1,12 @@
 -- Laws of the lane record: it reads back, all other words stay, and it is the model's lane in its words.
-use Prim.Native.Nat.{ℕ, zero, suc, _+_, _<_, _≤_}
+use Prim.Native.Nat.{ℕ, _+_}
 use mathlib.Core.Bool.{Bool, false}
 use mathlib.Core.Path.{_≡_, refl, ap, ap₂, sym, _∙_}
 use mathlib.Core.List.{List, [], _∷_, map}
 use native.Mathlib.Omega.{arith}
 use native.Mathlib.Numerals.{unary-clauses}
-use lib.ListN.{length, set, take, drop}
-use lib.Seq.{sets, drop-cons}
+use lib.ListN.{length, set}
+use lib.Seq.{sets}
 use Rattle.model.specs.Word.{upTo}
 use Rattle.model.specs.Lists.{from, update}
 use Rattle.model.specs.State.{Lane, unheld, held, isHeld, isRunning}
@@ -14,7 +14,6 @@ use Rattle.model.specs.Layout.{kinds, countLimit, quiescentAt, snapshotAt, gene
 use Rattle.model.specs.Engine.{counted, setPending, setOnline}
 use Rattle.model.specs.Memory.{at, wholeOf, low, high, flags, countWords, readCounts, laneWords, quiescentCount, snapshotCount}
 use Rattle.laws.specs.ListLaws.{length-update, map-from-getD}
-use Rattle.laws.specs.Stores.{getD-sets-below, map-sets, sets-same}
 use Rattle.masks.proofs.BitLaws.{withBit-mask, withoutBit-mask}
 use Rattle.lanes.proofs.Offsets.{plus-after}
 use Rattle.lanes.specs.Record.{queueAt, queueWords, lookupWordsAt, lookupWords, recordAt, recordWith, recordWords, recordLength}

@@ -1,12 +1,10 @@
 -- Laws of lists: runs of stores (the library's `sets`), and stores in a part.
 use Prim.Native.Nat.{ℕ, zero, suc, _+_, _<_, _≤_}
 use mathlib.Core.Path.{_≡_, refl, ap, ap₂, sym, _∙_}
-use mathlib.Core.List.{List, [], _∷_, _++_, map}
+use mathlib.Core.List.{List, [], _∷_, _++_}
 use native.Mathlib.Omega.{arith}
 use lib.ListN.{length, getD, set, take, drop, take-append-drop, length-set}
-use lib.Seq.{sets, set-getD, set-set, set-comm, take-set-le, drop-set-add, take-set-lt, drop-set-lt, getD-set-same, getD-set-other, getD-take, getD-drop}
-use Rattle.model.specs.Lists.{update, from}
-use Rattle.laws.specs.Updates.{update-set}
+use lib.Seq.{sets, set-set, set-comm, take-set-le, drop-set-add, take-set-lt, drop-set-lt, getD-take, getD-drop}
 
 module _ {A : Type 0} where
   -- ---- runs of stores
@@ -43,44 +41,6 @@ module _ {A : Type 0} where
       ap (λ (l : List A). sets l (suc (a + k)) ys) (set-sets xs m a k y (omega arith))
       ∙ ap (λ (i : ℕ). sets (sets m a (set xs k y)) i ys) e
       ∙ sets-sets ys (set xs k y) m a (suc k) (let l = length-set xs k y in omega arith)
-
-  -- to store what stands there changes nothing
-  pub sets-same : (m : List A) (d : A) (a n : ℕ) → sets m a (map (λ (i : ℕ). getD m i d) (from a n)) ≡ m
-  unfolding from
-  sets-same m d a zero = refl
-  sets-same m d a (suc n) =
-      ap (λ (l : List A). sets l (suc a) (map (λ (i : ℕ). getD m i d) (from (suc a) n))) (set-getD m a d) ∙ sets-same m d (suc a) n
-
-  -- below a run of stores, within it and above it
-  pub getD-sets-below : (xs m : List A) (a i : ℕ) (d : A) → i < a → getD (sets m a xs) i d ≡ getD m i d
-  getD-sets-below [] m a i d h = refl
-  getD-sets-below (x ∷ xs) m a i d h = getD-sets-below xs (set m a x) (suc a) i d (omega arith) ∙ getD-set-other m a i x d (λ e. omega arith)
-
-  pub getD-sets : (xs m : List A) (a k : ℕ) (d : A) → a + length xs ≤ length m → k < length xs → getD (sets m a xs) (a + k) d ≡ getD xs k d
-  getD-sets [] m a k d fits h = absurd (omega arith)
-  getD-sets (x ∷ xs) m a zero d fits h =
-      let e : a + 0 ≡ a = omega arith in
-      rw e (getD-sets-below xs (set m a x) (suc a) a d (omega arith) ∙ getD-set-same m a x d (omega arith))
-  getD-sets (x ∷ xs) m a (suc k) d fits h =
-      let e : a + suc k ≡ suc a + k = omega arith in
-      rw e (getD-sets xs (set m a x) (suc a) k d (let l = length-set m a x in omega arith) (omega arith))
-
-  -- a change within a run of stores
-  pub update-sets : (xs m : List A) (d : A) (a k : ℕ) (f : A → A) → a + length xs ≤ length m → k < length xs
-      → update (sets m a xs) (a + k) f ≡ sets m a (update xs k f)
-  update-sets xs m d a k f fits h =
-      update-set d (sets m a xs) (a + k) f
-      ∙ ap (λ (x : A). set (sets m a xs) (a + k) (f x)) (getD-sets xs m a k d fits h)
-      ∙ set-sets xs m a k (f (getD xs k d)) h
-      ∙ ap (sets m a) (sym (update-set d xs k f))
-
-  -- a run of stores reads back
-  pub map-sets : (xs m : List A) (a : ℕ) (d : A) → a + length xs ≤ length m → map (λ (i : ℕ). getD (sets m a xs) i d) (from a (length xs)) ≡ xs
-  unfolding from
-  map-sets [] m a d fits = refl
-  map-sets (x ∷ xs) m a d fits =
-      ap₂ _∷_ (getD-sets-below xs (set m a x) (suc a) a d (omega arith) ∙ getD-set-same m a x d (omega arith))
-      (map-sets xs (set m a x) (suc a) d (let l = length-set m a x in omega arith))
 
   -- ---- a part: the k elements from a on, changed, in their place again
 

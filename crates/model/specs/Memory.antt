@@ -5,7 +5,7 @@ use mathlib.Core.List.{List, [], _∷_, _++_, map}
 use lib.ListN.{length, getD}
 use lib.Dec.{leb, eqb}
 use Rattle.model.specs.Word.{wordLimit, none}
-use Rattle.model.specs.Lists.{first, last, from, concat, concatMap, successorIn, member, bit, mask}
+use Rattle.model.specs.Lists.{first, last, from, concat, concatMap, successorIn, member, mask}
 use Rattle.model.specs.State.{Sizes, laneCount, Lookup, idle, running, isRunning, Snapshot, unheld, held, isHeld, Queues, Lane, Product, Table, State}
 use Rattle.model.specs.Layout.{chainCount, countWidth, version, cabinetsAt, placesAt, slotsAt, currentOffset, doneOffset, globalBody, currentGenerationAt}
 use Rattle.model.specs.Layout.{largestGenerationAt, headsAt, freeAt, globalQueuesAt, globalGenerationAt, globalLength, masksAt, onlineBit}

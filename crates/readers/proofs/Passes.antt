@@ -1,6 +1,6 @@
 -- Pass: the count that is stored in the lane's cabinet is that of the lane's own record.
 use Prim.Native.Nat.{ℕ, _≤_, _<_}
-use mathlib.Core.Path.{_≡_, ap, ap₂, _∙_}
+use mathlib.Core.Path.{_≡_, ap₂, _∙_}
 use mathlib.Core.List.{List}
 use borrow.Author.Tests.{leb-false}
 use Rattle.model.specs.Layout.{kinds}

@@ -11,7 +11,7 @@ use Rattle.model.specs.State.{Sizes, laneCount, Snapshot, unheld, held, Lane, S
 use Rattle.model.specs.Layout.{kinds, laneLength, laneAddress}
 use Rattle.model.specs.Engine.{laneAt, setPending, setOnline, counted}
 use Rattle.model.specs.Rules.{withLane}
-use Rattle.model.specs.Memory.{at, flags, laneWords, laneQueues}
+use Rattle.model.specs.Memory.{at, laneWords, laneQueues}
 use Rattle.model.specs.Calls.{stored}
 use Rattle.laws.specs.ListLaws.{length-map-from}
 use Rattle.representation.proofs.Addresses.Fields.{lane}

@@ -11,7 +11,6 @@ use Rattle.model.specs.Engine.{laneAt, setLookup}
 use Rattle.model.specs.Rules.{withLane}
 use Rattle.model.specs.Memory.{flags, lookupCode, lookupPosition, laneWords, laneQueues, low, high}
 use Rattle.model.specs.Calls.{stored}
-use Rattle.representation.proofs.Addresses.Fields.{lane}
 use Rattle.changes.proofs.Shows.{Shows}
 use Rattle.changes.proofs.Shape.{LaneAtEach}
 use Rattle.changes.proofs.OfLanes.OneLane.{lane-none, lane-run, lane-done, lane-change, storedFrom}
