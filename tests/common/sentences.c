@@ -88,8 +88,9 @@ static void refused_tries(struct tally *tally, struct tries *tries, const struct
 		enum legal_sentence broken = ref_broken(beside->before, beside->words);
 
 		tries->of[broken < LEGAL_SENTENCES ? legal_sentences[broken] : SENTENCE_LEGAL] = true;
-		tries->of[SENTENCE_VERSION] = beside->words > CONTENTS_VERSION &&
+		tries->of[SENTENCE_VERSION_3] = beside->words > CONTENTS_VERSION &&
 			beside->before[CONTENTS_VERSION] != LAYOUT_VERSION;
+		tries->of[SENTENCE_VERSION] = tries->of[SENTENCE_VERSION_3];
 	}
 	tally->refused[beside->call.name][cause]++;
 	if (cause == PT_NO_LANE && first_past(beside))
@@ -340,6 +341,7 @@ static void accepted_tries(struct tally *tally, struct tries *tries, const struc
 		tries->of[SENTENCE_SET_UP] = true;
 		tries->of[SENTENCE_TOTAL] = true;
 		tries->of[SENTENCE_VERSION] = beside->tried != NULL;
+		tries->of[SENTENCE_VERSION_3] = beside->tried != NULL;
 		tries->of[SENTENCE_LENGTHS] = beside->tried != NULL;
 		return;
 	}
@@ -453,7 +455,7 @@ static bool blame_records(struct tries *broken, const struct tries *tries, const
 		while (body >= 0 && n < layout.first[body])
 			body--;
 		broken->of[body < 0 ? SENTENCE_CONTENTS : records[body]] = true;
-		broken->of[SENTENCE_VERSION] |= n == CONTENTS_VERSION;
+		broken->of[SENTENCE_VERSION_3] |= n == CONTENTS_VERSION;
 		broken->of[SENTENCE_WIDE_COUNTS] |= body >= 0 && of_count(body, n - layout.first[body]);
 		if (body >= 0 && blame_lines(broken, tries, &layout, body, n))
 			continue;
@@ -506,7 +508,7 @@ static void blame_status(struct tries *broken, const struct tries *tries, const 
 		blame_digits(broken, tries, expected);
 		for (int n = 0; n < LEGAL_SENTENCES; n++)
 			broken->of[legal_sentences[n]] |= tries->of[legal_sentences[n]];
-		broken->of[SENTENCE_VERSION] |= tries->of[SENTENCE_VERSION];
+		broken->of[SENTENCE_VERSION_3] |= tries->of[SENTENCE_VERSION_3];
 		broken->of[SENTENCE_CAUSE_FIRST] |= status != PT_OK && status <= LAST_CAUSE &&
 			tries->of[SENTENCE_CAUSE_FIRST];
 	}
@@ -616,8 +618,9 @@ static void carry_tries(struct tries *tries, const struct beside *beside, uint32
 			tries->of[legal_sentences[unlawful]] = true;
 		break;
 	default:
-		tries->of[SENTENCE_CARRIED] = true;
-		tries->of[SENTENCE_CARRIED_ALL] = true;
+		for (int n = SENTENCE_CARRIED; n <= SENTENCE_CARRIED_ALL; n++)
+			tries->of[n] = true;
+		tries->of[SENTENCE_VERSION_3] = true;
 		tries->of[SENTENCE_CARRY_ENDS] = ref_legal(beside->before, beside->words);
 		tries->of[SENTENCE_CARRIED_LIST] = beside->fed;
 	}
@@ -645,8 +648,10 @@ static void carry_blame(struct tries *broken, const struct tries *tries, const s
 		break;
 	case DIFFERS_WORDS:
 		blame_records(broken, tries, beside);
+		broken->of[SENTENCE_CARRIED_STATE] = true;
 		broken->of[SENTENCE_CARRIED_ALL] = true;
 		break;
+	case DIFFERS_ANSWER: broken->of[SENTENCE_CARRIED_TOTAL] = true; break;
 	default: broken->of[SENTENCE_CARRIED] = true; break;
 	}
 }

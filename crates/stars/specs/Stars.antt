@@ -275,7 +275,7 @@ lastStepNeeded =
     ∷ op (step 0) 0 2 0 0 0
     ∷ []
 
--- ---- request 6: line lengths kept; its lists are those of `scripts`, and `cases` Tallies adds up what they move
+-- ---- request 6: line lengths kept; its lists are those of `scripts`, and `tallies` adds up what they move
 
 -- a table of version 1 is refused; and from request 7 on one of version 2
 abbrev pub olderVersion : List Line
