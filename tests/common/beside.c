@@ -174,7 +174,7 @@ static enum difference in_step(struct beside *beside, const struct left *left)
 		return SAME;
 	}
 	/* lent short: the call is refused for that, or does nothing */
-	if (!beside->in_step || left->status == PT_SHORT_ANSWER || beside->words < total_of(beside->before))
+	if (!beside->in_step || left->status == PT_SHORT_ANSWER || beside->words < total_of(beside->memory))
 		return SAME;
 	beside->stepped = true;
 	wraps = left->status == PT_OK && wraps_before(beside);
