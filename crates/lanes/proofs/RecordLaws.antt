@@ -1,4 +1,4 @@
--- Laws of the lane record: it reads back, all other words stay, and it is the model's lane in its words.
+-- Laws of the lane record: it is read from its words alone, and it is the model's lane in its words, before a change and after it.
 use Prim.Native.Nat.{ℕ, _+_}
 use mathlib.Core.Bool.{Bool, false}
 use mathlib.Core.Path.{_≡_, refl, ap, ap₂, sym, _∙_}
