@@ -12,11 +12,11 @@ use Rattle.model.specs.Memory.{words, state}
 use Rattle.model.specs.Legal.{sizesFit, legal}
 
 pub data Call : Type 0 where
-  set-up : (cabinets places slots : ℕ) → Call
+  set-up : Sizes → Call
   on-state : Op → Call
 
-abbrev pub sized : ℕ → ℕ → ℕ → Sizes
-sized c p n = record { cabinets = c; places = p; slots = n }
+abbrev pub sized : (yards cabinets places slots : ℕ) → Sizes
+sized y c p n = record { yards = y; cabinets = c; places = p; slots = n }
 
 -- the words of s, then the words past its total as they were in m
 abbrev pub stored : State → List ℕ → List ℕ
@@ -25,19 +25,19 @@ stored s m = words s ++ drop (total (s .sizes)) m
 module _ (m : List ℕ) where
   -- the number of the cause that refuses a call on m, the first of its list where several apply; 0 where none does
   unfoldable pub refusalOf : Call → ℕ
-  refusalOf (set-up c p n) = firstOf (cause 1 (not (sizesFit (sized c p n))) ∷ cause 2 (ltb (length m) (total (sized c p n))) ∷ [])
+  refusalOf (set-up z) = firstOf (cause 1 (not (sizesFit z)) ∷ cause 2 (ltb (length m) (total z)) ∷ [])
   refusalOf (on-state k) = firstOf (cause 3 (not (legal m)) ∷ causes (state m) k)
 
   -- the answer of a call that cause n refuses; n is 0 where none does
   unfoldable pub replyOf : ℕ → Call → Answer
   replyOf (suc n) k = refused (suc n)
-  replyOf zero (set-up c p n) = accepted (total (sized c p n)) 0 0 0
+  replyOf zero (set-up z) = accepted (total z) 0 0 0
   replyOf zero (on-state k) = result (state m) k
 
   -- the memory after it: a refused call changes no word
   unfoldable pub leftOf : ℕ → Call → List ℕ
   leftOf (suc n) k = m
-  leftOf zero (set-up c p n) = stored (fresh (sized c p n)) m
+  leftOf zero (set-up z) = stored (fresh z) m
   leftOf zero (on-state k) = stored (performed (state m) k) m
 
   -- the answer of a call on m

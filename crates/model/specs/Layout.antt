@@ -1,14 +1,19 @@
--- Each number of document 01's "The memory" and its ranges, once. An offset is the one before it plus that field's width, so a field more, or a
+-- Each number of document 01's "The memory" and its ranges, as document 02's requests moved them, once. An offset is the one before it plus that field's width, so a field more, or a
 -- wider one, moves what follows it.
 use Prim.Native.Nat.{ℕ, _+_, _*_, _-_}
 use Rattle.model.specs.Word.{wordLimit}
-use Rattle.model.specs.State.{Sizes, laneCount}
+use Rattle.model.specs.State.{Sizes, cabinetCount, laneCount}
 
 -- ---- ranges
 
+abbrev pub maxYards : ℕ
+maxYards = 8
+
+-- of a yard
 abbrev pub maxCabinets : ℕ
 maxCabinets = 8
 
+-- of a cabinet
 abbrev pub maxPlaces : ℕ
 maxPlaces = 8
 
@@ -42,10 +47,10 @@ countsWidth = countWidth * kinds
 abbrev pub chainCount : ℕ
 chainCount = 64
 
--- ---- contents, 12 words: addresses in the memory
+-- ---- contents, 15 words: addresses in the memory
 
 abbrev pub version : ℕ
-version = 3
+version = 4
 
 abbrev pub versionAt : ℕ
 versionAt = 0
@@ -59,12 +64,15 @@ placesAt = cabinetsAt + 1
 abbrev pub slotsAt : ℕ
 slotsAt = placesAt + 1
 
--- first word and length of the four bodies
+-- first word and length of the five bodies
 abbrev pub bodiesAt : ℕ
 bodiesAt = slotsAt + 1
 
+abbrev pub yardsAt : ℕ
+yardsAt = bodiesAt + 2 * 5
+
 abbrev pub contentsLength : ℕ
-contentsLength = bodiesAt + 2 * 4
+contentsLength = yardsAt + 1
 
 -- ---- queues in a record: a queue keeps its first, its last and its length; next, current and done follow each other
 
@@ -98,11 +106,11 @@ currentGenerationAt = globalBody
 abbrev pub largestGenerationAt : ℕ
 largestGenerationAt = currentGenerationAt + 1
 
-abbrev pub cabinetMaskAt : ℕ
-cabinetMaskAt = largestGenerationAt + 1
+abbrev pub yardMaskAt : ℕ
+yardMaskAt = largestGenerationAt + 1
 
 abbrev pub headsAt : ℕ
-headsAt = cabinetMaskAt + 1
+headsAt = yardMaskAt + 1
 
 -- the words of the free queue
 abbrev pub freeAt : ℕ
@@ -118,7 +126,7 @@ globalGenerationAt = globalQueuesAt + queuesWidth
 abbrev pub globalLength : ℕ
 globalLength = globalGenerationAt + 1 - globalBody
 
--- ---- the cabinets' body: a lane mask each
+-- ---- the cabinets' body: a lane mask each, yard after yard
 
 abbrev pub masksAt : ℕ
 masksAt = globalBody + globalLength
@@ -194,7 +202,7 @@ slotLength = queueLinkAt + 1
 -- ---- the bodies, one after another
 
 abbrev pub lanesBody : Sizes → ℕ
-lanesBody z = masksAt + z .cabinets
+lanesBody z = masksAt + cabinetCount z
 
 abbrev pub laneAddress : Sizes → ℕ → ℕ
 laneAddress z i = lanesBody z + laneLength * i
@@ -205,6 +213,10 @@ slotsBody z = lanesBody z + laneLength * laneCount z
 abbrev pub slotAddress : Sizes → ℕ → ℕ
 slotAddress z i = slotsBody z + slotLength * i
 
+-- the yards' body: a cabinet mask each
+abbrev pub yardsBody : Sizes → ℕ
+yardsBody z = slotsBody z + slotLength * z .slots
+
 -- the number of words of a table
 abbrev pub total : Sizes → ℕ
-total z = slotsBody z + slotLength * z .slots
+total z = yardsBody z + z .yards

@@ -7,7 +7,7 @@ use mathlib.Core.List.{List, [], _∷_, _++_, List·Memᴰ}
 use lib.ListN.{length, take, replicate}
 use lib.Dec.{eqb}
 use Rattle.model.specs.Lists.{any, drops}
-use Rattle.model.specs.State.{Lane, Engine}
+use Rattle.model.specs.State.{Sizes, Lane, Engine}
 use Rattle.model.specs.Layout.{codeAt, depositAt, materialAt, slotAddress}
 use Rattle.model.specs.Memory.{at, wide, sizes, state}
 use Rattle.model.specs.Table.{chainNumber, chainOf}
@@ -125,7 +125,7 @@ fed k awaited r g = g
 
 -- a call of status other than 0 changes nothing
 unfoldable pub fedCall : ℕ → Call → Answer → Ledger → Ledger
-fedCall k (set-up c p n) r g = g
+fedCall k (set-up z) r g = g
 fedCall k (on-state o) r g = cond (eqb (r .status) 0) (fed k o r g) g
 
 -- a call of the list, with its answer
@@ -211,14 +211,14 @@ pub record Demand (h : List Event) (m : List ℕ) : Type 0 where
 -- each set-up of the list is refused: an accepted one ends the list
 unfoldable pub RefusesSetUps : List ℕ → List Call → Type 0
 RefusesSetUps m [] = Unit {0}
-RefusesSetUps m (set-up c p n ∷ ks) = (reply m (set-up c p n) .status ≡ 0 → ⊥) × RefusesSetUps (left m (set-up c p n)) ks
+RefusesSetUps m (set-up z ∷ ks) = (reply m (set-up z) .status ≡ 0 → ⊥) × RefusesSetUps (left m (set-up z)) ks
 RefusesSetUps m (on-state o ∷ ks) = RefusesSetUps (left m (on-state o)) ks
 
 -- demand 3, whole: over every accepted set-up of any memory, and every list of calls after it
 abbrev pub Demand3 : Type 0
 Demand3 =
-    (m : List ℕ) (c p n : ℕ) → reply m (set-up c p n) .status ≡ 0
-    → (ks : List Call) → let m₀ = left m (set-up c p n) in RefusesSetUps m₀ ks → Demand (events m₀ ks) (leftAll m₀ ks)
+    (m : List ℕ) (z : Sizes) → reply m (set-up z) .status ≡ 0
+    → (ks : List Call) → let m₀ = left m (set-up z) in RefusesSetUps m₀ ks → Demand (events m₀ ks) (leftAll m₀ ks)
 
 -- ---- document 02, request 3: what an accepted end leaves
 
@@ -260,7 +260,7 @@ recordsOn c (e ∷ es) = cond (sameChain c e) 1 0 + recordsOn c es
 
 -- the call is a step of lane i
 unfoldable pub isStepOf : ℕ → Call → Bool
-isStepOf i (set-up c p n) = false
+isStepOf i (set-up z) = false
 isStepOf i (on-state (add j c d m)) = false
 isStepOf i (on-state (replace j c d m)) = false
 isStepOf i (on-state (delete j c)) = false
@@ -343,7 +343,7 @@ pub data Moving : Type 0 where
   goesOff : (lane : ℕ) → Moving
 
 unfoldable pub moving : Call → Moving
-moving (set-up c p n) = other
+moving (set-up z) = other
 moving (on-state (add i c d m)) = other
 moving (on-state (replace i c d m)) = other
 moving (on-state (delete i c)) = other
@@ -398,6 +398,6 @@ movedByOffs m (k ∷ ks) = cond (eqb (reply m k .status) 0) (offMoved (moving k)
 -- now, with those handed back so far
 abbrev pub DoneCounted : Type 0
 DoneCounted =
-    (m : List ℕ) (c p n : ℕ) → reply m (set-up c p n) .status ≡ 0
-    → (ks : List Call) → let m₀ = left m (set-up c p n) in RefusesSetUps m₀ ks
+    (m : List ℕ) (z : Sizes) → reply m (set-up z) .status ≡ 0
+    → (ks : List Call) → let m₀ = left m (set-up z) in RefusesSetUps m₀ ks
     → movedByClocks (events m₀ ks) + movedByOffs m₀ ks ≡ doneSlots (state (leftAll m₀ ks) .engine) + handBacks (events m₀ ks)

@@ -1,26 +1,27 @@
--- When a memory is legal: document 01, "The memory", last paragraph, and document 02, request 6: a definition a sentence, in their order. Sentences that speak of chains,
+-- When a memory is legal: document 01, "The memory", last paragraph, and document 02, requests 6 and 8: a definition a sentence, in their order. Sentences that speak of chains,
 -- queues and lanes are about the state that the memory reads as; the others are about its words.
-use Prim.Native.Nat.{ℕ, _+_, _^_}
+use Prim.Native.Nat.{ℕ, _+_, _/_, _%_, _^_}
 use mathlib.Core.Bool.{Bool, false, not, cond, _&&_, _||_}
 use mathlib.Core.List.{List, [], _∷_, _++_, map}
 use lib.ListN.{length, getD, take}
 use lib.Dec.{leb, ltb, eqb}
 use Rattle.model.specs.Word.{none, up, down, later}
 use Rattle.model.specs.Lists.{all, every, isEmpty, from, last, concat, count, member, same, distinct}
-use Rattle.model.specs.State.{Sizes, laneCount, isRunning, isHeld, Queues, Lane, State}
-use Rattle.model.specs.Layout.{maxCabinets, maxPlaces, maxSlots, countsWidth, chainCount, contentsLength, lastOffset, lengthOffset, currentOffset, doneOffset}
-use Rattle.model.specs.Layout.{cabinetMaskAt, headsAt, freeAt, globalQueuesAt, lookupBit, snapshotBit, flagCount, flagsAt, snapshotAt, queuesAt}
+use Rattle.model.specs.State.{Sizes, cabinetCount, laneCount, isRunning, isHeld, Queues, Lane, State}
+use Rattle.model.specs.Layout.{maxYards, maxCabinets, maxPlaces, maxSlots, countsWidth, chainCount, contentsLength, lastOffset, lengthOffset, currentOffset, doneOffset}
+use Rattle.model.specs.Layout.{yardMaskAt, headsAt, freeAt, globalQueuesAt, lookupBit, snapshotBit, flagCount, flagsAt, snapshotAt, queuesAt}
 use Rattle.model.specs.Layout.{lookupAt, positionAt, depositAt, materialAt, chainLinkAt, queueLinkAt, laneAddress, slotAddress, total}
 use Rattle.model.specs.Engine.{laneAt}
 use Rattle.model.specs.Table.{productAt, chainNumber}
 use Rattle.model.specs.Rules.{wrongCode, wrongProduct}
-use Rattle.model.specs.Memory.{at, wide, sizes, laneWord, slotWord, maskWord, state, contents, allQueues, flag}
+use Rattle.model.specs.Memory.{at, wide, sizes, laneWord, slotWord, maskWord, yardWord, state, contents, allQueues, flag}
 
--- cabinets 1 to 8, lanes per cabinet 1 to 8, slots 1 to 1,024
+-- yards 1 to 8, cabinets of a yard 1 to 8, lanes of a cabinet 1 to 8, slots 1 to 1,024
 unfoldable pub sizesFit : Sizes → Bool
 sizesFit z =
     every
-    (leb 1 (z .cabinets) ∷ leb (z .cabinets) maxCabinets
+    (leb 1 (z .yards) ∷ leb (z .yards) maxYards
+    ∷ leb 1 (z .cabinets) ∷ leb (z .cabinets) maxCabinets
     ∷ leb 1 (z .places) ∷ leb (z .places) maxPlaces
     ∷ leb 1 (z .slots) ∷ leb (z .slots) maxSlots ∷ [])
 
@@ -37,7 +38,10 @@ module _ (m : List ℕ) where
   slotNumbers = from 0 (sizes m .slots)
 
   abbrev pub cabinetNumbers : List ℕ
-  cabinetNumbers = from 0 (sizes m .cabinets)
+  cabinetNumbers = from 0 (cabinetCount (sizes m))
+
+  abbrev pub yardNumbers : List ℕ
+  yardNumbers = from 0 (sizes m .yards)
 
   -- contents agree with the sizes, and the total is not above the length
   abbrev pub contentsSentences : List Bool
@@ -55,9 +59,12 @@ module _ (m : List ℕ) where
   unfoldable pub flagsInRange : Bool
   flagsInRange = all (λ (i : ℕ). ltb (laneWord m i flagsAt) (2 ^ flagCount)) laneNumbers
 
-  -- masks are in range
+  -- masks are in range: the yard mask, the yards' cabinet masks, the cabinets' lane masks
   unfoldable pub masksInRange : Bool
-  masksInRange = ltb (at m cabinetMaskAt) (2 ^ sizes m .cabinets) && all (λ (c : ℕ). ltb (maskWord m c) (2 ^ sizes m .places)) cabinetNumbers
+  masksInRange =
+      ltb (at m yardMaskAt) (2 ^ sizes m .yards)
+      && all (λ (y : ℕ). ltb (yardWord m y) (2 ^ sizes m .cabinets)) yardNumbers
+      && all (λ (c : ℕ). ltb (maskWord m c) (2 ^ sizes m .places)) cabinetNumbers
 
   -- a slot's number or none
   abbrev pub slotOrNone : ℕ → Bool
@@ -186,10 +193,16 @@ lookupsInSections s = all (λ (l : Lane). implies (isRunning (l .lookup)) (l .re
 unfoldable pub snapshotsPending : State → Bool
 snapshotsPending s = all (λ (l : Lane). implies (isHeld (l .snapshot)) (l .pending)) (s .engine .lanes)
 
+-- a bit is set exactly when the mask below it is not 0
+abbrev pub bitFits : Bool → ℕ → Bool
+bitFits b w = cond b (ltb 0 w) (eqb w 0)
+
 module _ (m : List ℕ) where
-  -- a cabinet's bit is set exactly when its lane mask is not 0
-  unfoldable pub cabinetBits : Bool
-  cabinetBits = all (λ (c : ℕ). cond (flag c (at m cabinetMaskAt)) (ltb 0 (maskWord m c)) (eqb (maskWord m c) 0)) (cabinetNumbers m)
+  -- a yard's bit against its cabinet mask, and a cabinet's against its lane mask
+  unfoldable pub bitsFit : Bool
+  bitsFit =
+      all (λ (y : ℕ). bitFits (flag y (at m yardMaskAt)) (yardWord m y)) (yardNumbers m)
+      && all (λ (c : ℕ). bitFits (flag (c % sizes m .cabinets) (yardWord m (c / sizes m .cabinets))) (maskWord m c)) (cabinetNumbers m)
 
   -- free slots hold code, deposit and material 0 and chain link none
   unfoldable pub freeBlank : State → Bool
@@ -220,9 +233,9 @@ globalGenerationFits current largest q =
     isEmpty (q .current) || ((eqb g current || eqb g (up current)) && not (later g largest))
 
 module _ (m : List ℕ) where
-  -- a period runs while the cabinet mask is not 0
+  -- a period runs while the yard mask is not 0
   abbrev pub periodRuns : Bool
-  periodRuns = not (eqb (at m cabinetMaskAt) 0)
+  periodRuns = not (eqb (at m yardMaskAt) 0)
 
   unfoldable pub largestAgrees : State → Bool
   largestAgrees s = largestFits (s .engine .current) (s .engine .largest) periodRuns
@@ -242,7 +255,7 @@ module _ (m : List ℕ) where
       flagsInRange m ∷ masksInRange m ∷ linksInRange m ∷ fieldsInRange m
       ∷ standsOnce s ∷ lastsAgree m s ∷ lengthsAgree m s ∷ onTheirChains s ∷ noCodeTwice s
       ∷ snapshotsAtRest m ∷ lookupsAtRest m ∷ generationsAtRest s ∷ queueLinksAtRest m s
-      ∷ offLanes s ∷ lookupsInSections s ∷ snapshotsPending s ∷ cabinetBits m ∷ freeBlank m s
+      ∷ offLanes s ∷ lookupsInSections s ∷ snapshotsPending s ∷ bitsFit m ∷ freeBlank m s
       ∷ largestAgrees m s ∷ laneGenerations m s ∷ globalGeneration s ∷ []
 
   -- the state is read only where the contents agree

@@ -1,4 +1,4 @@
--- A state as the words of a memory, and back (document 01, "The memory", the four bodies). Where the words stand is Layout.antt's.
+-- A state as the words of a memory, and back (document 01, "The memory", the four bodies; document 02, request 8, the fifth). Where the words stand is Layout.antt's.
 use Prim.Native.Nat.{ℕ, zero, suc, _+_, _*_, _/_, _%_, _^_, _<_}
 use mathlib.Core.Bool.{Bool, true, false, not, cond}
 use mathlib.Core.List.{List, [], _∷_, _++_, map}
@@ -6,11 +6,11 @@ use lib.ListN.{length, getD}
 use lib.Dec.{leb, eqb}
 use Rattle.model.specs.Word.{wordLimit, none}
 use Rattle.model.specs.Lists.{first, last, from, concat, concatMap, successorIn, member, mask}
-use Rattle.model.specs.State.{Sizes, laneCount, Lookup, idle, running, isRunning, Snapshot, unheld, held, isHeld, Queues, Lane, Product, Table, State}
-use Rattle.model.specs.Layout.{chainCount, countWidth, version, cabinetsAt, placesAt, slotsAt, currentOffset, doneOffset, globalBody, currentGenerationAt}
+use Rattle.model.specs.State.{Sizes, cabinetCount, laneCount, Lookup, idle, running, isRunning, Snapshot, unheld, held, isHeld, Queues, Lane, Product, Table, State}
+use Rattle.model.specs.Layout.{chainCount, countWidth, version, cabinetsAt, placesAt, slotsAt, yardsAt, currentOffset, doneOffset, globalBody, currentGenerationAt}
 use Rattle.model.specs.Layout.{largestGenerationAt, headsAt, freeAt, globalQueuesAt, globalGenerationAt, globalLength, masksAt, onlineBit}
 use Rattle.model.specs.Layout.{readingBit, lookupBit, snapshotBit, quiescentAt, snapshotAt, generationAt, queuesAt, lookupAt, laneLength}
-use Rattle.model.specs.Layout.{depositAt, materialAt, chainLinkAt, queueLinkAt, slotLength, lanesBody, laneAddress, slotsBody, slotAddress}
+use Rattle.model.specs.Layout.{depositAt, materialAt, chainLinkAt, queueLinkAt, slotLength, lanesBody, laneAddress, slotsBody, slotAddress, yardsBody}
 use Rattle.model.specs.Engine.{laneAt}
 use Rattle.model.specs.Table.{product, productAt, linkOf}
 
@@ -26,14 +26,16 @@ high c = c / wordLimit
 abbrev pub wholeOf : ℕ → ℕ → ℕ
 wholeOf l h = l + wordLimit * h
 
--- version, sizes, then first word and length of the four bodies
+-- version, sizes but the yards, first word and length of the five bodies, and the yards
 unfoldable pub contents : Sizes → List ℕ
 contents z =
     version ∷ z .cabinets ∷ z .places ∷ z .slots
     ∷ globalBody ∷ globalLength
-    ∷ masksAt ∷ z .cabinets
+    ∷ masksAt ∷ cabinetCount z
     ∷ lanesBody z ∷ laneLength * laneCount z
-    ∷ slotsBody z ∷ slotLength * z .slots ∷ []
+    ∷ slotsBody z ∷ slotLength * z .slots
+    ∷ yardsBody z ∷ z .yards
+    ∷ z .yards ∷ []
 
 -- first, last and length of a queue; none, none and 0 of an empty one
 abbrev pub queueWords : List ℕ → List ℕ
@@ -81,23 +83,43 @@ laneWords l =
     ∷ first (l .queues .done) ∷ last (l .queues .done) ∷ length (l .queues .done)
     ∷ low (lookupCode (l .lookup)) ∷ high (lookupCode (l .lookup)) ∷ lookupPosition (l .lookup) ∷ []
 
--- the lane at place p of cabinet c is pending
-abbrev pub pendingAt : State → ℕ → ℕ → Bool
-pendingAt s c p = laneAt (s .engine) (c * s .sizes .places + p) .pending
-
--- a cabinet's lane mask, bit p for place p
-abbrev pub laneMask : State → ℕ → ℕ
-laneMask s c = mask (map (pendingAt s c) (from 0 (s .sizes .places)))
-
-abbrev pub laneMasks : State → List ℕ
-laneMasks s = map (laneMask s) (from 0 (s .sizes .cabinets))
-
 abbrev pub isNotZero : ℕ → Bool
 isNotZero w = not (eqb w 0)
 
--- the cabinet mask: a cabinet's bit stands while its lane mask is not 0
-abbrev pub cabinetMask : State → ℕ
-cabinetMask s = mask (map isNotZero (laneMasks s))
+-- flags by groups of w: the mask of group g has bit p for flag g × w + p
+abbrev pub groupMask : ℕ → (ℕ → Bool) → ℕ → ℕ
+groupMask w f g = mask (map (λ (p : ℕ). f (g * w + p)) (from 0 w))
+
+-- the flags of the level above: group g's stands while one of its own does
+abbrev pub standing : ℕ → (ℕ → Bool) → ℕ → Bool
+standing w f g = isNotZero (groupMask w f g)
+
+-- a lane's bit
+abbrev pub laneBit : State → ℕ → Bool
+laneBit s i = laneAt (s .engine) i .pending
+
+-- a cabinet's bit, and a yard's
+abbrev pub cabinetBit : State → ℕ → Bool
+cabinetBit s = standing (s .sizes .places) (laneBit s)
+
+abbrev pub yardBit : State → ℕ → Bool
+yardBit s = standing (s .sizes .cabinets) (cabinetBit s)
+
+-- a cabinet's lane mask, a yard's cabinet mask, and the yard mask
+abbrev pub laneMask : State → ℕ → ℕ
+laneMask s = groupMask (s .sizes .places) (laneBit s)
+
+abbrev pub cabinetMask : State → ℕ → ℕ
+cabinetMask s = groupMask (s .sizes .cabinets) (cabinetBit s)
+
+abbrev pub yardMask : State → ℕ
+yardMask s = groupMask (s .sizes .yards) (yardBit s) 0
+
+abbrev pub laneMasks : State → List ℕ
+laneMasks s = map (laneMask s) (from 0 (cabinetCount (s .sizes)))
+
+abbrev pub cabinetMasks : State → List ℕ
+cabinetMasks s = map (cabinetMask s) (from 0 (s .sizes .yards))
 
 abbrev pub queuesOf : Queues → List (List ℕ)
 queuesOf q = q .next ∷ q .current ∷ q .done ∷ []
@@ -122,7 +144,7 @@ headOf t k = first (getD (t .chains) k [])
 -- the global body's words
 unfoldable pub globalWords : State → List ℕ
 globalWords s =
-    (s .engine .current ∷ s .engine .largest ∷ cabinetMask s ∷ map (headOf (s .table)) (from 0 chainCount))
+    (s .engine .current ∷ s .engine .largest ∷ yardMask s ∷ map (headOf (s .table)) (from 0 chainCount))
     ++ queueWords (s .table .free)
     ++ threeWords (s .engine .global)
     ++ (s .engine .global .generation ∷ [])
@@ -138,6 +160,7 @@ words s =
     ++ laneMasks s
     ++ concatMap (laneWordsAt s) (from 0 (laneCount (s .sizes)))
     ++ concatMap (slotWords s) (from 0 (s .sizes .slots))
+    ++ cabinetMasks s
 
 -- ---- a memory, read
 
@@ -164,7 +187,7 @@ module _ (m : List ℕ) where
   wide i = wholeOf (at m i) (at m (i + 1))
 
   abbrev pub sizes : Sizes
-  sizes = record { cabinets = at m cabinetsAt; places = at m placesAt; slots = at m slotsAt }
+  sizes = record { yards = at m yardsAt; cabinets = at m cabinetsAt; places = at m placesAt; slots = at m slotsAt }
 
   -- word k of lane i, and of slot i
   abbrev pub laneWord : ℕ → ℕ → ℕ
@@ -173,9 +196,12 @@ module _ (m : List ℕ) where
   abbrev pub slotWord : ℕ → ℕ → ℕ
   slotWord k i = at m (slotAddress sizes i + k)
 
-  -- the lane mask of cabinet c
+  -- the lane mask of cabinet c, and the cabinet mask of yard y
   abbrev pub maskWord : ℕ → ℕ
   maskWord c = at m (masksAt + c)
+
+  abbrev pub yardWord : ℕ → ℕ
+  yardWord y = at m (yardsBody sizes + y)
 
   -- word k of every slot
   abbrev pub slotField : ℕ → List ℕ

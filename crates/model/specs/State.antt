@@ -4,15 +4,20 @@ use Prim.Native.Nat.{ℕ, _*_}
 use mathlib.Core.Bool.{Bool, true, false}
 use mathlib.Core.List.{List}
 
--- C cabinets of M places each, a lane at each place, and S slots. A cabinet is a quad of document 000, a lane one of its CPUs
+-- Y yards of C cabinets each, M places a cabinet with a lane at each, and S slots. A cabinet is a quad of document 000, a lane one of its CPUs
 pub record Sizes : Type 0 where
+  pub yards : ℕ
   pub cabinets : ℕ
   pub places : ℕ
   pub slots : ℕ
 
--- the number of lanes; lane number = cabinet × M + place
+-- the number of cabinets of all yards; cabinet c of yard y is number y × C + c of them
+abbrev pub cabinetCount : Sizes → ℕ
+cabinetCount z = z .yards * z .cabinets
+
+-- the number of lanes; lane number = (yard × C + cabinet) × M + place
 abbrev pub laneCount : Sizes → ℕ
-laneCount z = z .cabinets * z .places
+laneCount z = cabinetCount z * z .places
 
 -- a lane's lookup: the code that it looks for, and the slot at which it stands, or none
 pub data Lookup : Type 0 where
