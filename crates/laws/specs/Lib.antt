@@ -12,6 +12,7 @@ pub mod Generations
 pub mod Masks
 pub mod MaskFlags
 pub mod Levels
+pub mod MaskTree
 pub mod Areas
 pub mod Updates
 pub mod Stores
