@@ -1,0 +1,1 @@
+-- Laws of the tree: a bit cleared, and levels set by those below.

@@ -1,0 +1,2 @@
+-- What the contracts of `mask_tree` cite.
+pub mod Tree
