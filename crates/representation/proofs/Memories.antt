@@ -5,12 +5,12 @@ use mathlib.Core.Bool.{Bool, true, false}
 use mathlib.Core.List.{List, [], _∷_, _++_}
 use lib.ListN.{length, take, drop}
 use lib.Seq.{take-at, drop-at, length-take-le}
-use Rattle.model.specs.State.{State}
+use Rattle.model.specs.State.{Sizes, State}
 use Rattle.model.specs.Layout.{total}
 use Rattle.model.specs.Rules.{Op, performed, answer, next, refusal, fresh}
 use Rattle.model.specs.Memory.{Words, sizes, words, state}
 use Rattle.model.specs.Legal.{legal}
-use Rattle.model.specs.Calls.{Call, set-up, on-state, sized, stored, refusalOf, replyOf, leftOf, reply, left, leftAll}
+use Rattle.model.specs.Calls.{Call, set-up, on-state, stored, refusalOf, replyOf, leftOf, reply, left, leftAll}
 use Rattle.representation.specs.Sound.{Sound}
 use Rattle.representation.proofs.CallsWellFormed.Next.{sizes-performed, sizes-next}
 use Rattle.representation.proofs.Addresses.Writes.{length-words}
@@ -22,13 +22,13 @@ use Rattle.representation.proofs.MemoryCalls.{next-legal, next-words, l
 
 -- what holds of a memory after a call, by cases: as it was, after an accepted set-up, after a call on a legal memory
 module _ (P : List ℕ → Type 0) (m : List ℕ) (same : P m) where
-  left-setUp-cases : (c p n : ℕ) → (refusalOf m (set-up c p n) ≡ 0 → P (left m (set-up c p n))) → P (left m (set-up c p n))
+  left-setUp-cases : (z : Sizes) → (refusalOf m (set-up z) ≡ 0 → P (left m (set-up z))) → P (left m (set-up z))
   unfolding left leftOf
-  left-setUp-cases c p n f = go (refusalOf m (set-up c p n)) refl
+  left-setUp-cases z f = go (refusalOf m (set-up z)) refl
     where
-      go : (x : ℕ) → refusalOf m (set-up c p n) ≡ x → P (left m (set-up c p n))
+      go : (x : ℕ) → refusalOf m (set-up z) ≡ x → P (left m (set-up z))
       go zero e = f e
-      go (suc x) e = subst (λ (y : ℕ). P (leftOf m y (set-up c p n))) (sym e) same
+      go (suc x) e = subst (λ (y : ℕ). P (leftOf m y (set-up z))) (sym e) same
 
   left-cases : (k : Op) → (legal m ≡ true → P (left m (on-state k))) → P (left m (on-state k))
   left-cases k f = go (legal m) refl
@@ -39,12 +39,12 @@ module _ (P : List ℕ → Type 0) (m : List ℕ) (same : P m) where
 
 -- a memory of words stays one, whatever the call
 pub left-words : (m : List ℕ) (k : Call) → Words m → Words (left m k)
-left-words m (set-up c p n) w = left-setUp-cases Words m w c p n (λ e. setUp-words m c p n e w)
+left-words m (set-up z) w = left-setUp-cases Words m w z (λ e. setUp-words m z e w)
 left-words m (on-state k) w = left-cases Words m w k (λ e. next-words m k e w)
 
 -- each of the fourteen calls leaves one
 pub left-sound : (m : List ℕ) (k : Call) → Sound m → Sound (left m k)
-left-sound m (set-up c p n) v = left-setUp-cases Sound m v c p n (λ e. record { lawful = setUp-legal m c p n e; words = setUp-words m c p n e (v .words) })
+left-sound m (set-up z) v = left-setUp-cases Sound m v z (λ e. record { lawful = setUp-legal m z e; words = setUp-words m z e (v .words) })
 left-sound m (on-state k) v = record { lawful = next-legal m k (v .lawful) (v .words); words = left-words m (on-state k) (v .words) }
 
 pub leftAll-sound : (ks : List Call) (m : List ℕ) → Sound m → Sound (leftAll m ks)
@@ -72,11 +72,11 @@ pub left-past : (m : List ℕ) (k : Op) → legal m ≡ true → Words m → dro
 unfolding state
 left-past m k h w = ap (drop (total (sizes m))) (left-legal m k h w) ∙ drop-stored (next (state m) k) (total (sizes m)) (ap total (sizes-next (state m) k)) m
 
-pub left-setUp-past : (m : List ℕ) (c p n : ℕ) → drop (total (sized c p n)) (left m (set-up c p n)) ≡ drop (total (sized c p n)) m
+pub left-setUp-past : (m : List ℕ) (z : Sizes) → drop (total z) (left m (set-up z)) ≡ drop (total z) m
 unfolding fresh
-left-setUp-past m c p n =
-    left-setUp-cases (λ (x : List ℕ). drop (total (sized c p n)) x ≡ drop (total (sized c p n)) m) m refl c p n
-    (λ e. ap (drop (total (sized c p n))) (left-setUp m c p n e) ∙ drop-stored (fresh (sized c p n)) (total (sized c p n)) refl m)
+left-setUp-past m z =
+    left-setUp-cases (λ (x : List ℕ). drop (total z) x ≡ drop (total z) m) m refl z
+    (λ e. ap (drop (total z)) (left-setUp m z e) ∙ drop-stored (fresh z) (total z) refl m)
 
 -- and others in their place change no answer, and stay
 pub record PastTotal (m rest : List ℕ) (k : Op) : Type 0 where
@@ -135,10 +135,10 @@ reply-past m n a w v k = go (legal m) refl
     go false e = reply-illegal m k e ∙ sym (reply-illegal n k (sym same ∙ e))
 
 -- set-up looks at the length alone
-pub reply-setUp : (m n : List ℕ) (c p s : ℕ) → length m ≡ length n → reply m (set-up c p s) ≡ reply n (set-up c p s)
+pub reply-setUp : (m n : List ℕ) (z : Sizes) → length m ≡ length n → reply m (set-up z) ≡ reply n (set-up z)
 unfolding reply replyOf refusalOf
-reply-setUp m n c p s e = rw e (go (refusalOf n (set-up c p s)))
+reply-setUp m n z e = rw e (go (refusalOf n (set-up z)))
   where
-    go : (x : ℕ) → replyOf m x (set-up c p s) ≡ replyOf n x (set-up c p s)
+    go : (x : ℕ) → replyOf m x (set-up z) ≡ replyOf n x (set-up z)
     go zero = refl
     go (suc x) = refl

@@ -12,7 +12,7 @@ use Rattle.model.specs.Layout.{total}
 use Rattle.model.specs.Rules.{Op, refused, cause, firstOf, answer, answerOf, next, nextOf, refusal, fresh}
 use Rattle.model.specs.Memory.{Words, sizes, state}
 use Rattle.model.specs.Legal.{sizesFit, legal}
-use Rattle.model.specs.Calls.{Call, set-up, on-state, sized, stored, refusalOf, replyOf, leftOf, reply, left}
+use Rattle.model.specs.Calls.{Call, set-up, on-state, stored, refusalOf, replyOf, leftOf, reply, left}
 use Rattle.representation.proofs.WellFormed.{WellFormed}
 use Rattle.representation.proofs.Causes.Passed.{clear}
 use Rattle.representation.proofs.FromState.Worded.{stored-words}
@@ -28,7 +28,7 @@ refused-keeps m k = go k (refusalOf m k)
   where
     go : (k : Call) (n : ℕ) → (replyOf m n k .status ≡ 0 → ⊥) → leftOf m n k ≡ m
     go k (suc n) f = refl
-    go (set-up c p s) zero f = absurd (f refl)
+    go (set-up z) zero f = absurd (f refl)
     go (on-state o) zero f = absurd (f (status (state m) o))
 
 -- ---- the thirteen calls on a memory that is not legal
@@ -95,31 +95,31 @@ pub record SetUp (m : List ℕ) (z : Sizes) : Type 0 where
   pub inRange : sizesFit z ≡ true
   pub long : total z ≤ length m
 
-pub setUp-accepted : (m : List ℕ) (c p n : ℕ) → refusalOf m (set-up c p n) ≡ 0 → SetUp m (sized c p n)
+pub setUp-accepted : (m : List ℕ) (z : Sizes) → refusalOf m (set-up z) ≡ 0 → SetUp m z
 unfolding refusalOf
-setUp-accepted m c p n h =
-    let (fits, (short, rest)) = clear (cause 1 (not (sizesFit (sized c p n))) ∷ cause 2 (ltb (length m) (total (sized c p n))) ∷ []) (omega arith) h in
-    record { inRange = not-false _ fits; long = ltb-false (length m) (total (sized c p n)) short }
+setUp-accepted m z h =
+    let (fits, (short, rest)) = clear (cause 1 (not (sizesFit z)) ∷ cause 2 (ltb (length m) (total z)) ∷ []) (omega arith) h in
+    record { inRange = not-false _ fits; long = ltb-false (length m) (total z) short }
 
-module _ (m : List ℕ) (c p n : ℕ) (h : refusalOf m (set-up c p n) ≡ 0) where
-  pub left-setUp : left m (set-up c p n) ≡ stored (fresh (sized c p n)) m
+module _ (m : List ℕ) (z : Sizes) (h : refusalOf m (set-up z) ≡ 0) where
+  pub left-setUp : left m (set-up z) ≡ stored (fresh z) m
   unfolding left leftOf
-  left-setUp = ap (λ (x : ℕ). leftOf m x (set-up c p n)) h
+  left-setUp = ap (λ (x : ℕ). leftOf m x (set-up z)) h
 
-  fresh-fits : WellFormed (fresh (sized c p n))
-  fresh-fits = fresh-wellFormed (sized c p n) (setUp-accepted m c p n h .inRange)
+  fresh-fits : WellFormed (fresh z)
+  fresh-fits = fresh-wellFormed z (setUp-accepted m z h .inRange)
 
-  fresh-long : total (fresh (sized c p n) .sizes) ≤ length m
+  fresh-long : total (fresh z .sizes) ≤ length m
   unfolding fresh
-  fresh-long = setUp-accepted m c p n h .long
+  fresh-long = setUp-accepted m z h .long
 
   -- an accepted set-up leaves a legal memory
-  pub setUp-legal : legal (left m (set-up c p n)) ≡ true
-  setUp-legal = subst (λ (x : List ℕ). legal x ≡ true) (sym left-setUp) (round (fresh (sized c p n)) m fresh-fits fresh-long .0)
+  pub setUp-legal : legal (left m (set-up z)) ≡ true
+  setUp-legal = subst (λ (x : List ℕ). legal x ≡ true) (sym left-setUp) (round (fresh z) m fresh-fits fresh-long .0)
 
   -- which reads as the fresh state
-  pub setUp-state : state (left m (set-up c p n)) ≡ fresh (sized c p n)
-  setUp-state = ap state left-setUp ∙ round (fresh (sized c p n)) m fresh-fits fresh-long .1
+  pub setUp-state : state (left m (set-up z)) ≡ fresh z
+  setUp-state = ap state left-setUp ∙ round (fresh z) m fresh-fits fresh-long .1
 
-  pub setUp-words : Words m → Words (left m (set-up c p n))
-  setUp-words w = subst Words (sym left-setUp) (stored-words (fresh (sized c p n)) fresh-fits m w)
+  pub setUp-words : Words m → Words (left m (set-up z))
+  setUp-words w = subst Words (sym left-setUp) (stored-words (fresh z) fresh-fits m w)

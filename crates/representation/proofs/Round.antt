@@ -7,7 +7,7 @@ use native.Mathlib.Omega.{arith}
 use lib.ListN.{length, take, drop, length-append, take-append-drop}
 use lib.Seq.{take-at, drop-at, getD-take}
 use Rattle.model.specs.State.{State}
-use Rattle.model.specs.Layout.{cabinetsAt, placesAt, slotsAt, total}
+use Rattle.model.specs.Layout.{cabinetsAt, placesAt, slotsAt, yardsAt, total}
 use Rattle.model.specs.Memory.{at, Words, sizes, words, state}
 use Rattle.model.specs.Legal.{legal}
 use Rattle.model.specs.Calls.{stored}
@@ -109,7 +109,12 @@ module _ (m n : List ℕ) (a : Agree m n) where
   -- the contents are below every total: so the sizes are the same, and so are the totals
   agree-total : total (sizes m) ≡ total (sizes n)
   agree-total =
-      rw (agree-at cabinetsAt (omega arith) (omega arith), agree-at placesAt (omega arith) (omega arith), agree-at slotsAt (omega arith) (omega arith))
+      rw (
+        agree-at yardsAt (omega arith) (omega arith),
+        agree-at cabinetsAt (omega arith) (omega arith),
+        agree-at placesAt (omega arith) (omega arith),
+        agree-at slotsAt (omega arith) (omega arith),
+      )
 
   agree-words : WordsTo (total (sizes m)) m → WordsTo (total (sizes n)) n
   agree-words w i b = let c : i < total (sizes m) = omega (arith, agree-total) in rw (agree-at i c b) at (w i c)

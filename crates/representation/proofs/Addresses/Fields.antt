@@ -9,9 +9,9 @@ use lib.ListN.{getD, length, set, drop, List·getD-append}
 use lib.Seq.{getD-set-same, getD-set-other, getD-drop}
 use lib.Dec.{eqb}
 use borrow.Author.Tests.{eqb-true}
-use Rattle.model.specs.State.{Sizes, laneCount, State}
-use Rattle.model.specs.Layout.{chainCount, queueWidth, headsAt, freeAt, masksAt, laneLength, slotLength, laneAddress, slotAddress, total}
-use Rattle.model.specs.Memory.{at, contents, queueWords, threeWords, laneMask, cabinetMask, laneWordsAt, slotWords, headOf}
+use Rattle.model.specs.State.{Sizes, cabinetCount, laneCount, State}
+use Rattle.model.specs.Layout.{chainCount, queueWidth, headsAt, freeAt, masksAt, laneLength, slotLength, laneAddress, slotAddress, yardsBody, total}
+use Rattle.model.specs.Memory.{at, contents, queueWords, threeWords, laneMask, cabinetMask, yardMask, laneWordsAt, slotWords, headOf}
 use Rattle.laws.specs.Tests.{and-true, clash, eqb-self}
 use Rattle.laws.specs.Areas.{Extent, rows, extent, Within, Spot, address as addressIn, address-lt, address-injective, address-onto}
 
@@ -19,7 +19,7 @@ use Rattle.laws.specs.Areas.{Extent, rows, extent, Within, Spot, address as add
 
 -- top: the contents and the global words before the chain heads. end: the global words after them, from those of the free queue on
 pub data Field : Type 0 where
-  top head end mask : ℕ → Field
+  top head end mask yard : ℕ → Field
   lane slot : ℕ → ℕ → Field
 
 -- the number of global words from those of the free queue on
@@ -33,19 +33,21 @@ address z (end k) = freeAt + k
 address z (mask c) = masksAt + c
 address z (lane i k) = laneAddress z i + k
 address z (slot i k) = slotAddress z i + k
+address z (yard y) = yardsBody z + y
 
 abbrev pub Inside : Sizes → Field → Type 0
 Inside z (top k) = k < headsAt
 Inside z (head k) = k < chainCount
 Inside z (end k) = k < endsLength
-Inside z (mask c) = c < z .cabinets
+Inside z (mask c) = c < cabinetCount z
 Inside z (lane i k) = (i < laneCount z) × (k < laneLength)
 Inside z (slot i k) = (i < z .slots) × (k < slotLength)
+Inside z (yard y) = y < z .yards
 
 -- ---- what a state's fields hold
 
 abbrev pub topWords : State → List ℕ
-topWords s = contents (s .sizes) ++ (s .engine .current ∷ s .engine .largest ∷ cabinetMask s ∷ [])
+topWords s = contents (s .sizes) ++ (s .engine .current ∷ s .engine .largest ∷ yardMask s ∷ [])
 
 abbrev pub endWords : State → List ℕ
 endWords s = queueWords (s .table .free) ++ threeWords (s .engine .global) ++ (s .engine .global .generation ∷ [])
@@ -57,6 +59,7 @@ value s (end k) = getD (endWords s) k 0
 value s (mask c) = laneMask s c
 value s (lane i k) = getD (laneWordsAt s i) k 0
 value s (slot i k) = getD (slotWords s i) k 0
+value s (yard y) = cabinetMask s y
 
 -- a queue's words, where among the words ws those of the queue xs stand from n on
 pub queue-word : (ws rest xs : List ℕ) (n o : ℕ) → drop n ws ≡ queueWords xs ++ rest → o < queueWidth → getD ws (n + o) 0 ≡ getD (queueWords xs) o 0
@@ -71,6 +74,7 @@ area (end k) = 2
 area (mask k) = 3
 area (lane i k) = 4
 area (slot i k) = 5
+area (yard y) = 6
 
 abbrev pub row : Field → ℕ
 row (top k) = 0
@@ -79,6 +83,7 @@ row (end k) = 0
 row (mask k) = k
 row (lane i k) = i
 row (slot i k) = i
+row (yard y) = y
 
 abbrev pub column : Field → ℕ
 column (top k) = k
@@ -87,10 +92,12 @@ column (end k) = k
 column (mask k) = 0
 column (lane i k) = k
 column (slot i k) = k
+column (yard y) = 0
 
 abbrev pub layout : Sizes → List Extent
 layout z =
-    rows 1 headsAt ∷ rows chainCount 1 ∷ rows 1 endsLength ∷ rows (z .cabinets) 1 ∷ rows (laneCount z) laneLength ∷ rows (z .slots) slotLength ∷ []
+    rows 1 headsAt ∷ rows chainCount 1 ∷ rows 1 endsLength
+    ∷ rows (cabinetCount z) 1 ∷ rows (laneCount z) laneLength ∷ rows (z .slots) slotLength ∷ rows (z .yards) 1 ∷ []
 
 module _ (z : Sizes) where
   pub address-of : (f : Field) → address z f ≡ addressIn (layout z) (area f) (row f) (column f)
@@ -100,6 +107,7 @@ module _ (z : Sizes) where
   address-of (mask c) = omega arith
   address-of (lane i k) = omega arith
   address-of (slot i k) = omega arith
+  address-of (yard y) = omega arith
 
   pub within-of : (f : Field) → Inside z f → Within (layout z) (area f) (row f) (column f)
   within-of (top k) h = record { row = omega arith; column = h }
@@ -108,6 +116,7 @@ module _ (z : Sizes) where
   within-of (mask c) h = record { row = h; column = omega arith }
   within-of (lane i k) h = record { row = h .0; column = h .1 }
   within-of (slot i k) h = record { row = h .0; column = h .1 }
+  within-of (yard y) h = record { row = h; column = omega arith }
 
   pub extent-of : extent (layout z) ≡ total z
   extent-of = omega arith
@@ -134,7 +143,8 @@ module _ (z : Sizes) where
       go (suc (suc (suc zero))) i k w e = record { field = mask i; inside = w .row; there = omega (arith, w .column) }
       go (suc (suc (suc (suc zero)))) i k w e = record { field = lane i k; inside = (w .row, w .column); there = omega arith }
       go (suc (suc (suc (suc (suc zero))))) i k w e = record { field = slot i k; inside = (w .row, w .column); there = omega arith }
-      go (suc (suc (suc (suc (suc (suc n)))))) i k w e = absurd (omega (arith, w .row))
+      go (suc (suc (suc (suc (suc (suc zero)))))) i k w e = record { field = yard i; inside = w .row; there = omega (arith, w .column) }
+      go (suc (suc (suc (suc (suc (suc (suc n))))))) i k w e = absurd (omega (arith, w .row))
 
 -- ---- a store changes one field
 

@@ -9,13 +9,13 @@ use native.Mathlib.Decide.{decLt}
 use lib.ListN.{getD, length, set, drop, length-append, length-set, length-drop, List·getD-append}
 use lib.Seq.{getD-set-other, getD-drop, ext-getD}
 use Rattle.model.specs.Lists.{concatMap, from}
-use Rattle.model.specs.State.{Sizes, laneCount, State}
+use Rattle.model.specs.State.{Sizes, cabinetCount, laneCount, State}
 use Rattle.model.specs.Layout.{total}
-use Rattle.model.specs.Memory.{at, words, contents, globalWords, laneMask, laneMasks, laneWords, laneWordsAt, slotWords, headOf}
+use Rattle.model.specs.Memory.{at, words, contents, globalWords, laneMask, laneMasks, cabinetMask, cabinetMasks, laneWords, laneWordsAt, slotWords, headOf}
 use Rattle.model.specs.Calls.{stored}
 use Rattle.laws.specs.ListLaws.{getD-right, concatMap-single}
 use Rattle.laws.specs.Areas.{Area, extentAt, noArea, laidOut, laidOut-append, length-laidOut, getD-laidOut}
-use Rattle.representation.proofs.Addresses.Fields.{Field, top, head, end, mask, lane, slot, Inside, address, value, topWords, endWords, area, row}
+use Rattle.representation.proofs.Addresses.Fields.{Field, top, head, end, mask, lane, slot, yard, Inside, address, value, topWords, endWords, area, row}
 use Rattle.representation.proofs.Addresses.Fields.{column, layout, address-of, within-of, extent-of, address-below, place, sameField, load}
 
 -- ---- the words of a state, field by field
@@ -39,6 +39,7 @@ module _ (s : State) where
       record { place = extentAt (layout z) 3; row = λ c. laneMask s c ∷ []; filled = λ i. refl }
       ∷ record { place = extentAt (layout z) 4; row = laneWordsAt s; filled = λ i. refl }
       ∷ record { place = extentAt (layout z) 5; row = slotWords s; filled = λ i. refl }
+      ∷ record { place = extentAt (layout z) 6; row = λ y. cabinetMask s y ∷ []; filled = λ i. refl }
       ∷ []
 
   words-areas : words s ≡ laidOut (fixedAreas ++ sizedAreas)
@@ -46,8 +47,12 @@ module _ (s : State) where
   words-areas =
       sym
       (laidOut-append fixedAreas sizedAreas
-      ∙ ap₂ (λ (xs ys : List ℕ). laidOut fixedAreas ++ (xs ++ (lanes ++ ys))) (concatMap-single (laneMask s) (from 0 (z .cabinets))) (append-nil slots)
-      ∙ sym (append-assoc (laidOut fixedAreas ++ laneMasks s) lanes slots ∙ append-assoc (laidOut fixedAreas) (laneMasks s) (lanes ++ slots)))
+      ∙ ap₂ (λ (xs ys : List ℕ). laidOut fixedAreas ++ (xs ++ (lanes ++ (slots ++ ys)))) (concatMap-single (laneMask s) (from 0 (cabinetCount z)))
+      (append-nil _ ∙ concatMap-single (cabinetMask s) (from 0 (z .yards)))
+      ∙ sym
+      (append-assoc (laidOut fixedAreas ++ laneMasks s ++ lanes) slots (cabinetMasks s)
+      ∙ append-assoc (laidOut fixedAreas ++ laneMasks s) lanes (slots ++ cabinetMasks s)
+      ∙ append-assoc (laidOut fixedAreas) (laneMasks s) (lanes ++ (slots ++ cabinetMasks s))))
     where
       lanes : List ℕ
       lanes = concatMap (laneWordsAt s) (from 0 (laneCount z))
@@ -71,6 +76,7 @@ module _ (s : State) where
       held (mask c) h = refl
       held (lane i k) h = refl
       held (slot i k) h = refl
+      held (yard y) h = refl
 
 -- ---- memories by their fields
 

@@ -7,7 +7,7 @@ use native.Mathlib.Omega.{arith}
 use lib.Dec.{eqb}
 use Rattle.model.specs.Word.{wordLimit}
 use Rattle.model.specs.State.{Sizes, Engine, State}
-use Rattle.model.specs.Layout.{currentGenerationAt, largestGenerationAt, cabinetMaskAt, total}
+use Rattle.model.specs.Layout.{currentGenerationAt, largestGenerationAt, yardMaskAt, total}
 use Rattle.model.specs.Engine.{laneAt, runs}
 use Rattle.model.specs.Memory.{sizes, contents, state}
 use Rattle.model.specs.Legal.{periodRuns}
@@ -15,11 +15,10 @@ use Rattle.laws.specs.Tests.{not-not}
 use Rattle.representation.proofs.Discipline.Ages.{Level}
 use Rattle.representation.proofs.WellFormed.{WellFormed}
 use Rattle.representation.proofs.Sentences.Facts.{WordsTo, Facts, Legal}
-use Rattle.representation.proofs.Sentences.Split.{sizes-fit}
 use Rattle.representation.proofs.Addresses.Fields.{top}
 use Rattle.representation.proofs.FromMemory.Reading.{state-lanes}
 use Rattle.representation.proofs.FromMemory.Represent.{state-image}
-use Rattle.representation.proofs.FromState.Periods.{cabinetMask-runs}
+use Rattle.representation.proofs.FromState.Periods.{yardMask-runs}
 use Rattle.representation.proofs.FromMemory.LegalGenerations.{level, strict, clean}
 use Rattle.representation.proofs.FromMemory.LegalLanes.{lane-fits}
 use Rattle.representation.proofs.FromMemory.LegalTable.{once, range, unlinked, table-fits}
@@ -42,8 +41,8 @@ module _ (m : List ℕ) (l : Legal m) (word : WordsTo (total (sizes m)) m) where
   runs-is : periodRuns m ≡ runs e
   unfolding contents state
   runs-is =
-      ap (λ (x : ℕ). not (eqb x 0)) (state-image m l word (top cabinetMaskAt) (omega arith))
-      ∙ ap not (cabinetMask-runs s (sizes-fit z (l .contents .inRange) .somePlaces) (state-lanes m))
+      ap (λ (x : ℕ). not (eqb x 0)) (state-image m l word (top yardMaskAt) (omega arith))
+      ∙ ap not (yardMask-runs s (state-lanes m))
       ∙ not-not (runs e)
 
   current-word : e .current < wordLimit

@@ -1,5 +1,5 @@
 -- The fields of a legal memory of words are those of the state that it reads as.
-use Prim.Native.Nat.{ℕ, suc, _+_, _*_, _≤_, _<_}
+use Prim.Native.Nat.{ℕ, suc, _+_, _*_, _^_, _≤_, _<_}
 use mathlib.Core.Bool.{Bool, true, false}
 use mathlib.Core.Path.{_≡_, refl, ap, ap₂, sym, _∙_}
 use mathlib.Core.List.{List, [], _∷_, _++_, map}
@@ -7,21 +7,21 @@ use native.Mathlib.Omega.{arith}
 use lib.ListN.{length, getD}
 use lib.Arith.{digits-lt, digits-div, digits-mod}
 use Rattle.model.specs.Lists.{first, last, from, mask as maskOf}
-use Rattle.model.specs.State.{Sizes, State, Product, Lane, laneCount}
+use Rattle.model.specs.State.{Sizes, State, Product, Lane, cabinetCount, laneCount}
 use Rattle.model.specs.Layout.{chainCount, countWidth, countsWidth, currentOffset, doneOffset, lastOffset, lengthOffset, contentsLength, headsAt, freeAt}
-use Rattle.model.specs.Layout.{globalQueuesAt, currentGenerationAt, largestGenerationAt, cabinetMaskAt, onlineBit, readingBit}
+use Rattle.model.specs.Layout.{globalQueuesAt, currentGenerationAt, largestGenerationAt, yardMaskAt, onlineBit, readingBit}
 use Rattle.model.specs.Layout.{lookupBit, snapshotBit, flagCount, flagsAt, quiescentAt, snapshotAt, generationAt, queuesAt, lookupAt}
 use Rattle.model.specs.Layout.{positionAt, chainLinkAt, queueLinkAt, laneLength, slotLength, slotAddress, laneAddress, total}
-use Rattle.model.specs.Memory.{at, wide, flag, flags, pendingAt, isNotZero, maskWord, laneMask, laneMasks, cabinetMask, laneWords}
+use Rattle.model.specs.Memory.{at, wide, flag, flags, isNotZero, groupMask, laneBit, cabinetBit, maskWord, yardWord, laneMask, cabinetMask, yardMask, laneWords}
 use Rattle.model.specs.Memory.{laneWord, slotWords, slotWord, low, high, headOf, readLookup, readSnapshot, snapshotCount, countWords}
 use Rattle.model.specs.Memory.{lookupCode, lookupPosition, state, sizes, contents, readProduct, readQueue, readLane}
-use Rattle.laws.specs.ListLaws.{map-from-alike, map-map-from, getD-map-below, take-map-from}
+use Rattle.laws.specs.ListLaws.{map-from-alike, getD-map-below, take-map-from}
 use Rattle.laws.specs.Masks.{mask-flags}
 use Rattle.representation.proofs.WellFormed.{SlotOrNone}
 use Rattle.representation.proofs.Sentences.Facts.{WordsTo, Facts, Legal}
 use Rattle.representation.proofs.FromMemory.Reading.{state-lane, state-chain, state-product, isRunning-readLookup, isHeld-readSnapshot}
 use Rattle.representation.proofs.FromMemory.Walked.{slotWalk-first, chain-link, queue-link}
-use Rattle.representation.proofs.Addresses.Fields.{top, head, end, mask, lane, slot, value, endsLength, endWords, topWords}
+use Rattle.representation.proofs.Addresses.Fields.{top, head, end, mask, lane, slot, yard, value, endsLength, endWords, topWords}
 use Rattle.representation.proofs.Addresses.Writes.{Image}
 
 cons : {x y : ℕ} {xs ys : List ℕ} → x ≡ y → xs ≡ ys → x ∷ xs ≡ y ∷ ys
@@ -63,32 +63,41 @@ module _ (m : List ℕ) (l : Legal m) (w : WordsTo (total (sizes m)) m) where
 
   -- ---- masks
 
-  pending-is : (c p : ℕ) → c < z .cabinets → p < z .places → pendingAt s c p ≡ flag p (maskWord m c)
+  -- a mask x of w bits, of which each is the flag f of its place
+  mask-by : (f : ℕ → Bool) (w x g : ℕ) → x < 2 ^ w → ((p : ℕ) → p < w → f (g * w + p) ≡ flag p x) → groupMask w f g ≡ x
+  mask-by f w x g b h = ap maskOf (map-from-alike _ _ 0 w (λ p u v. h p (omega arith))) ∙ mask-flags x w b
+
+  pending-is : (c p : ℕ) → c < cabinetCount z → p < z .places → laneBit s (c * z .places + p) ≡ flag p (maskWord m c)
   unfolding readLane state
   pending-is c p hc hp =
       ap (λ (l : Lane). l .pending) (state-lane m (c * z .places + p) (digits-lt hc hp))
       ∙ ap₂ (λ (x y : ℕ). flag x (maskWord m y)) (digits-mod c hp) (digits-div c hp)
 
-  mask-is : (c : ℕ) → c < z .cabinets → laneMask s c ≡ maskWord m c
+  mask-is : (c : ℕ) → c < cabinetCount z → laneMask s c ≡ maskWord m c
   unfolding state
-  mask-is c b =
-      ap maskOf (map-from-alike _ _ 0 (z .places) (λ p u v. pending-is c p b (omega arith))) ∙ mask-flags (maskWord m c) (z .places) (f .laneMasks c b)
+  mask-is c b = mask-by (laneBit s) (z .places) (maskWord m c) c (f .laneMasks c b) (λ p h. pending-is c p b h)
 
-  cabinetMask-is : cabinetMask s ≡ at m cabinetMaskAt
+  cabinetMask-is : (y : ℕ) → y < z .yards → cabinetMask s y ≡ yardWord m y
   unfolding state
-  cabinetMask-is =
-      ap maskOf
-      (map-map-from isNotZero (laneMask s) 0 (z .cabinets)
-      ∙ map-from-alike _ (λ c. flag c (at m cabinetMaskAt)) 0 (z .cabinets)
-      (λ c u v. let b : c < z .cabinets = omega arith in ap isNotZero (mask-is c b) ∙ f .cabinetBits c b))
-      ∙ mask-flags (at m cabinetMaskAt) (z .cabinets) (f .cabinetMask)
+  cabinetMask-is y b =
+      mask-by (cabinetBit s) (z .cabinets) (yardWord m y) y (f .cabinetMasks y b)
+      (λ c h. let inside : y * z .cabinets + c < cabinetCount z = digits-lt b h in
+      ap isNotZero (mask-is (y * z .cabinets + c) inside) ∙ f .cabinetBits (y * z .cabinets + c) inside
+      ∙ ap₂ (λ (i j : ℕ). flag i (yardWord m j)) (digits-mod y h) (digits-div y h))
+
+  yardMask-is : yardMask s ≡ at m yardMaskAt
+  unfolding state
+  yardMask-is =
+      mask-by (λ y. isNotZero (cabinetMask s y)) (z .yards) (at m yardMaskAt) 0 (f .yardMask)
+      (λ y b. let e : 0 * z .yards + y ≡ y = omega arith in
+      ap (λ (x : ℕ). isNotZero (cabinetMask s x)) e ∙ ap isNotZero (cabinetMask-is y b) ∙ f .yardBits y b)
 
   top-is : topWords s ≡ map (at m) (from 0 headsAt)
   unfolding state from
   top-is =
-      ap (λ (r : List ℕ). r ++ (at m currentGenerationAt ∷ at m largestGenerationAt ∷ cabinetMask s ∷ []))
+      ap (λ (r : List ℕ). r ++ (at m currentGenerationAt ∷ at m largestGenerationAt ∷ yardMask s ∷ []))
       (sym (l .contents .agree) ∙ take-map-from m contentsLength (omega (arith, l .contents .long)))
-      ∙ ap (λ (x : ℕ). map (at m) (from 0 contentsLength) ++ (at m currentGenerationAt ∷ at m largestGenerationAt ∷ x ∷ [])) cabinetMask-is
+      ∙ ap (λ (x : ℕ). map (at m) (from 0 contentsLength) ++ (at m currentGenerationAt ∷ at m largestGenerationAt ∷ x ∷ [])) yardMask-is
 
   -- ---- a lane's words
 
@@ -209,6 +218,7 @@ module _ (m : List ℕ) (l : Legal m) (w : WordsTo (total (sizes m)) m) where
   state-image (head k) b = sym (head-is k b)
   state-image (end k) b = sym (ap (λ (r : List ℕ). getD r k 0) ends-are ∙ getD-map-below (λ k. at m (freeAt + k)) endsLength k 0 b)
   state-image (mask c) b = sym (mask-is c b)
+  state-image (yard y) b = sym (cabinetMask-is y b)
   state-image (lane i k) b =
       sym
       (ap (λ (l : Lane). getD (laneWords l) k 0) (state-lane m i (b .0))

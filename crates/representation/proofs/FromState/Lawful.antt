@@ -1,5 +1,5 @@
 -- A memory that holds the words of a well-formed state is legal.
-use Prim.Native.Nat.{ℕ, _+_, _^_, _≤_, _<_}
+use Prim.Native.Nat.{ℕ, _+_, _/_, _%_, _^_, _≤_, _<_}
 use mathlib.Core.Path.{_≡_, refl, sym, ap, _∙_, subst}
 use mathlib.Core.Bool.{true, false, not}
 use mathlib.Core.List.{List, [], _∷_, _++_}
@@ -9,11 +9,11 @@ use lib.Dec.{eqb}
 use Rattle.model.specs.Word.{none}
 use Rattle.model.specs.Lists.{last, concat, count}
 use Rattle.model.specs.State.{Sizes, laneCount, isRunning, isHeld, Engine, Product, Table, State}
-use Rattle.model.specs.Layout.{depositAt, materialAt, lastOffset, lengthOffset, queueWidth, currentOffset, doneOffset, cabinetMaskAt, lookupBit}
+use Rattle.model.specs.Layout.{depositAt, materialAt, lastOffset, lengthOffset, queueWidth, currentOffset, doneOffset, yardMaskAt, lookupBit}
 use Rattle.model.specs.Layout.{freeAt, snapshotBit, flagsAt, queuesAt, positionAt, chainLinkAt, queueLinkAt, laneLength, laneAddress, slotAddress, total}
 use Rattle.model.specs.Engine.{laneAt, runs}
 use Rattle.model.specs.Table.{productAt}
-use Rattle.model.specs.Memory.{at, sizes, wide, flag, flags, contents, lookupCode, cabinetMask, pendingAt}
+use Rattle.model.specs.Memory.{at, sizes, wide, flag, flags, contents, lookupCode, laneBit, cabinetBit, yardBit, yardMask}
 use Rattle.model.specs.Memory.{isNotZero, queueWords, laneWords, slotWords, slotWord, allQueues, readProduct}
 use Rattle.model.specs.Rules.{wrongCode, wrongProduct}
 use Rattle.model.specs.Legal.{legal, codeOf, periodRuns}
@@ -26,10 +26,10 @@ use Rattle.representation.proofs.WellFormed.{WellFormed, SlotOrNone}
 use Rattle.representation.proofs.Sentences.Ranges.{code-right, product-right}
 use Rattle.representation.proofs.Sentences.Facts.{Agree, Facts, Blank}
 use Rattle.representation.proofs.Sentences.Split.{facts-legal}
-use Rattle.representation.proofs.Addresses.Fields.{top, end, mask, slot, value, endsLength, endWords, queue-word}
+use Rattle.representation.proofs.Addresses.Fields.{top, end, mask, slot, yard, value, endsLength, endWords, queue-word}
 use Rattle.representation.proofs.Addresses.Writes.{Image}
 use Rattle.representation.proofs.FromState.Standing.{fit, stands, chain-once, chainLink-range, queueLink-range, position-range}
-use Rattle.representation.proofs.FromState.Periods.{cabinetMask-from, flag-cabinetMask, cabinetMask-runs}
+use Rattle.representation.proofs.FromState.Periods.{flag-group, flag-of, group-below, yardMask-runs}
 use Rattle.representation.proofs.FromState.RereadQueues.{sized}
 use Rattle.representation.proofs.FromState.Reread.{product-is, reread-sized, at-sizes}
 use Rattle.representation.proofs.FromState.LawfulGenerations.{largest-fits, lane-near, global-near, at-rest}
@@ -46,12 +46,12 @@ module _ (e : Engine) (t : Table) (m : List ℕ) (w : WellFormed (sized e t m)) 
 
   -- ---- masks
 
-  mask-word : at m cabinetMaskAt ≡ cabinetMask s
+  mask-word : at m yardMaskAt ≡ yardMask s
   unfolding contents
-  mask-word = holds (top cabinetMaskAt) (omega arith)
+  mask-word = holds (top yardMaskAt) (omega arith)
 
   runs-is : periodRuns m ≡ runs e
-  runs-is = ap (λ (x : ℕ). not (eqb x 0)) mask-word ∙ ap not (cabinetMask-runs s (fit s w .somePlaces) (w .lanes)) ∙ not-not (runs e)
+  runs-is = ap (λ (x : ℕ). not (eqb x 0)) mask-word ∙ ap not (yardMask-runs s (w .lanes)) ∙ not-not (runs e)
 
   -- ---- slots
 
@@ -121,8 +121,9 @@ module _ (e : Engine) (t : Table) (m : List ℕ) (w : WellFormed (sized e t m)) 
           word e t m w holds long i b flagsAt (omega arith),
           mask-lt (laneAt e i .online ∷ laneAt e i .reading ∷ isRunning (laneAt e i .lookup) ∷ isHeld (laneAt e i .snapshot) ∷ []),
         );
-    cabinetMask = subst (λ (x : ℕ). x < 2 ^ z .cabinets) (sym (mask-word ∙ cabinetMask-from s)) (mask-from-lt _ (z .cabinets));
-    laneMasks = λ c b. subst (λ (x : ℕ). x < 2 ^ z .places) (sym (holds (mask c) b)) (mask-from-lt (pendingAt s c) (z .places));
+    yardMask = subst (λ (x : ℕ). x < 2 ^ z .yards) (sym mask-word) (mask-from-lt _ (z .yards));
+    cabinetMasks = λ y b. subst (λ (x : ℕ). x < 2 ^ z .cabinets) (sym (holds (yard y) b)) (mask-from-lt _ (z .cabinets));
+    laneMasks = λ c b. subst (λ (x : ℕ). x < 2 ^ z .places) (sym (holds (mask c) b)) (mask-from-lt _ (z .places));
     heads = heads e t m w holds long;
     freeEnds = freeEnds e t m w holds long;
     globalEnds = globalEnds e t m w holds long;
@@ -147,7 +148,13 @@ module _ (e : Engine) (t : Table) (m : List ℕ) (w : WellFormed (sized e t m)) 
     off = bare e t m w holds long;
     sections = λ i. in-section e t m w holds long (laneAt e i .reading) (laneAt e i .lookup) (w .fits i .lookup);
     snapshots = λ i. with-bit e t m w holds long (laneAt e i .pending) (laneAt e i .snapshot) (w .fits i .snapshot);
-    cabinetBits = λ c b. ap isNotZero (holds (mask c) b) ∙ sym (ap (flag c) mask-word ∙ flag-cabinetMask s c b);
+    yardBits = λ y b. ap isNotZero (holds (yard y) b) ∙ sym (ap (flag y) mask-word ∙ flag-group (z .yards) (yardBit s) 0 y b ∙ ap (yardBit s) (omega arith));
+    cabinetBits = λ c b.
+        let some = fit s w .someCabinets in
+        ap isNotZero (holds (mask c) b)
+        ∙ sym
+        (ap (flag (c % z .cabinets)) (holds (yard (c / z .cabinets)) (group-below (z .cabinets) (z .yards) some c b))
+        ∙ flag-of (z .cabinets) (cabinetBit s) some c);
     free = free-blank;
     largest = largest-fits e (periodRuns m) runs-is (w .generations .word) (w .generations .largest);
     lanesNear = λ i. lane-near e (periodRuns m) (laneAt e i) runs-is (w .generations .word) (w .generations .largest) (w .generations .lanes i);

@@ -10,7 +10,7 @@ use Rattle.model.specs.Layout.{maxCode, countsWidth, chainCount, contentsLength
 use Rattle.model.specs.Layout.{globalQueuesAt, flagsAt, snapshotAt, generationAt, queuesAt, lookupAt, positionAt, laneLength, laneAddress, total}
 use Rattle.model.specs.Engine.{laneAt}
 use Rattle.model.specs.Memory.{at, low as lowWord, high as highWord, sizes, wide, wholeOf, flag, flags, contents, countWords, quiescentCount}
-use Rattle.model.specs.Memory.{lookupCode, lookupPosition, snapshotCount, cabinetMask, laneWords, laneWord}
+use Rattle.model.specs.Memory.{lookupCode, lookupPosition, snapshotCount, yardMask, laneWords, laneWord}
 use Rattle.laws.specs.Tests.{clash}
 use Rattle.laws.specs.ListLaws.{take-map-from, map-from-getD, getD-right, getD-replicate-default}
 use Rattle.representation.proofs.WellFormed.{WellFormed, LookupFits, SnapshotFits, SlotOrNone}
@@ -36,7 +36,7 @@ module _ (e : Engine) (t : Table) (m : List ℕ) (w : WellFormed (sized e t m)) 
     agree =
         take-map-from m contentsLength (omega arith)
         ∙ map-from-getD (at m) 0 (contents z) contentsLength refl
-        (λ i b. holds (top i) (omega arith) ∙ List·getD-append (contents z) (e .current ∷ e .largest ∷ cabinetMask s ∷ []) 0 i b);
+        (λ i b. holds (top i) (omega arith) ∙ List·getD-append (contents z) (e .current ∷ e .largest ∷ yardMask s ∷ []) 0 i b);
     long = long;
   }
 

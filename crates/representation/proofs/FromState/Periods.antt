@@ -1,69 +1,79 @@
--- Masks and pending bits: a lane's bit stands in its cabinet's mask, a cabinet's in the cabinet mask, which is 0 exactly when no period runs.
+-- Masks and pending bits: a lane's bit stands in its cabinet's mask, a cabinet's in its yard's, a yard's in the yard mask, which is 0 exactly when no period runs.
 use Prim.Native.Nat.{ℕ, _+_, _*_, _/_, _%_, _<_, _≤_}
 use mathlib.Core.Path.{_≡_, refl, sym, ap, _∙_}
-use mathlib.Core.Logic.{_≢_}
-use mathlib.Core.Bool.{Bool, true, false, not}
-use mathlib.Core.List.{map}
+use mathlib.Core.Bool.{Bool, true, false, not, cond}
+use mathlib.Core.List.{List, [], _∷_, map}
 use native.Mathlib.Omega.{arith}
-use native.Mathlib.Decide.{decLt}
-use native.Mathlib.Nat.{mod-lt, div-add-mod', div-lt-iff-lt-mul}
-use lib.ListN.{length, List·getD-eq-default}
+use native.Mathlib.Nat.{mod-lt, div-add-mod', div-lt-iff-lt-mul, one-mul}
+use lib.ListN.{length, length-map, List·getD-map}
 use lib.Dec.{eqb}
-use borrow.Author.Tests.{eqb-true, not-false}
-use Rattle.model.specs.Lists.{from, mask}
-use Rattle.model.specs.State.{Engine, State, laneCount}
-use Rattle.model.specs.Engine.{freshLane, isPending, laneAt, runs}
-use Rattle.model.specs.Memory.{flag, pendingAt, isNotZero, laneMask, cabinetMask}
-use Rattle.laws.specs.Tests.{same, other, decide}
-use Rattle.laws.specs.ListLaws.{map-map-from}
-use Rattle.laws.specs.Elements.{any-false-intro}
-use Rattle.laws.specs.Masks.{flag-mask-from, flag-zero, mask-from-none}
-use Rattle.representation.proofs.Discipline.Requests.{none-pending}
+use Rattle.model.specs.Lists.{any, from, mask, bit}
+use Rattle.model.specs.State.{Sizes, Engine, State, Lane, cabinetCount, laneCount}
+use Rattle.model.specs.Engine.{freshLane, isPending, runs}
+use Rattle.model.specs.Memory.{flag, isNotZero, groupMask, laneBit, cabinetBit, yardBit, laneMask, cabinetMask, yardMask}
+use Rattle.laws.specs.Tests.{not-not}
+use Rattle.laws.specs.ListLaws.{map-from-alike, map-from-getD}
+use Rattle.laws.specs.Elements.{any-map}
+use Rattle.laws.specs.Masks.{isTrue, some, flag-mask-from}
+use Rattle.laws.specs.MaskTree.{span, raised, leaves, raised-some}
 
-module _ (s : State) where
-  abbrev e : Engine
-  e = s .engine
+-- bit p of group g is its flag
+pub flag-group : (w : ℕ) (f : ℕ → Bool) (g p : ℕ) → p < w → flag p (groupMask w f g) ≡ f (g * w + p)
+flag-group w f g p h = flag-mask-from (λ (k : ℕ). f (g * w + k)) w p h
 
-  abbrev M : ℕ
-  M = s .sizes .places
+-- flag i in its group
+pub flag-of : (w : ℕ) (f : ℕ → Bool) → 1 ≤ w → (i : ℕ) → flag (i % w) (groupMask w f (i / w)) ≡ f i
+flag-of w f some i = flag-group w f (i / w) (i % w) (mod-lt i some) ∙ ap f (div-add-mod' i w)
 
-  abbrev C : ℕ
-  C = s .sizes .cabinets
+-- the group of flag i, of n
+pub group-below : (w n : ℕ) → 1 ≤ w → (i : ℕ) → i < n * w → i / w < n
+group-below w n some i b = div-lt-iff-lt-mul some .1 b
 
-  -- a flag a cabinet: its lane mask is not 0
-  abbrev cabinetFlag : ℕ → Bool
-  cabinetFlag c = isNotZero (laneMask s c)
+-- ---- the three levels
 
-  pub cabinetMask-from : cabinetMask s ≡ mask (map cabinetFlag (from 0 C))
-  cabinetMask-from = ap mask (map-map-from isNotZero (laneMask s) 0 C)
+abbrev pub widths : Sizes → List ℕ
+widths z = z .places ∷ z .cabinets ∷ z .yards ∷ []
 
-  pub flag-cabinetMask : (c : ℕ) → c < C → flag c (cabinetMask s) ≡ cabinetFlag c
-  flag-cabinetMask c b = ap (flag c) cabinetMask-from ∙ flag-mask-from cabinetFlag C c b
+pub span-cabinets : (z : Sizes) → span (z .cabinets ∷ z .yards ∷ []) ≡ cabinetCount z
+unfolding span
+span-cabinets z = ap (λ (y : ℕ). y * z .cabinets) (one-mul (z .yards))
 
-  module _ (some : 1 ≤ M) where
-    -- the cabinet of lane i
-    pub cabinet-below : (i : ℕ) → i < laneCount (s .sizes) → i / M < C
-    cabinet-below i b = div-lt-iff-lt-mul some .1 b
+pub span-lanes : (z : Sizes) → span (widths z) ≡ laneCount z
+unfolding span
+span-lanes z = ap (λ (c : ℕ). c * z .places) (span-cabinets z)
 
-    pub flag-laneMask : (i : ℕ) → flag (i % M) (laneMask s (i / M)) ≡ laneAt e i .pending
-    flag-laneMask i = flag-mask-from (pendingAt s (i / M)) M (i % M) (mod-lt i some) ∙ ap (λ (j : ℕ). laneAt e j .pending) (div-add-mod' i M)
+module _ (s : State) (l : length (s .engine .lanes) ≡ laneCount (s .sizes)) where
+  abbrev z : Sizes
+  z = s .sizes
 
-    pub cabinetMask-runs : length (e .lanes) ≡ laneCount (s .sizes) → eqb (cabinetMask s) 0 ≡ not (runs e)
-    cabinetMask-runs l = elim (decide (cabinetMask s) 0) [ same p q r ↦ q ∙ sym (ap not (still p)) | other p q r ↦ q ∙ sym (ap not (moving (runs e) refl p)) ]
-      where
-        clear : (i : ℕ) → i < laneCount (s .sizes) → cabinetMask s ≡ 0 → laneMask s (i / M) ≡ 0
-        clear i b p =
-            eqb-true (laneMask s (i / M)) 0 (not-false (eqb (laneMask s (i / M)) 0)
-            (sym (flag-cabinetMask (i / M) (cabinet-below i b)) ∙ ap (flag (i / M)) p ∙ flag-zero (i / M)))
+  abbrev lanes : List Lane
+  lanes = s .engine .lanes
 
-        still : cabinetMask s ≡ 0 → runs e ≡ false
-        still p = any-false-intro freshLane isPending (e .lanes) (λ i. elim (decLt i (laneCount (s .sizes))) [
-          | yes b ↦ sym (flag-laneMask i) ∙ ap (flag (i % M)) (clear i b p) ∙ flag-zero (i % M)
-          | no b ↦ ap isPending (List·getD-eq-default (e .lanes) freshLane (omega arith))
-        ])
+  -- below the yard mask stand all lanes
+  pub leaves-lanes : leaves (widths z) (laneBit s) 0 ≡ map isPending lanes
+  leaves-lanes =
+      map-from-alike _ (laneBit s) 0 (span (widths z)) (λ p a b. ap (laneBit s) (let e : 0 * span (widths z) + p ≡ p = omega arith in e))
+      ∙ ap (λ (n : ℕ). map (laneBit s) (from 0 n)) (span-lanes z)
+      ∙ map-from-getD (laneBit s) false (map isPending lanes) (laneCount z) (length-map lanes isPending ∙ l) (λ i b. sym (List·getD-map isPending lanes i freshLane))
 
-        moving : (b : Bool) → runs e ≡ b → cabinetMask s ≢ 0 → runs e ≡ true
-        moving true q h = q
-        moving false q h =
-            absurd (h (cabinetMask-from ∙ mask-from-none cabinetFlag C
-            (λ c b. ap isNotZero (mask-from-none (pendingAt s c) M (λ p k. none-pending e q (c * M + p))))))
+  pub some-lanes : some (map isPending lanes) ≡ runs (s .engine)
+  some-lanes = any-map isTrue isPending lanes
+
+  pub raised-runs : raised (widths z) (laneBit s) 0 ≡ runs (s .engine)
+  raised-runs = raised-some (widths z) (laneBit s) 0 ∙ ap some leaves-lanes ∙ some-lanes
+
+  -- a period runs while the yard mask is not 0
+  pub yardMask-runs : eqb (yardMask s) 0 ≡ not (runs (s .engine))
+  unfolding raised
+  yardMask-runs = sym (not-not (eqb (yardMask s) 0)) ∙ ap not raised-runs
+
+-- ---- one yard
+
+-- the yard mask is 1 or 0 as the cabinet mask is not 0 or 0
+pub one-yard : (s : State) → s .sizes .yards ≡ 1 → yardMask s ≡ cond (isNotZero (cabinetMask s 0)) 1 0
+unfolding from mask bit
+one-yard s h = ap (λ (n : ℕ). groupMask n (yardBit s) 0) h ∙ go (yardBit s 0)
+  where
+    go : (b : Bool) → groupMask 1 (λ y. cond (eqb y 0) b (yardBit s y)) 0 ≡ cond b 1 0
+    go true = refl
+    go false = refl

@@ -9,7 +9,7 @@ use lib.ListN.{getD}
 use Rattle.model.specs.Word.{none}
 use Rattle.model.specs.Lists.{from, concat, count}
 use Rattle.model.specs.State.{Sizes, Engine, Table, State}
-use Rattle.model.specs.Layout.{cabinetsAt, placesAt, slotsAt, currentGenerationAt, largestGenerationAt}
+use Rattle.model.specs.Layout.{cabinetsAt, placesAt, slotsAt, yardsAt, currentGenerationAt, largestGenerationAt}
 use Rattle.model.specs.Layout.{freeAt, depositAt, materialAt, chainLinkAt, slotLength, slotAddress}
 use Rattle.model.specs.Table.{blank, productAt}
 use Rattle.model.specs.Memory.{at, contents, sizes, wholeOf, slotWords, slotWord, readProduct, readLink, state}
@@ -86,6 +86,7 @@ module _ (s : State) (m : List ℕ) (holds : Image (s .sizes) m (value s)) where
   sizes-are : sizes m ≡ s .sizes
   unfolding contents
   sizes-are = λ i. record {
+    yards = holds (top yardsAt) (omega arith) i;
     cabinets = holds (top cabinetsAt) (omega arith) i;
     places = holds (top placesAt) (omega arith) i;
     slots = holds (top slotsAt) (omega arith) i;

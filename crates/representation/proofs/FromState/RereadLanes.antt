@@ -6,11 +6,11 @@ use mathlib.Core.List.{List, [], _∷_, map}
 use native.Mathlib.Omega.{arith}
 use lib.ListN.{length, getD}
 use Rattle.model.specs.Lists.{first, from, concatMap}
-use Rattle.model.specs.State.{Sizes, laneCount, Lookup, idle, running, Snapshot, unheld, held, Lane, Engine, Table, isHeld, isRunning}
+use Rattle.model.specs.State.{Sizes, cabinetCount, laneCount, Lookup, idle, running, Snapshot, unheld, held, Lane, Engine, Table, isHeld, isRunning}
 use Rattle.model.specs.Layout.{kinds, countWidth, currentOffset, doneOffset, onlineBit, readingBit, lookupBit, snapshotBit, quiescentAt}
 use Rattle.model.specs.Layout.{snapshotAt, generationAt, queuesAt, lookupAt, positionAt, laneLength, laneAddress}
 use Rattle.model.specs.Engine.{laneAt, freshLane}
-use Rattle.model.specs.Memory.{at, wide, sizes, wholeOf, quiescentCount, low, high, flag, flags, lookupCode, lookupPosition, snapshotCount, laneWords}
+use Rattle.model.specs.Memory.{at, wide, sizes, wholeOf, laneBit, quiescentCount, low, high, flag, flags, lookupCode, lookupPosition, snapshotCount, laneWords}
 use Rattle.model.specs.Memory.{laneWord, laneQueues, maskWord, readQueues, readLane, readLookup, readCounts, readSnapshot}
 use Rattle.laws.specs.ListLaws.{map-from-getD, map-from-alike}
 use Rattle.laws.specs.Masks.{flag-mask}
@@ -19,7 +19,7 @@ use Rattle.representation.proofs.WellFormed.{WellFormed, SnapshotFits}
 use Rattle.representation.proofs.Addresses.Fields.{mask, lane, value}
 use Rattle.representation.proofs.Addresses.Writes.{Image}
 use Rattle.representation.proofs.FromState.Standing.{fit}
-use Rattle.representation.proofs.FromState.Periods.{cabinet-below, flag-laneMask}
+use Rattle.representation.proofs.FromState.Periods.{group-below, flag-of}
 use Rattle.representation.proofs.FromState.RereadQueues.{sized, queue-is}
 
 -- where lane i's queues stand among those of all lanes
@@ -126,8 +126,9 @@ module _ (e : Engine) (t : Table) (m : List ℕ) where
 
       pending-is : flag (i % z .places) (maskWord m (i / z .places)) ≡ l .pending
       pending-is =
-          ap (flag (i % z .places)) (holds (mask (i / z .places)) (cabinet-below (sized e t m) (fit (sized e t m) w .somePlaces) i b))
-          ∙ flag-laneMask (sized e t m) (fit (sized e t m) w .somePlaces) i
+          let some = fit (sized e t m) w .somePlaces in
+          ap (flag (i % z .places)) (holds (mask (i / z .places)) (group-below (z .places) (cabinetCount z) some i b))
+          ∙ flag-of (z .places) (laneBit (sized e t m)) some i
 
       extra-are : extraWords (readLane m i) ≡ extraWords l
       unfolding readLane laneWords from

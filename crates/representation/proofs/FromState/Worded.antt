@@ -1,5 +1,5 @@
 -- The words of a well-formed state are words: each is below 2 ^ 32.
-use Prim.Native.Nat.{ℕ, _+_, _-_, _^_, _<_, _≤_}
+use Prim.Native.Nat.{ℕ, _+_, _*_, _-_, _^_, _<_, _≤_}
 use mathlib.Core.Path.{sym, ap, subst, _∙_}
 use mathlib.Core.Logic.{inl, inr}
 use mathlib.Core.Bool.{Bool}
@@ -9,12 +9,11 @@ use native.Mathlib.Decide.{decLt}
 use lib.ListN.{drop, List·getD-append}
 use lib.Seq.{getD-drop}
 use lib.Pow.{pow-lt}
-use Rattle.model.specs.Lists.{from, mask}
 use Rattle.model.specs.State.{Sizes, Lookup, idle, running, Snapshot, unheld, held, Lane, Engine, State, isHeld, isRunning}
-use Rattle.model.specs.Layout.{maxPlaces, countLimit, total}
+use Rattle.model.specs.Layout.{countLimit, total}
 use Rattle.model.specs.Engine.{laneAt}
 use Rattle.model.specs.Word.{wordBits}
-use Rattle.model.specs.Memory.{Words, at, low, high, contents, flags, pendingAt, laneWords, slotWords, lookupCode, snapshotCount, words}
+use Rattle.model.specs.Memory.{Words, at, low, high, contents, flags, groupMask, laneBit, cabinetBit, yardBit, laneWords, slotWords, lookupCode, snapshotCount, words}
 use Rattle.model.specs.Calls.{stored}
 use Rattle.laws.specs.Tests.{_&_}
 use Rattle.laws.specs.ListLaws.{getD-right}
@@ -23,11 +22,10 @@ use Rattle.laws.specs.Masks.{mask-lt, mask-from-lt}
 use Rattle.representation.proofs.Discipline.Ages.{none as noneA, old, now, soon, Level, rests, goes, Strict, Clean}
 use Rattle.representation.proofs.ExtraWords.{Word, extra-words}
 use Rattle.representation.proofs.WellFormed.{WellFormed, LookupFits, SnapshotFits, SlotOrNone}
-use Rattle.representation.proofs.Addresses.Fields.{Field, top, head, end, mask as maskF, lane, slot, Inside, value, place, topWords, endWords}
+use Rattle.representation.proofs.Addresses.Fields.{Field, top, head, end, mask as maskF, lane, slot, yard, Inside, value, place, topWords, endWords}
 use Rattle.representation.proofs.Addresses.Writes.{length-words, words-field}
 use Rattle.representation.proofs.FromState.Standing.{fit, head-range, chainLink-range, queueLink-range}
 use Rattle.representation.proofs.FromState.Standing.{position-range, free-ends, global-ends, lane-ends}
-use Rattle.representation.proofs.FromState.Periods.{cabinetMask-from}
 
 module _ (s : State) (w : WellFormed s) where
   abbrev e : Engine
@@ -45,8 +43,8 @@ module _ (s : State) (w : WellFormed s) where
   length-word : (x : ℕ) → x ≤ z .slots → Word x
   length-word x h = omega (arith, fit s w .fewSlots)
 
-  mask-word : (g : ℕ → Bool) (n : ℕ) → n ≤ maxPlaces → Word (mask (map g (from 0 n)))
-  mask-word g n h = let k : n < wordBits = omega arith in let p : 2 ^ n < 2 ^ wordBits = pow-lt {j = wordBits} k in omega (arith, mask-from-lt g n)
+  mask-word : (f : ℕ → Bool) (n g : ℕ) → n < wordBits → Word (groupMask n f g)
+  mask-word f n g h = let p : 2 ^ n < 2 ^ wordBits = pow-lt {j = wordBits} h in omega (arith, mask-from-lt (λ (p : ℕ). f (g * n + p)) n)
 
   largest-word : Level e → Word (e .largest)
   largest-word (rests r b p) = b
@@ -88,7 +86,7 @@ module _ (s : State) (w : WellFormed s) where
 
   -- ---- fields
 
-  -- the contents' twelve words are bounded by the sizes
+  -- the contents' fifteen words are bounded by the sizes
   top-words : Each Word (topWords s)
   unfolding contents
   top-words =
@@ -98,9 +96,11 @@ module _ (s : State) (w : WellFormed s) where
       & omega arith & omega arith
       & omega arith & omega arith
       & omega arith & omega arith
+      & omega arith & omega arith
+      & omega arith
       & w .generations .word
       & largest-word (w .generations .largest)
-      & subst Word (sym (cabinetMask-from s)) (mask-word _ (z .cabinets) (f .fewCabinets))
+      & mask-word (yardBit s) (z .yards) 0 (omega (arith, f .fewYards))
       & tt
 
   end-words : Each Word (endWords s)
@@ -146,7 +146,8 @@ module _ (s : State) (w : WellFormed s) where
   value-word (top k) h = each-getD 0 Word (topWords s) top-words k h
   value-word (head k) h = slot-word _ (head-range s w k)
   value-word (end k) h = each-getD 0 Word (endWords s) end-words k h
-  value-word (maskF c) h = mask-word (pendingAt s c) (z .places) (fit s w .fewPlaces)
+  value-word (maskF c) h = mask-word (laneBit s) (z .places) c (omega (arith, fit s w .fewPlaces))
+  value-word (yard y) h = mask-word (cabinetBit s) (z .cabinets) y (omega (arith, fit s w .fewCabinets))
   value-word (lane i k) h = each-getD 0 Word (laneWords (laneAt e i)) (lane-words i) k (h .1)
   value-word (slot i k) h = each-getD 0 Word (slotWords s i) (slot-words i) k (h .1)
 

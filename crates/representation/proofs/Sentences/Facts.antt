@@ -1,5 +1,5 @@
--- The sentences of legality (document 01, "The memory", last paragraph, and document 02, request 6) as facts, by name.
-use Prim.Native.Nat.{ℕ, _+_, _*_, _^_, _≤_, _<_}
+-- The sentences of legality (document 01, "The memory", last paragraph, and document 02, requests 6 and 8) as facts, by name.
+use Prim.Native.Nat.{ℕ, _+_, _*_, _/_, _%_, _^_, _≤_, _<_}
 use mathlib.Core.Path.{_≡_}
 use mathlib.Core.Logic.{_⊎_}
 use mathlib.Core.Bool.{Bool, true, false}
@@ -7,28 +7,31 @@ use mathlib.Core.List.{List, [], _++_, map}
 use lib.ListN.{length, getD, take}
 use Rattle.model.specs.Word.{wordLimit, none, up, down, later}
 use Rattle.model.specs.Lists.{isEmpty, last, concat, count, distinct}
-use Rattle.model.specs.State.{Sizes, laneCount, isRunning, isHeld, Queues, Lane, State}
-use Rattle.model.specs.Layout.{maxCabinets, maxPlaces, maxSlots, countsWidth, chainCount, contentsLength, lastOffset, lengthOffset, currentOffset, doneOffset}
-use Rattle.model.specs.Layout.{cabinetMaskAt, headsAt, freeAt, globalQueuesAt, lookupBit, snapshotBit, flagCount, flagsAt, snapshotAt, queuesAt}
+use Rattle.model.specs.State.{Sizes, cabinetCount, laneCount, isRunning, isHeld, Queues, Lane, State}
+use Rattle.model.specs.Layout.{maxYards, maxCabinets, maxPlaces, maxSlots, countsWidth, chainCount, contentsLength, lastOffset, lengthOffset, currentOffset, doneOffset}
+use Rattle.model.specs.Layout.{yardMaskAt, headsAt, freeAt, globalQueuesAt, lookupBit, snapshotBit, flagCount, flagsAt, snapshotAt, queuesAt}
 use Rattle.model.specs.Layout.{lookupAt, positionAt, depositAt, materialAt, chainLinkAt, queueLinkAt, laneAddress, slotAddress, total}
 use Rattle.model.specs.Engine.{laneAt}
 use Rattle.model.specs.Table.{chainNumber}
 use Rattle.model.specs.Rules.{wrongCode, wrongProduct}
-use Rattle.model.specs.Memory.{at, wide, sizes, laneWord, slotWord, maskWord, state, contents, allQueues, flag, isNotZero}
-use Rattle.model.specs.Legal.{sizesFit, codeOf, cabinetBits, largestFits, periodRuns}
+use Rattle.model.specs.Memory.{at, wide, sizes, laneWord, slotWord, maskWord, yardWord, state, contents, allQueues, flag, isNotZero}
+use Rattle.model.specs.Legal.{sizesFit, codeOf, largestFits, periodRuns}
 use Rattle.representation.proofs.ExtraWords.{ExtraFits}
 use Rattle.representation.proofs.WellFormed.{SlotOrNone}
 
 -- ---- sizes
 
 pub record SizesFit (z : Sizes) : Type 0 where
+  pub someYards : 1 ≤ z .yards
+  pub fewYards : z .yards ≤ maxYards
   pub someCabinets : 1 ≤ z .cabinets
   pub fewCabinets : z .cabinets ≤ maxCabinets
   pub somePlaces : 1 ≤ z .places
   pub fewPlaces : z .places ≤ maxPlaces
   pub someSlots : 1 ≤ z .slots
   pub fewSlots : z .slots ≤ maxSlots
-  pub fewLanes : laneCount z ≤ maxCabinets * maxPlaces
+  pub allCabinets : cabinetCount z ≤ maxYards * maxCabinets
+  pub fewLanes : laneCount z ≤ maxYards * maxCabinets * maxPlaces
 
 -- contents agree with the sizes, and the total is not above the length
 pub record ContentsFit (m : List ℕ) : Type 0 where
@@ -100,8 +103,9 @@ module _ (m : List ℕ) (s : State) where
   pub record Facts : Type 0 where
     -- flags, masks, links and fields are in range
     pub flags : (i : ℕ) → i < laneCount (sizes m) → laneWord m i flagsAt < 2 ^ flagCount
-    pub cabinetMask : at m cabinetMaskAt < 2 ^ sizes m .cabinets
-    pub laneMasks : (c : ℕ) → c < sizes m .cabinets → maskWord m c < 2 ^ sizes m .places
+    pub yardMask : at m yardMaskAt < 2 ^ sizes m .yards
+    pub cabinetMasks : (y : ℕ) → y < sizes m .yards → yardWord m y < 2 ^ sizes m .cabinets
+    pub laneMasks : (c : ℕ) → c < cabinetCount (sizes m) → maskWord m c < 2 ^ sizes m .places
     pub heads : (k : ℕ) → k < chainCount → SlotOrNone (sizes m .slots) (at m (headsAt + k))
     pub freeEnds : EndsInRange (sizes m .slots) (at m) freeAt
     pub globalEnds : QueuesInRange (sizes m .slots) (at m) globalQueuesAt
@@ -134,11 +138,13 @@ module _ (m : List ℕ) (s : State) where
     pub sections : (i : ℕ) → isRunning (laneAt (s .engine) i .lookup) ≡ true → laneAt (s .engine) i .reading ≡ true
     -- a snapshot is held only with the mask bit set
     pub snapshots : (i : ℕ) → isHeld (laneAt (s .engine) i .snapshot) ≡ true → laneAt (s .engine) i .pending ≡ true
-    -- a cabinet's bit is set exactly when its lane mask is not 0
-    pub cabinetBits : (c : ℕ) → c < sizes m .cabinets → isNotZero (maskWord m c) ≡ flag c (at m cabinetMaskAt)
+    -- each bit is set exactly when the mask below it is not 0: a yard's, and a cabinet's
+    pub yardBits : (y : ℕ) → y < sizes m .yards → isNotZero (yardWord m y) ≡ flag y (at m yardMaskAt)
+    pub cabinetBits : (c : ℕ) → c < cabinetCount (sizes m)
+        → isNotZero (maskWord m c) ≡ flag (c % sizes m .cabinets) (yardWord m (c / sizes m .cabinets))
     -- free slots hold code, deposit and material 0 and chain link none
     pub free : (x : ℕ) → 0 < count x (s .table .free) → Blank m x
-    -- with the cabinet mask 0, the largest requested is the current less 1; otherwise it is the current or one more
+    -- with the yard mask 0, the largest requested is the current less 1; otherwise it is the current or one more
     pub largest : largestFits (s .engine .current) (s .engine .largest) (periodRuns m) ≡ true
     -- a lane's current queue has a generation one before, at, or one after the current, not later than the largest requested, and one before under
     -- a running period only with its bit set

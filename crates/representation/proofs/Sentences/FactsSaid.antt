@@ -1,5 +1,5 @@
 -- The Boolean sentences of legality say the facts. Here alone the list of sentences is taken apart.
-use Prim.Native.Nat.{ℕ, _+_, _^_, _<_}
+use Prim.Native.Nat.{ℕ, _+_, _/_, _%_, _^_, _<_}
 use mathlib.Core.Path.{_≡_, refl, ap}
 use mathlib.Core.Logic.{inl, inr}
 use mathlib.Core.Bool.{Bool, true, false, not, cond, _&&_, _||_}
@@ -11,16 +11,16 @@ use borrow.Author.Tests.{eq-eqb, eqb-true, ne-eqb, ltb-true, not-true}
 use Rattle.model.specs.Word.{none, up, down, later}
 use Rattle.model.specs.Lists.{all, every, isEmpty, last, concat, member}
 use Rattle.model.specs.State.{laneCount, isRunning, isHeld, Queues, Lane, State}
-use Rattle.model.specs.Layout.{lastOffset, lengthOffset, currentOffset, doneOffset, cabinetMaskAt, headsAt, freeAt, globalQueuesAt}
+use Rattle.model.specs.Layout.{lastOffset, lengthOffset, currentOffset, doneOffset, yardMaskAt, headsAt, freeAt, globalQueuesAt}
 use Rattle.model.specs.Layout.{lookupBit, snapshotBit, flagCount, flagsAt, snapshotAt, queuesAt, lookupAt, positionAt}
 use Rattle.model.specs.Layout.{depositAt, materialAt, chainLinkAt, queueLinkAt, laneAddress, slotAddress}
 use Rattle.model.specs.Engine.{freshLane, laneAt}
 use Rattle.model.specs.Rules.{wrongCode, wrongProduct}
-use Rattle.model.specs.Memory.{at, wide, sizes, laneWord, slotWord, maskWord, allQueues, flag, isNotZero}
-use Rattle.model.specs.Legal.{implies, laneNumbers, slotNumbers, slotOrNone, endsInRange, queuesInRange, flagsInRange}
+use Rattle.model.specs.Memory.{at, wide, sizes, laneWord, slotWord, maskWord, yardWord, allQueues, flag, isNotZero}
+use Rattle.model.specs.Legal.{implies, laneNumbers, slotNumbers, yardNumbers, cabinetNumbers, slotOrNone, endsInRange, queuesInRange, flagsInRange}
 use Rattle.model.specs.Legal.{masksInRange, linkSentences, linksInRange, fieldsInRange, standsOnce, agreesAt, queuesAgree, lastsAgree}
 use Rattle.model.specs.Legal.{lengthsAgree, onTheirChains, noCodeTwice, snapshotsAtRest, lookupsAtRest, generationAtRest, generationsAtRest, queueLinksAtRest}
-use Rattle.model.specs.Legal.{noneQueued, offLanes, lookupsInSections, snapshotsPending, cabinetBits, freeBlank, laneGenerationFits}
+use Rattle.model.specs.Legal.{noneQueued, offLanes, lookupsInSections, snapshotsPending, bitFits, bitsFit, freeBlank, laneGenerationFits}
 use Rattle.model.specs.Legal.{globalGenerationFits, periodRuns, largestAgrees, laneGenerations, globalGeneration, sentences}
 use Rattle.laws.specs.Tests.{_&_, clash, and-true, and-intro, or-cases, or-else, Every, every-true, every-intro, all-from, all-below, all-getD}
 use Rattle.laws.specs.Elements.{isEmpty-true}
@@ -125,7 +125,7 @@ module _ (m : List ℕ) (s : State) where
   rest-true : (q : Queues) → generationAtRest q ≡ true → isEmpty (q .current) ≡ true → q .generation ≡ 0
   rest-true q h e = eqb-true _ _ (or-else (not (isEmpty (q .current))) (eqb (q .generation) 0) h (ap not e))
 
-  bit-true : (b : Bool) (x : ℕ) → cond b (ltb 0 x) (eqb x 0) ≡ true → isNotZero x ≡ b
+  bit-true : (b : Bool) (x : ℕ) → bitFits b x ≡ true → isNotZero x ≡ b
   bit-true true x e = ap not (ne-eqb x 0 (λ q. omega (arith, ltb-true 0 x e)))
   bit-true false x e = ap not e
 
@@ -135,13 +135,21 @@ module _ (m : List ℕ) (s : State) where
   abbrev lookupRight : ℕ → Bool
   lookupRight i = not (wrongCode (wide m (laneAddress (sizes m) i + lookupAt)))
 
+  abbrev yardSays : ℕ → Bool
+  yardSays y = bitFits (flag y (at m yardMaskAt)) (yardWord m y)
+
+  abbrev cabinetSays : ℕ → Bool
+  cabinetSays c = bitFits (flag (c % sizes m .cabinets) (yardWord m (c / sizes m .cabinets))) (maskWord m c)
+
   pub facts : Every (sentences m s) → Facts m s
   unfolding flagsInRange masksInRange linksInRange fieldsInRange standsOnce lastsAgree lengthsAgree onTheirChains noCodeTwice snapshotsAtRest lookupsAtRest
-      generationsAtRest queueLinksAtRest offLanes lookupsInSections snapshotsPending cabinetBits freeBlank largestAgrees laneGenerations globalGeneration isEmpty isRunning isHeld
+      generationsAtRest queueLinksAtRest offLanes lookupsInSections snapshotsPending bitsFit freeBlank largestAgrees laneGenerations globalGeneration isEmpty isRunning isHeld
   facts said =
       let (flagged, (masked, (linked, (fielded, (once, (lasts, (lengths, (chains, (codes, others))))))))) = said in
       let (snapshots, (lookups, (rests, (lines, (off, (sections, (helds, (bits, (free, (largest, (lanes, (global, extra)))))))))))) = others in
-      let masks = and-true _ _ masked in
+      let (upper, laneMasks) = and-true _ _ masked in
+      let (yardMask, cabinetMasks) = and-true _ _ upper in
+      let (yards, cabinets) = and-true (all yardSays (yardNumbers m)) (all cabinetSays (cabinetNumbers m)) bits in
       let (heads, (freeEnds, (globalEnds, (laneLinks, (chainLinks, (queueLinks, rest)))))) = every-true (linkSentences m) linked in
       let fields = and-true (all productRight (slotNumbers m)) (all lookupRight (laneNumbers m)) fielded in
       let resting = and-true _ _ rests in
@@ -149,8 +157,9 @@ module _ (m : List ℕ) (s : State) where
       λ i b. and-true _ _ (all-below _ _ i laneLinks b) in
       record {
         flags = λ i b. ltb-true (laneWord m i flagsAt) (2 ^ flagCount) (all-below _ _ i flagged b);
-        cabinetMask = ltb-true (at m cabinetMaskAt) (2 ^ sizes m .cabinets) (masks .0);
-        laneMasks = λ c b. ltb-true (maskWord m c) (2 ^ sizes m .places) (all-below _ _ c (masks .1) b);
+        yardMask = ltb-true (at m yardMaskAt) (2 ^ sizes m .yards) yardMask;
+        cabinetMasks = λ y b. ltb-true (yardWord m y) (2 ^ sizes m .cabinets) (all-below _ _ y cabinetMasks b);
+        laneMasks = λ c b. ltb-true (maskWord m c) (2 ^ sizes m .places) (all-below _ _ c laneMasks b);
         heads = λ k b. slotOrNone-true (sizes m .slots) (at m (headsAt + k)) (all-below _ _ k heads b);
         freeEnds = ends-true m (at m) freeAt freeEnds;
         globalEnds = queues-true m (at m) globalQueuesAt globalEnds;
@@ -178,7 +187,8 @@ module _ (m : List ℕ) (s : State) where
             (laneAt (s .engine) i .reading) (all-getD freshLane _ (s .engine .lanes) refl sections i);
         snapshots =
             λ i. implies-true (isHeld (laneAt (s .engine) i .snapshot)) (laneAt (s .engine) i .pending) (all-getD freshLane _ (s .engine .lanes) refl helds i);
-        cabinetBits = λ c b. bit-true (flag c (at m cabinetMaskAt)) (maskWord m c) (all-below _ _ c bits b);
+        yardBits = λ y b. bit-true (flag y (at m yardMaskAt)) (yardWord m y) (all-below _ _ y yards b);
+        cabinetBits = λ c b. bit-true (flag (c % sizes m .cabinets) (yardWord m (c / sizes m .cabinets))) (maskWord m c) (all-below _ _ c cabinets b);
         free = λ x b. blank-true x (all-count _ (s .table .free) free x b);
         largest = largest;
         lanesNear =

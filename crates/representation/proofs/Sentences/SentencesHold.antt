@@ -1,5 +1,5 @@
 -- The facts make the Boolean sentences of legality hold. Here alone the list of sentences is put together.
-use Prim.Native.Nat.{ℕ, _+_, _^_}
+use Prim.Native.Nat.{ℕ, _+_, _/_, _%_, _^_}
 use mathlib.Core.Path.{_≡_, sym, ap, _∙_}
 use mathlib.Core.Logic.{_⊎_, inl, inr}
 use mathlib.Core.Bool.{Bool, true, false, not, cond, _&&_, _||_}
@@ -12,13 +12,13 @@ use borrow.Author.Tests.{eq-eqb, eqb-true, lt-ltb, not-false}
 use Rattle.model.specs.Word.{none, up, down, later}
 use Rattle.model.specs.Lists.{every, isEmpty, last, concat, count, member}
 use Rattle.model.specs.State.{isRunning, isHeld, Queues, Lane, State}
-use Rattle.model.specs.Layout.{lastOffset, lengthOffset, currentOffset, doneOffset, cabinetMaskAt, headsAt, freeAt, globalQueuesAt, lookupBit}
+use Rattle.model.specs.Layout.{lastOffset, lengthOffset, currentOffset, doneOffset, yardMaskAt, headsAt, freeAt, globalQueuesAt, lookupBit}
 use Rattle.model.specs.Layout.{snapshotBit, flagCount, flagsAt, snapshotAt, queuesAt, lookupAt, positionAt, chainLinkAt, queueLinkAt, laneAddress}
 use Rattle.model.specs.Engine.{freshLane, laneAt}
-use Rattle.model.specs.Memory.{at, sizes, laneWord, slotWord, maskWord, allQueues, flag, isNotZero}
+use Rattle.model.specs.Memory.{at, sizes, laneWord, slotWord, maskWord, yardWord, allQueues, flag, isNotZero}
 use Rattle.model.specs.Legal.{implies, endsInRange, queuesInRange, flagsInRange, masksInRange, linkSentences, linksInRange, fieldsInRange, standsOnce}
 use Rattle.model.specs.Legal.{agreesAt, queuesAgree, lastsAgree, lengthsAgree, onTheirChains, noCodeTwice, snapshotsAtRest, lookupsAtRest}
-use Rattle.model.specs.Legal.{generationAtRest, generationsAtRest, queueLinksAtRest, noneQueued, offLanes, lookupsInSections, snapshotsPending, cabinetBits, freeBlank, laneGenerationFits}
+use Rattle.model.specs.Legal.{generationAtRest, generationsAtRest, queueLinksAtRest, noneQueued, offLanes, lookupsInSections, snapshotsPending, bitFits, bitsFit, freeBlank, laneGenerationFits}
 use Rattle.model.specs.Legal.{globalGenerationFits, periodRuns, largestAgrees, laneGenerations, globalGeneration, sentences}
 use Rattle.laws.specs.Tests.{_&_, and-true, and-intro, or-left, or-right, or-else-intro, Every, every-intro}
 use Rattle.laws.specs.Tests.{all-from-intro, all-below-intro, all-getD-intro, same, other, decide}
@@ -62,7 +62,7 @@ module _ (m : List ℕ) (s : State) where
   rest-intro : (q : Queues) → (isEmpty (q .current) ≡ true → q .generation ≡ 0) → generationAtRest q ≡ true
   rest-intro q f = or-else-intro (not (isEmpty (q .current))) (eqb (q .generation) 0) (λ e. eq-eqb _ 0 (f (not-false (isEmpty (q .current)) e)))
 
-  bit-intro : (b : Bool) (x : ℕ) → isNotZero x ≡ b → cond b (ltb 0 x) (eqb x 0) ≡ true
+  bit-intro : (b : Bool) (x : ℕ) → isNotZero x ≡ b → bitFits b x ≡ true
   bit-intro b x e =
       elim (decide x 0) [
         | same p q r ↦ let k : b ≡ false = sym e ∙ ap not q in rw k q
@@ -116,10 +116,12 @@ module _ (m : List ℕ) (s : State) where
 
   pub sentences-hold : Facts m s → Every (sentences m s)
   unfolding flagsInRange masksInRange fieldsInRange standsOnce lastsAgree lengthsAgree onTheirChains noCodeTwice snapshotsAtRest lookupsAtRest generationsAtRest queueLinksAtRest
-      offLanes lookupsInSections snapshotsPending cabinetBits freeBlank largestAgrees laneGenerations globalGeneration
+      offLanes lookupsInSections snapshotsPending bitsFit freeBlank largestAgrees laneGenerations globalGeneration
   sentences-hold f =
       all-below-intro _ _ (λ i b. lt-ltb (laneWord m i flagsAt) (2 ^ flagCount) (f .flags i b))
-      & and-intro _ _ (lt-ltb (at m cabinetMaskAt) (2 ^ sizes m .cabinets) (f .cabinetMask))
+      & and-intro _ _
+      (and-intro _ _ (lt-ltb (at m yardMaskAt) (2 ^ sizes m .yards) (f .yardMask))
+      (all-below-intro _ _ (λ y b. lt-ltb (yardWord m y) (2 ^ sizes m .cabinets) (f .cabinetMasks y b))))
       (all-below-intro _ _ (λ c b. lt-ltb (maskWord m c) (2 ^ sizes m .places) (f .laneMasks c b)))
       & links-hold f
       & and-intro _ _ (all-below-intro _ _ (λ i b. ap not (f .products i b))) (all-below-intro _ _ (λ i b. ap not (f .lookupCodes i b)))
@@ -140,7 +142,10 @@ module _ (m : List ℕ) (s : State) where
       (λ i. implies-intro (isRunning (laneAt (s .engine) i .lookup)) (laneAt (s .engine) i .reading) (f .sections i))
       & all-getD-intro freshLane _ (s .engine .lanes)
       (λ i. implies-intro (isHeld (laneAt (s .engine) i .snapshot)) (laneAt (s .engine) i .pending) (f .snapshots i))
-      & all-below-intro _ _ (λ c b. bit-intro (flag c (at m cabinetMaskAt)) (maskWord m c) (f .cabinetBits c b))
+      & and-intro _ _
+      (all-below-intro _ _ (λ y b. bit-intro (flag y (at m yardMaskAt)) (yardWord m y) (f .yardBits y b)))
+      (all-below-intro _ _
+      (λ c b. bit-intro (flag (c % sizes m .cabinets) (yardWord m (c / sizes m .cabinets))) (maskWord m c) (f .cabinetBits c b)))
       & all-count-intro _ (s .table .free) (λ x b. let k = f .free x b in rw (k .code, k .deposit, k .material, k .link))
       & f .largest
       & all-getD-intro freshLane _ (s .engine .lanes)

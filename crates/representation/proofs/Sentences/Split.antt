@@ -9,7 +9,7 @@ use lib.ListN.{length, take}
 use borrow.Author.Tests.{leb-true, le-leb}
 use Rattle.model.specs.Lists.{every}
 use Rattle.model.specs.State.{Sizes}
-use Rattle.model.specs.Layout.{maxCabinets, maxPlaces, maxSlots, contentsLength, total}
+use Rattle.model.specs.Layout.{maxYards, maxCabinets, maxPlaces, maxSlots, contentsLength, total}
 use Rattle.model.specs.Memory.{sizes, state, contents}
 use Rattle.model.specs.Legal.{sizesFit, contentsSentences, contentsAgree, sentences, legal}
 use Rattle.laws.specs.Tests.{_&_, clash, every-true, every-intro, same-true, same-self}
@@ -22,17 +22,21 @@ use Rattle.representation.proofs.Sentences.SentencesHold.{sentences-hol
 pub sizes-fit : (z : Sizes) → sizesFit z ≡ true → SizesFit z
 unfolding sizesFit
 sizes-fit z h =
-    let (someC, (fewC, (someP, (fewP, (someS, (fewS, rest)))))) = every-true _ h in
+    let (someY, (fewY, (someC, (fewC, (someP, (fewP, (someS, (fewS, rest)))))))) = every-true _ h in
+    let y = leb-true (z .yards) maxYards fewY in
     let c = leb-true (z .cabinets) maxCabinets fewC in
     let p = leb-true (z .places) maxPlaces fewP in
     record {
+      someYards = leb-true 1 (z .yards) someY;
+      fewYards = y;
       someCabinets = leb-true 1 (z .cabinets) someC;
       fewCabinets = c;
       somePlaces = leb-true 1 (z .places) someP;
       fewPlaces = p;
       someSlots = leb-true 1 (z .slots) someS;
       fewSlots = leb-true (z .slots) maxSlots fewS;
-      fewLanes = mul-le-mul c p;
+      allCabinets = mul-le-mul y c;
+      fewLanes = mul-le-mul (mul-le-mul y c) p;
     }
 
 contents-fit : (m : List ℕ) → contentsAgree m ≡ true → ContentsFit m
