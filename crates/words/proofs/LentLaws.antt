@@ -31,9 +31,11 @@ pub few-fits : (z : Sizes) → sizesFit z ≡ true → Few z
 unfolding sizesFit
 few-fits z h =
     let e = every-true _ h in
-    let c = leb-true _ _ (e .1 .0) in
-    let p = leb-true _ _ (e .1 .1 .1 .0) in
-    record { cabinets = c; places = p; lanes = mul-le-mul c p; slots = leb-true _ _ (e .1 .1 .1 .1 .1 .0) }
+    let y = leb-true _ _ (e .1 .0) in
+    let c = leb-true _ _ (e .1 .1 .1 .0) in
+    let p = leb-true _ _ (e .1 .1 .1 .1 .1 .0) in
+    let a = mul-le-mul y c in
+    record { yards = y; cabinets = c; places = p; allCabinets = a; lanes = mul-le-mul a p; slots = leb-true _ _ (e .1 .1 .1 .1 .1 .1 .1 .0) }
 
 -- by the test r
 pub few-tested : (z : Sizes) (r : Bool) → r ≡ sizesFit z → r ≡ true → Few z

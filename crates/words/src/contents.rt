@@ -20,11 +20,15 @@ const MASKS_LENGTH_AT: usize = MASKS_AT + 1;
 
 const LANES_AT: usize = MASKS_LENGTH_AT + 1;
 
-pub const LANES_LENGTH_AT: usize = LANES_AT + 1;
+const LANES_LENGTH_AT: usize = LANES_AT + 1;
 
-pub const SLOTS_BODY_AT: usize = LANES_LENGTH_AT + 1;
+const SLOTS_BODY_AT: usize = LANES_LENGTH_AT + 1;
 
 const SLOTS_LENGTH_AT: usize = SLOTS_BODY_AT + 1;
+
+const YARDS_BODY_AT: usize = SLOTS_LENGTH_AT + 1;
+
+const YARDS_LENGTH_AT: usize = YARDS_BODY_AT + 1;
 
 // what stands there, or a lane's or a slot's part of it
 const GLOBAL_BODY: u32 = crate::CONTENTS_LENGTH as u32;
@@ -37,30 +41,37 @@ const LANE_LENGTH: u32 = crate::LANE_LENGTH as u32;
 
 const SLOT_LENGTH: u32 = crate::SLOT_LENGTH as u32;
 
-// First word and length of the lanes' body and of the slots', and the total.
+// The length of the cabinets' body, first word and length of the lanes' and of the slots', the first word
+// of the yards', and the total.
 pub struct Bodies {
+    pub masks_long: u32,
     pub lanes: u32,
     pub lanes_long: u32,
     pub slots: u32,
     pub slots_long: u32,
+    pub yards: u32,
     pub total: u32,
 }
 
 // The bodies of a table with these sizes.
 pub fn bodies_of(z: crate::Sizes) -> Bodies
     requires { ⌜ Few (sizesOf z) ⌝ }
-    ensures { λ r. ⌜ BodiesOf (sizesOf z) (r .lanes) (r .«lanes_long») (r .slots) (r .«slots_long») (r .total) ⌝ }
+    ensures { λ r. ⌜ BodiesOf (sizesOf z) (r .«masks_long») (r .lanes) (r .«lanes_long») (r .slots) (r .«slots_long») (r .yards) (r .total) ⌝ }
 {
-    let first_lane = MASKS_BODY + z.cabinets;
+    let cabinets = crate::cabinet_count(z);
+    let first_lane = MASKS_BODY + cabinets;
     let lanes_length = LANE_LENGTH * crate::lane_count(z);
     let first_slot = first_lane + lanes_length;
     let slots_length = SLOT_LENGTH * z.slots;
+    let first_yard = first_slot + slots_length;
     Bodies {
+        masks_long: cabinets,
         lanes: first_lane,
         lanes_long: lanes_length,
         slots: first_slot,
         slots_long: slots_length,
-        total: first_slot + slots_length,
+        yards: first_yard,
+        total: first_yard + z.yards,
     }
 }
 
@@ -77,9 +88,12 @@ pub fn write(m: &mut [u32], z: crate::Sizes)
     m[GLOBAL_AT] = GLOBAL_BODY;
     m[GLOBAL_LENGTH_AT] = GLOBAL_LENGTH;
     m[MASKS_AT] = MASKS_BODY;
-    m[MASKS_LENGTH_AT] = z.cabinets;
+    m[MASKS_LENGTH_AT] = b.masks_long;
     m[LANES_AT] = b.lanes;
     m[LANES_LENGTH_AT] = b.lanes_long;
     m[SLOTS_BODY_AT] = b.slots;
     m[SLOTS_LENGTH_AT] = b.slots_long;
+    m[YARDS_BODY_AT] = b.yards;
+    m[YARDS_LENGTH_AT] = z.yards;
+    m[crate::YARDS_AT] = z.yards;
 }

@@ -8,8 +8,8 @@ ghost use mathlib.Core.Path.{_≡_};
 ghost use Prim.Native.Nat.{_+_, _<_, _≤_};
 ghost use lib.ListN.{length};
 ghost use Rattle.model.specs.Word.{wordLimit, less as differenceOf};
-ghost use Rattle.model.specs.State.{laneCount};
-ghost use Rattle.model.specs.Layout.{contentsLength, laneAddress, slotsBody, slotAddress};
+ghost use Rattle.model.specs.State.{cabinetCount, laneCount};
+ghost use Rattle.model.specs.Layout.{contentsLength, laneAddress, slotsBody, slotAddress, yardsBody};
 ghost use Rattle.model.specs.Legal.{sizesFit};
 ghost use Rattle.model.specs.Memory.{wide, wholeOf, low as lowWord, high as highWord};
 ghost use Rattle.words.specs.Lent.{sizesOf, sizesIn, Few};
@@ -22,8 +22,12 @@ pub const WORD_LIMIT: u64 = 4294967296;
 pub const NONE: u32 = 4294967295;
 
 // ---- ranges
+pub const MAX_YARDS: u32 = 8;
+
+// of a yard
 pub const MAX_CABINETS: u32 = 8;
 
+// of a cabinet
 pub const MAX_PLACES: u32 = 8;
 
 pub const MAX_SLOTS: u32 = 1024;
@@ -44,7 +48,7 @@ pub const COUNTS_WIDTH: usize = COUNT_WIDTH * KINDS;
 pub const CHAIN_COUNT: usize = 64;
 
 // ---- contents: addresses
-pub const VERSION: u32 = 3;
+pub const VERSION: u32 = 4;
 
 pub const VERSION_AT: usize = 0;
 
@@ -56,7 +60,9 @@ pub const SLOTS_AT: usize = PLACES_AT + 1;
 
 pub const BODIES_AT: usize = SLOTS_AT + 1;
 
-pub const CONTENTS_LENGTH: usize = BODIES_AT + 2 * 4;
+pub const YARDS_AT: usize = BODIES_AT + 2 * 5;
+
+pub const CONTENTS_LENGTH: usize = YARDS_AT + 1;
 
 // ---- queues in a record: first, last and length of next, current and done
 pub const LAST_OFFSET: usize = 1;
@@ -76,9 +82,9 @@ pub const CURRENT_GENERATION_AT: usize = CONTENTS_LENGTH;
 
 pub const LARGEST_GENERATION_AT: usize = CURRENT_GENERATION_AT + 1;
 
-pub const CABINET_MASK_AT: usize = LARGEST_GENERATION_AT + 1;
+pub const YARD_MASK_AT: usize = LARGEST_GENERATION_AT + 1;
 
-pub const HEADS_AT: usize = CABINET_MASK_AT + 1;
+pub const HEADS_AT: usize = YARD_MASK_AT + 1;
 
 pub const FREE_AT: usize = HEADS_AT + CHAIN_COUNT;
 
@@ -86,7 +92,7 @@ pub const GLOBAL_QUEUES_AT: usize = FREE_AT + QUEUE_WIDTH;
 
 pub const GLOBAL_GENERATION_AT: usize = GLOBAL_QUEUES_AT + QUEUES_WIDTH;
 
-// ---- the cabinets' lane masks: address of the first
+// ---- the cabinets' lane masks, yard after yard: address of the first
 pub const MASKS_AT: usize = GLOBAL_GENERATION_AT + 1;
 
 // ---- a lane's record: offsets
@@ -132,19 +138,23 @@ pub const SLOT_LENGTH: usize = QUEUE_LINK_AT + 1;
 
 // The sizes of a table, handed on by value.
 pub struct Sizes {
+    pub yards: u32,
     pub cabinets: u32,
     pub places: u32,
     pub slots: u32,
 }
 
-// Cabinets 1 to 8, lanes per cabinet 1 to 8, slots 1 to 1,024.
+// Yards 1 to 8, cabinets of a yard 1 to 8, lanes of a cabinet 1 to 8, slots 1 to 1,024.
 pub fn sizes_fit(z: Sizes) -> bool
     ensures { λ r. ⌜ r ≡ sizesFit (sizesOf z) ⌝ }
 {
-    (1 <= z.cabinets)
-        & ((z.cabinets <= MAX_CABINETS)
-            & ((1 <= z.places)
-                & ((z.places <= MAX_PLACES) & ((1 <= z.slots) & ((z.slots <= MAX_SLOTS) & true)))))
+    (1 <= z.yards)
+        & ((z.yards <= MAX_YARDS)
+            & ((1 <= z.cabinets)
+                & ((z.cabinets <= MAX_CABINETS)
+                    & ((1 <= z.places)
+                        & ((z.places <= MAX_PLACES)
+                            & ((1 <= z.slots) & ((z.slots <= MAX_SLOTS) & true)))))))
 }
 
 // The sizes that a memory's contents name.
@@ -153,10 +163,19 @@ pub fn read_sizes(m: &[u32]) -> Sizes
     ensures { λ r. ⌜ r ≡ sizesIn (now (m .entry)) ⌝ }
 {
     Sizes {
+        yards: m[YARDS_AT],
         cabinets: m[CABINETS_AT],
         places: m[PLACES_AT],
         slots: m[SLOTS_AT],
     }
+}
+
+// The number of cabinets of all yards.
+pub fn cabinet_count(z: Sizes) -> u32
+    requires { ⌜ Few (sizesOf z) ⌝ }
+    ensures { λ r. ⌜ r ≡ cabinetCount (sizesOf z) ⌝ }
+{
+    z.yards * z.cabinets
 }
 
 // The number of lanes.
@@ -164,14 +183,15 @@ pub fn lane_count(z: Sizes) -> u32
     requires { ⌜ Few (sizesOf z) ⌝ }
     ensures { λ r. ⌜ r ≡ laneCount (sizesOf z) ⌝ }
 {
-    z.cabinets * z.places
+    z.yards * z.cabinets * z.places
 }
 
 // Where the record of a lane begins.
 pub fn lane_address(z: Sizes, lane: u32) -> usize
+    requires { ⌜ Few (sizesOf z) ⌝ }
     ensures { λ r. ⌜ r ≡ laneAddress (sizesOf z) lane ⌝ }
 {
-    MASKS_AT + index(z.cabinets) + LANE_LENGTH * index(lane)
+    MASKS_AT + index(cabinet_count(z)) + LANE_LENGTH * index(lane)
 }
 
 // Where the slots' records begin.
@@ -188,6 +208,14 @@ pub fn slot_address(z: Sizes, slot: u32) -> usize
     ensures { λ r. ⌜ r ≡ slotAddress (sizesOf z) slot ⌝ }
 {
     slots_start(z) + SLOT_LENGTH * index(slot)
+}
+
+// Where the yards' cabinet masks begin.
+pub fn yards_start(z: Sizes) -> usize
+    requires { ⌜ Few (sizesOf z) ⌝ }
+    ensures { λ r. ⌜ r ≡ yardsBody (sizesOf z) ⌝ }
+{
+    slot_address(z, z.slots)
 }
 
 // ---- numbers

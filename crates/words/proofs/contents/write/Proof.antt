@@ -1,4 +1,4 @@
--- Twelve stores, one after another, are the run of the contents.
+-- Fifteen stores, one after another, are the run of the contents.
 use native.Mathlib.Omega.{arith}
 use lib.ListN.{length-set}
 use borrow.Author.Needs.{needs}
@@ -45,6 +45,15 @@ slice-write-m-11 c = simp length-set (omega arith)
 slice-write-m-12 : tie.Need-slice-write-m-12
 slice-write-m-12 c = simp length-set (omega arith)
 
+slice-write-m-13 : tie.Need-slice-write-m-13
+slice-write-m-13 c = simp length-set (omega arith)
+
+slice-write-m-14 : tie.Need-slice-write-m-14
+slice-write-m-14 c = simp length-set (omega arith)
+
+slice-write-m-15 : tie.Need-slice-write-m-15
+slice-write-m-15 c = simp length-set (omega arith)
+
 same-length : tie.Need-same-length
 same-length c = search needs
 
@@ -53,7 +62,7 @@ unfolding contents
 returns c =
     let at-bodies-of : tie.After-bodies-of = search in
     let b = at-bodies-of .bodies-of .ensures in
-    rw (b .lanes, b .lanesLong, b .slots, b .slotsLong)
+    rw (b .masksLong, b .lanes, b .lanesLong, b .slots, b .slotsLong, b .yards)
 
 pub write-spec : {M : Type 1} → statement M
 write-spec =
@@ -72,5 +81,8 @@ write-spec =
     slice-write-m-10
     slice-write-m-11
     slice-write-m-12
+    slice-write-m-13
+    slice-write-m-14
+    slice-write-m-15
     same-length
     returns)
