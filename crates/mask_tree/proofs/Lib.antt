@@ -1,1 +1,2 @@
 -- Laws of the tree: a bit cleared, and levels set by those below.
+mod FunctionLaws

@@ -77,9 +77,12 @@ pub record Cleared (m : List ℕ) (a p : ℕ) (r : Bool) (n : List ℕ) : Type 0
 
 -- ---- masks set by those below them
 
--- bit p for the p-th of the w words from a on: it stands while that word is not 0
+-- whether the p-th of the words from a on is not 0, and the mask of w of them
+abbrev pub standingAt : List ℕ → ℕ → ℕ → Bool
+standingAt m a p = isNotZero (at m (a + p))
+
 abbrev pub standingMask : List ℕ → ℕ → ℕ → ℕ
-standingMask m a w = mask (map (λ (p : ℕ). isNotZero (at m (a + p))) (from 0 w))
+standingMask m a w = mask (map (standingAt m a) (from 0 w))
 
 -- the first n masks of a level, by those of the level below, which stand from b on
 unfoldable pub raisedTo : List ℕ → ℕ → Level → ℕ → List ℕ

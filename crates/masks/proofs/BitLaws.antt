@@ -1,7 +1,7 @@
 -- Words as masks: what `|`, `&`, `<<`, `!`, `count_ones` and `trailing_zeros` do to them, and the same for masks of any width up to 32.
 use Prim.Native.Nat.{ℕ, suc, _+_, _*_, _-_, _/_, _%_, _^_, _≤_, _<_}
 use mathlib.Core.Bool.{Bool, true, false, cond}
-use mathlib.Core.Path.{_≡_, refl, ap, sym, _∙_}
+use mathlib.Core.Path.{_≡_, refl, ap, ap₂, sym, _∙_}
 use mathlib.Core.List.{List, [], _∷_, map}
 use mathlib.Core.Logic.{⊎-elim}
 use native.Mathlib.Omega.{arith}
@@ -14,7 +14,7 @@ use Rattle.model.specs.Lists.{any, from, mask, bit}
 use Rattle.model.specs.Memory.{flag}
 use Rattle.laws.specs.Tests.{bool-cases, clash}
 use Rattle.laws.specs.ListLaws.{length-map-from, getD-map-below, getD-set, map-from-set}
-use Rattle.laws.specs.Masks.{mask-flags, mask-lt, flag-mask, some}
+use Rattle.laws.specs.Masks.{mask-flags, mask-lt, mask-from-lt, mask-from-suc, flag-mask, some}
 use Rattle.laws.specs.MaskFlags.{shl-bit, shr-and-one, or-set, and-clear, trues, firstTrue, ones-mask, trailing-mask, trailing-none}
 use Rattle.masks.specs.Bits.{width, bits, withBit, withoutBit}
 
@@ -96,3 +96,25 @@ module _ (g h : ℕ → Bool) (n p : ℕ) (fits : n ≤ width) (inside : p < n) 
 
   pub withoutBit-from : ((k : ℕ) → h k ≡ cond (eqb k p) false (g k)) → withoutBit p (mask (map g (from 0 n))) ≡ mask (map h (from 0 n))
   withoutBit-from e = withoutBit-mask (map g (from 0 n)) (omega (arith, length-flags)) p (omega (arith, length-flags)) ∙ ap mask (set-flags false e)
+
+-- ---- a mask built bit by bit
+
+-- one bit more
+pub mask-more : (g : ℕ → Bool) (p : ℕ) → p < width → cond (g p) (withBit p (mask (map g (from 0 p)))) (mask (map g (from 0 p))) ≡ mask (map g (from 0 (suc p)))
+mask-more g p h =
+    let w : ℕ = mask (map g (from 0 p)) in
+    let below : w < 2 ^ width = omega (arith, mask-from-lt g p, pow-mono {i = p} {j = width} (omega arith)) in
+    ap (λ (x : ℕ). cond (g p) x w) (sym (or-withBit w p below h) ∙ ap (bitOr w) (shl-bit p h)) ∙ sym (mask-from-suc g p)
+
+-- the same for a flag that was tested: it is set, or not
+module _ (g : ℕ → Bool) (p w x : ℕ) (h : p < width) (e : w ≡ mask (map g (from 0 p))) (b : Bool) (f : b ≡ g p) where
+  next : cond b (withBit p w) w ≡ mask (map g (from 0 (p + 1)))
+  next =
+      let s : suc p ≡ p + 1 = omega arith in
+      ap₂ (λ (d : Bool) (y : ℕ). cond d (withBit p y) y) f e ∙ mask-more g p h ∙ ap (λ (n : ℕ). mask (map g (from 0 n))) s
+
+  pub mask-set : b ≡ true → x ≡ withBit p w → x ≡ mask (map g (from 0 (p + 1)))
+  mask-set t q = q ∙ ap (λ (d : Bool). cond d (withBit p w) w) (sym t) ∙ next
+
+  pub mask-clear : b ≡ false → x ≡ w → x ≡ mask (map g (from 0 (p + 1)))
+  mask-clear t q = q ∙ ap (λ (d : Bool). cond d (withBit p w) w) (sym t) ∙ next
