@@ -1,24 +1,19 @@
 -- Laws of a cabinet's work: what is done to the cabinet's part, put back in its place, is done to the whole memory at the lane's address.
-use Prim.Native.Nat.{ℕ, zero, suc, _+_, _*_, _-_, _^_, _<_, _≤_}
+use Prim.Native.Nat.{ℕ, zero, suc, _+_, _*_, _-_, _/_, _%_, _<_, _≤_}
 use mathlib.Core.Bool.{Bool, true, false, cond}
 use mathlib.Core.Path.{_≡_, refl, ap, ap₂, sym, _∙_}
 use mathlib.Core.List.{List, _∷_, _++_, map}
 use native.Mathlib.Omega.{arith}
-use native.Mathlib.Nat.{suc-mul, mul-le-mul-right}
+use native.Mathlib.Nat.{suc-mul, mul-le-mul-right, mod-lt, div-add-mod', div-lt-iff-lt-mul}
 use lib.ListN.{take, drop}
-use lib.Bits.{bitOr}
-use lib.Pow.{pow-mono}
+use lib.Arith.{digits-div, digits-mod}
 use Rattle.model.specs.Lists.{from, mask}
-use Rattle.model.specs.State.{Sizes}
+use Rattle.model.specs.State.{Sizes, cabinetCount}
 use Rattle.model.specs.Layout.{laneLength, laneAddress, onlineBit}
 use Rattle.model.specs.Memory.{at, flag}
 use Rattle.laws.specs.ListLaws.{map-from-alike}
-use Rattle.laws.specs.Masks.{mask-from-lt, mask-from-suc}
-use Rattle.laws.specs.MaskFlags.{shl-bit}
 use Rattle.laws.specs.Stores.{getD-part, part-sets}
 use Rattle.words.specs.Lent.{Lent}
-use Rattle.masks.specs.Bits.{width, withBit}
-use Rattle.masks.proofs.BitLaws.{or-withBit}
 use Rattle.lanes.specs.declared.LaneRecord.{LaneRecord}
 use Rattle.lanes.specs.declared.Place.{Place}
 use Rattle.lanes.specs.declared.Change.{Change}
@@ -37,18 +32,22 @@ pub row-within : (c n k : ℕ) → c < n → c * k + k ≤ n * k
 row-within c n k h = let e = mul-le-mul-right {m = suc c} {n = n} k (omega arith) in omega (arith, e, suc-mul c k)
 
 -- by the addresses that were worked out
-pub stood : (z : Sizes) (c p a i : ℕ) → a ≡ cabinetAt z c → i ≡ p → record { cabinet = c; place = p; start = a; address = a + placeAt i } ≡ stand z c p
-stood z c p a i ea ei = rw (ea, ei)
+pub stood : (z : Sizes) (y b p a i : ℕ) → b < z .cabinets → a ≡ cabinetAt z (y * z .cabinets + b) → i ≡ p
+    → record { yard = y; bay = b; cabinet = y * z .cabinets + b; place = p; start = a; address = a + placeAt i } ≡ stand z (y * z .cabinets + b) p
+stood z y b p a i h ea ei = rw (ea, ei, digits-div y h, digits-mod y h)
 
 -- a lane of a table that is lent
-pub lane-lent : (m : List ℕ) (z : Sizes) (c p : ℕ) → Lent m z → c < z .cabinets → p < z .places → LaneLent m z (stand z c p)
-lane-lent m z c p l hc hp = record {
+pub lane-lent : (m : List ℕ) (z : Sizes) (c p : ℕ) → Lent m z → 1 ≤ z .cabinets → c < cabinetCount z → p < z .places → LaneLent m z (stand z c p)
+lane-lent m z c p l some hc hp = record {
   lent = l;
+  yard = div-lt-iff-lt-mul some .1 hc;
+  bay = mod-lt c some;
+  number = sym (div-add-mod' c (z .cabinets));
   cabinet = hc;
   place = hp;
   start = refl;
   address = refl;
-  part = omega (arith, row-within c (z .cabinets) (z .places) hc, l .long);
+  part = omega (arith, row-within c (cabinetCount z) (z .places) hc, l .long);
 }
 
 -- the changes that ask for nothing
@@ -124,25 +123,3 @@ unfolding onlineMask
 online-by m z c a i r ea ei e =
     e ∙ part-online m a (a + laneLength * i - a) i (omega arith)
     ∙ ap₂ (λ (b k : ℕ). mask (map (onlineAt m b) (from 0 k))) ea ei
-
--- ---- a mask built bit by bit
-
--- one bit more
-pub mask-more : (g : ℕ → Bool) (p : ℕ) → p < width → cond (g p) (withBit p (mask (map g (from 0 p)))) (mask (map g (from 0 p))) ≡ mask (map g (from 0 (suc p)))
-mask-more g p h =
-    let w : ℕ = mask (map g (from 0 p)) in
-    let below : w < 2 ^ width = omega (arith, mask-from-lt g p, pow-mono {i = p} {j = width} (omega arith)) in
-    ap (λ (x : ℕ). cond (g p) x w) (sym (or-withBit w p below h) ∙ ap (bitOr w) (shl-bit p h)) ∙ sym (mask-from-suc g p)
-
--- the same for a flag that was tested: it is set, or not
-module _ (g : ℕ → Bool) (p w x : ℕ) (h : p < width) (e : w ≡ mask (map g (from 0 p))) (b : Bool) (f : b ≡ g p) where
-  next : cond b (withBit p w) w ≡ mask (map g (from 0 (p + 1)))
-  next =
-      let s : suc p ≡ p + 1 = omega arith in
-      ap₂ (λ (d : Bool) (y : ℕ). cond d (withBit p y) y) f e ∙ mask-more g p h ∙ ap (λ (n : ℕ). mask (map g (from 0 n))) s
-
-  pub mask-set : b ≡ true → x ≡ withBit p w → x ≡ mask (map g (from 0 (p + 1)))
-  mask-set t q = q ∙ ap (λ (d : Bool). cond d (withBit p w) w) (sym t) ∙ next
-
-  pub mask-clear : b ≡ false → x ≡ w → x ≡ mask (map g (from 0 (p + 1)))
-  mask-clear t q = q ∙ ap (λ (d : Bool). cond d (withBit p w) w) (sym t) ∙ next

@@ -1,11 +1,11 @@
 -- One cabinet's lanes: the part of the lane body that holds their records, one after another (document 01, "The memory").
-use Prim.Native.Nat.{ℕ, _+_, _*_, _<_, _≤_}
+use Prim.Native.Nat.{ℕ, _+_, _*_, _/_, _%_, _<_, _≤_}
 use mathlib.Core.Bool.{Bool}
 use mathlib.Core.Path.{_≡_}
 use mathlib.Core.List.{List, map}
 use lib.ListN.{length}
 use Rattle.model.specs.Lists.{from, mask}
-use Rattle.model.specs.State.{Sizes}
+use Rattle.model.specs.State.{Sizes, cabinetCount}
 use Rattle.model.specs.Layout.{laneLength, laneAddress, onlineBit}
 use Rattle.model.specs.Memory.{at, flag}
 use Rattle.words.specs.Lent.{Lent}
@@ -21,12 +21,22 @@ cabinetAt z c = laneAddress z (c * z .places)
 
 -- the lane at place p of cabinet c
 abbrev pub stand : Sizes → ℕ → ℕ → Place
-stand z c p = record { cabinet = c; place = p; start = cabinetAt z c; address = cabinetAt z c + placeAt p }
+stand z c p = record {
+  yard = c / z .cabinets;
+  bay = c % z .cabinets;
+  cabinet = c;
+  place = p;
+  start = cabinetAt z c;
+  address = cabinetAt z c + placeAt p;
+}
 
 -- a lane of a table that is lent
 pub record LaneLent (m : List ℕ) (z : Sizes) (l : Place) : Type 0 where
   pub lent : Lent m z
-  pub cabinet : l .cabinet < z .cabinets
+  pub yard : l .yard < z .yards
+  pub bay : l .bay < z .cabinets
+  pub number : l .cabinet ≡ l .yard * z .cabinets + l .bay
+  pub cabinet : l .cabinet < cabinetCount z
   pub place : l .place < z .places
   pub start : l .start ≡ cabinetAt z (l .cabinet)
   pub address : l .address ≡ l .start + placeAt (l .place)

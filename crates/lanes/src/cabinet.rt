@@ -6,6 +6,7 @@ ghost use Prim.Native.Nat.{_+_, _*_, _<_, _≤_};
 ghost use mathlib.Core.List.{map};
 ghost use lib.ListN.{length};
 ghost use Rattle.model.specs.Lists.{from, mask};
+ghost use Rattle.model.specs.State.{cabinetCount};
 ghost use Rattle.model.specs.Layout.{laneLength};
 ghost use Rattle.model.specs.Memory.{at as wordAt};
 ghost use Rattle.words.specs.Lent.{sizesOf, Few, Lent};
@@ -61,20 +62,23 @@ pub fn change_in(cabinet: &mut [u32], place: usize, change: crate::Change)
 
 // Where the part of a cabinet begins.
 fn cabinet_start(z: words::Sizes, cabinet: u32) -> usize
-    requires { ⌜ (Few (sizesOf z)) × (cabinet < z .cabinets) ⌝ }
+    requires { ⌜ (Few (sizesOf z)) × (cabinet < cabinetCount (sizesOf z)) ⌝ }
     ensures { λ r. ⌜ r ≡ cabinetAt (sizesOf z) cabinet ⌝ }
 {
     words::lane_address(z, cabinet * z.places)
 }
 
-// The lane at a place of a cabinet.
-pub fn stand_at(z: words::Sizes, cabinet: u32, place: u32) -> crate::Place
-    requires { ⌜ (Few (sizesOf z)) × (cabinet < z .cabinets) ⌝ }
-    ensures { λ r. ⌜ r ≡ stand (sizesOf z) cabinet place ⌝ }
+// The lane at a place of a cabinet, which is number `bay` of a yard.
+pub fn stand_at(z: words::Sizes, yard: u32, bay: u32, place: u32) -> crate::Place
+    requires { ⌜ (Few (sizesOf z)) × ((yard < z .yards) × (bay < z .cabinets)) ⌝ }
+    ensures { λ r. ⌜ r ≡ stand (sizesOf z) (yard * z .cabinets + bay) place ⌝ }
 {
+    let cabinet = yard * z.cabinets + bay;
     let start = cabinet_start(z, cabinet);
     let address = start + words::LANE_LENGTH * words::index(place);
     crate::Place {
+        yard,
+        bay,
         cabinet,
         place,
         start,
@@ -84,7 +88,7 @@ pub fn stand_at(z: words::Sizes, cabinet: u32, place: u32) -> crate::Place
 
 // The lanes of a cabinet that are on.
 pub fn cabinet_online(m: &[u32], z: words::Sizes, cabinet: u32) -> u32
-    requires { ⌜ (Lent (now m) (sizesOf z)) × (cabinet < z .cabinets) ⌝ }
+    requires { ⌜ (Lent (now m) (sizesOf z)) × (cabinet < cabinetCount (sizesOf z)) ⌝ }
     ensures { λ r. ⌜ r ≡ onlineMask (now (m .entry)) (sizesOf z) cabinet ⌝ }
 {
     let places = words::index(z.places);

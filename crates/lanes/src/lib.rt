@@ -43,9 +43,11 @@ pub struct LaneRecord {
     pub lookup: Lookup,
 }
 
-// Where a lane stands: its cabinet, its place there, where the cabinet's part of the words begins, and where the lane's
-// record does. It is worked out once a call and handed on.
+// Where a lane stands: its yard, the number of its cabinet there (bay) and of all cabinets, its place in the cabinet, where
+// the cabinet's part of the words begins, and where the lane's record does. It is worked out once a call and handed on.
 pub struct Place {
+    pub yard: u32,
+    pub bay: u32,
     pub cabinet: u32,
     pub place: u32,
     pub start: usize,

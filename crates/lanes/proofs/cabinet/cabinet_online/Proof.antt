@@ -2,6 +2,8 @@
 use native.Mathlib.Omega.{arith}
 use Rattle.lanes.proofs.CabinetLaws.{row-within, online-by}
 use borrow.Author.Needs.{needs}
+use Rattle.model.specs.State.{cabinetCount}
+use Rattle.words.specs.Lent.{sizesOf}
 use Rattle.lanes.proofs.cabinet.cabinet_online.Statement.{statement}
 use Rattle.lanes.proofs.cabinet.cabinet_online.Tie as tie
 
@@ -19,7 +21,7 @@ add-end c =
     let at-cabinet-start : tie.After-cabinet-start = search in
     let entry : tie.Start = search in
     let s = entry .args in
-    let within = row-within (s .cabinet) (s .z .cabinets) (s .z .places) (entry .pre .1) in
+    let within = row-within (s .cabinet) (cabinetCount (sizesOf (s .z))) (s .z .places) (entry .pre .1) in
     omega (arith, at-cabinet-start .cabinet-start .ensures, within, entry .pre .0 .few .lanes)
 
 mul-online-mask : tie.Need-mul-online-mask
@@ -27,7 +29,7 @@ mul-online-mask c =
     let at-cabinet-start : tie.After-cabinet-start = search in
     let entry : tie.Start = search in
     let s = entry .args in
-    let within = row-within (s .cabinet) (s .z .cabinets) (s .z .places) (entry .pre .1) in
+    let within = row-within (s .cabinet) (cabinetCount (sizesOf (s .z))) (s .z .places) (entry .pre .1) in
     omega (arith, at-cabinet-start .cabinet-start .ensures, within, entry .pre .0 .few .lanes)
 
 sub-online-mask : tie.Need-sub-online-mask
@@ -41,7 +43,7 @@ part-online-mask-end c =
     let at-cabinet-start : tie.After-cabinet-start = search in
     let entry : tie.Start = search in
     let s = entry .args in
-    let within = row-within (s .cabinet) (s .z .cabinets) (s .z .places) (entry .pre .1) in
+    let within = row-within (s .cabinet) (cabinetCount (sizesOf (s .z))) (s .z .places) (entry .pre .1) in
     omega (arith, at-cabinet-start .cabinet-start .ensures, within, entry .pre .0 .long)
 
 online-mask-requires : tie.Need-online-mask-requires

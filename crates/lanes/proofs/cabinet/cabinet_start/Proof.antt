@@ -2,6 +2,8 @@
 use native.Mathlib.Omega.{arith}
 use Rattle.lanes.proofs.CabinetLaws.{row-within}
 use borrow.Author.Needs.{needs}
+use Rattle.model.specs.State.{cabinetCount}
+use Rattle.words.specs.Lent.{sizesOf}
 use Rattle.lanes.proofs.cabinet.cabinet_start.Statement.{statement}
 use Rattle.lanes.proofs.cabinet.cabinet_start.Tie as tie
 
@@ -9,7 +11,7 @@ mul-lane-address : tie.Need-mul-lane-address
 mul-lane-address c =
     let entry : tie.Start = search in
     let s = entry .args in
-    omega (arith, row-within (s .cabinet) (s .z .cabinets) (s .z .places) (entry .pre .1), entry .pre .0 .lanes)
+    omega (arith, row-within (s .cabinet) (cabinetCount (sizesOf (s .z))) (s .z .places) (entry .pre .1), entry .pre .0 .lanes)
 
 lane-address-requires : tie.Need-lane-address-requires
 lane-address-requires c κs = search needs

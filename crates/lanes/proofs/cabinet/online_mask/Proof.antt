@@ -11,7 +11,7 @@ use Rattle.model.specs.Lists.{from, mask}
 use Rattle.model.specs.Memory.{at, flag}
 use Rattle.model.specs.Layout.{onlineBit}
 use Rattle.lanes.specs.Cabinet.{placeAt, onlineAt}
-use Rattle.lanes.proofs.CabinetLaws.{mask-set, mask-clear}
+use Rattle.masks.proofs.BitLaws.{mask-set, mask-clear}
 use Rattle.lanes.proofs.cabinet.online_mask.Statement.{statement}
 use Rattle.lanes.proofs.cabinet.online_mask.Tie as tie
 
