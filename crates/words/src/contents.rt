@@ -20,9 +20,9 @@ const MASKS_LENGTH_AT: usize = MASKS_AT + 1;
 
 const LANES_AT: usize = MASKS_LENGTH_AT + 1;
 
-pub const LANES_LENGTH_AT: usize = LANES_AT + 1;
+const LANES_LENGTH_AT: usize = LANES_AT + 1;
 
-pub const SLOTS_BODY_AT: usize = LANES_LENGTH_AT + 1;
+const SLOTS_BODY_AT: usize = LANES_LENGTH_AT + 1;
 
 const SLOTS_LENGTH_AT: usize = SLOTS_BODY_AT + 1;
 
