@@ -9,9 +9,8 @@ use lib.Dec.{leb}
 use lib.Seq.{sets}
 use borrow.Author.Tests.{le-leb, lt-leb, leb-true, eq-eqb, ne-eqb}
 use Rattle.model.specs.Lists.{all, every, same, from}
-use Rattle.model.specs.Calls.{sized}
 use Rattle.model.specs.Memory.{at, sizes, contents}
-use Rattle.model.specs.Layout.{cabinetsAt, placesAt, slotsAt, contentsLength, total}
+use Rattle.model.specs.Layout.{contentsLength, total}
 use Rattle.model.specs.Legal.{sizesFit, contentsAgree}
 use Rattle.laws.specs.Tests.{and-true-right, every-true}
 use Rattle.laws.specs.ListLaws.{take-map-from}

@@ -1,6 +1,6 @@
 -- No figure for the belt is less than n + 1: over every list, a lookup of a code without a record, which nobody disturbs, goes a step for each record on
 -- its chain before it is answered.
-use Prim.Native.Nat.{ℕ, suc, _+_, _<_}
+use Prim.Native.Nat.{ℕ, suc, _<_}
 use mathlib.Core.Path.{_≡_, refl, sym, ap, _∙_}
 use mathlib.Core.Logic.{inl, inr, _≢_}
 use mathlib.Core.List.{List, [], _∷_, _++_, append-assoc}

@@ -1,7 +1,7 @@
 -- What the clocks' fourth numbers add up to (document 02, request 6): over every list the slots that clocks and offs moved into done queues are those
 -- that stand there and those that were handed back.
 use Prim.Native.Nat.{ℕ, zero, suc, _+_, _<_}
-use mathlib.Core.Path.{_≡_, refl, sym, ap, _∙_}
+use mathlib.Core.Path.{_≡_, refl}
 use mathlib.Core.Bool.{Bool, true, false, cond, _&&_}
 use mathlib.Core.List.{List, [], _∷_, map}
 use native.Mathlib.Omega.{arith}
