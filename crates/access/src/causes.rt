@@ -36,5 +36,3 @@ pub const NOTHING_DONE: u32 = 16;
 pub const WRONG_DIGIT: u32 = 17;
 
 pub const WRONG_LABEL: u32 = 18;
-
-pub const SHORT_SECOND: u32 = 19;

@@ -4,10 +4,12 @@ use mathlib.Core.Path.{_≡_, sym, ap, _∙_}
 use mathlib.Core.List.{List, [], _∷_, _++_, head-eq-of-cons-eq, tail-eq-of-cons-eq}
 use lib.ListN.{replicate}
 use Rattle.model.specs.Rules.{start, step, Answer, accepted, zeros}
-use Rattle.model.specs.Calls.{Call, on-state, reply, left}
+use Rattle.model.specs.Calls.{Call, set-up, on-state, reply, left}
 use Rattle.model.specs.Ledger.{Event, ledger, search, events, recordsOn, stepAnswers, startEvent, Belt, ChainsCounted, Attained}
-use Rattle.carry.proofs.Theorems.{belt, chains-counted, attained}
-use Rattle.demands.specs.Demands.{Run, Ran, lastMemory, NoSetUps, callsOf, eventsOf, Began, OfEveryList}
+use Rattle.history.proofs.Belt.{belt, chains-counted}
+use Rattle.history.proofs.Attained.{attained}
+use Rattle.product_table.specs.Called.{Called}
+use Rattle.demands.specs.Demands.{Run, Ran, lastMemory, NoSetUps, callsOf, eventsOf, OfEveryList}
 use Rattle.demands.specs.Runs.{ran-events}
 use Rattle.demands.specs.Proved.{on-lists}
 
@@ -24,8 +26,8 @@ pub record Figure : Type 0 where
   -- n is the number of the chain's slots in the memory
   pub chained : OfEveryList ChainsCounted
   -- no figure is less: after the list, of a code without a record, an accepted start and steps alone: n go, and step n + 1 answers
-  pub least : (h : List Event) (x : ℕ) (m₀ : List ℕ) → Began h x m₀ → (xs : List Run) → Ran m₀ xs → NoSetUps xs
-      → (i k : ℕ) → search (ledger (h ++ eventsOf xs)) k ≡ accepted 2 0 0 0 → let n = recordsOn k (ledger (h ++ eventsOf xs) .entries) in
+  pub least : (c p x : ℕ) (m a m₀ b : List ℕ) → Called (set-up c p x) m a m₀ b 0 → (xs : List Run) → Ran m₀ xs → NoSetUps xs
+      → (i k : ℕ) → search (ledger (eventsOf xs)) k ≡ accepted 2 0 0 0 → let n = recordsOn k (ledger (eventsOf xs) .entries) in
       (ys : List Run) → Ran (lastMemory m₀ xs) ys → callsOf ys ≡ alone i k n → (r : Answer) (es : List Event) → eventsOf ys ≡ startEvent i k r ∷ es
       → r .status ≡ 0 → stepAnswers i es ≡ replicate n zeros ++ (accepted 2 0 0 0 ∷ [])
 
@@ -44,8 +46,8 @@ pub belt-holds : Figure
 belt-holds = record {
   list = on-lists (λ (h : List Event) (m : List ℕ). Belt h) belt;
   chained = on-lists ChainsCounted chains-counted;
-  least = λ h x m₀ b xs ran ups i k none ys more calls r es is z.
-      let e = alone-events (lastMemory m₀ xs) ys more i k (recordsOn k (ledger (h ++ eventsOf xs) .entries)) calls r es is in
+  least = λ c p x m a m₀ b h xs ran ups i k none ys more calls r es is z.
+      let e = alone-events (lastMemory m₀ xs) ys more i k (recordsOn k (ledger (eventsOf xs) .entries)) calls r es is in
       ap (stepAnswers i) (e .1)
-      ∙ on-lists Attained attained h x m₀ b xs ran ups i k (ap (λ (r : Answer). r .status) (sym (e .0)) ∙ z) none;
+      ∙ on-lists Attained attained c p x m a m₀ b h xs ran ups i k (ap (λ (r : Answer). r .status) (sym (e .0)) ∙ z) none;
 }

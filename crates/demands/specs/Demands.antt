@@ -16,9 +16,7 @@ use Rattle.model.specs.Calls.{Call, set-up, on-state, sized, stored, refusalOf}
 use Rattle.model.specs.Ledger.{Event, Demand}
 use Rattle.representation.specs.Sound.{Sound}
 use Rattle.representation.proofs.Round.{OneToOne}
-use Rattle.carry.specs.Version2.{reply₂, left₂, leftAll₂}
-use Rattle.carry.specs.Joined.{events₂, RefusesSetUps₂, movedByOffs₂}
-use Rattle.product_table.specs.Called.{answerLength, shortAnswer, answerWords, Called, CarriedOver}
+use Rattle.product_table.specs.Called.{answerLength, shortAnswer, answerWords, Called}
 
 -- ---- what a call returned and left
 
@@ -123,9 +121,8 @@ pub record Demand2 : Type 0 where
       → Sound (lastMemory m₀ xs) × (state (lastMemory m₀ xs) ≡ stateAfter (fresh (sized c p x)) (callsOf xs))
   pub oneToOne : OneToOne
 
--- ---- demand 3, whole: one statement over every list, from an accepted set-up of any memory on, or from the calls of a memory of version 2 on that was carried
--- over (document 02, request 7). `Demand` (crate `model`, Ledger) is document 01's, of the ledger that the calls and their answers feed, and of the memory after
--- the last of them.
+-- ---- demand 3, whole: one statement over every list, from an accepted set-up of any memory on. `Demand` (crate `model`, Ledger) is document 01's, of the
+-- ledger that the calls and their answers feed, and of the memory after the last of them.
 
 -- the answer in the first five words
 abbrev pub answerIn : List ℕ → Answer
@@ -138,20 +135,10 @@ eventOf x = record { call = x .call; answer = answerIn (x .answer) }
 abbrev pub eventsOf : List Run → List Event
 eventsOf xs = map eventOf (drops isShort xs)
 
--- How a memory's list begins, with the events that it has by then, the slots that offs among them moved into done queues, and the memory: with a set-up that
--- returned 0, and no event; or with the calls that were made on another memory by version 2's rules (crate `carry`, Version2), from its set-up on, up to a carry
--- that returned 0. The carry is no call of the list, and an accepted one ends the list that the second memory had
-pub data Began : List Event → ℕ → List ℕ → Type 0 where
-  new : (c p x : ℕ) (m a m₀ b : List ℕ) → Called (set-up c p x) m a m₀ b 0 → Began [] 0 m₀
-  over : (m : List ℕ) (c p x : ℕ) → reply₂ m (set-up c p x) .status ≡ 0
-      → (ks : List Call) → RefusesSetUps₂ (left₂ m (set-up c p x)) ks
-      → (second a m₀ b : List ℕ) → CarriedOver (leftAll₂ (left₂ m (set-up c p x)) ks) second a m₀ b 0
-      → Began (events₂ (left₂ m (set-up c p x)) ks) (movedByOffs₂ (left₂ m (set-up c p x)) ks) m₀
-
--- P holds of every list of calls, by its events from its beginning on and the memory after it
+-- P holds of every list of calls, by its events and the memory after it
 abbrev pub OfEveryList : (List Event → List ℕ → Type 0) → Type 0
 OfEveryList P =
-    (h : List Event) (x : ℕ) (m₀ : List ℕ) → Began h x m₀ → (xs : List Run) → Ran m₀ xs → NoSetUps xs → P (h ++ eventsOf xs) (lastMemory m₀ xs)
+    (c p x : ℕ) (m a m₀ b : List ℕ) → Called (set-up c p x) m a m₀ b 0 → (xs : List Run) → Ran m₀ xs → NoSetUps xs → P (eventsOf xs) (lastMemory m₀ xs)
 
 abbrev pub Demand3 : Type 0
 Demand3 = OfEveryList Demand

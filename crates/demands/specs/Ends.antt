@@ -13,7 +13,7 @@ use Rattle.model.specs.Ledger.{Event, AfterEnds}
 use Rattle.laws.specs.ListLaws.{update-update}
 use Rattle.representation.specs.Sound.{Sound}
 use Rattle.representation.proofs.Causes.Passed.{next-accepted, status-accepted}
-use Rattle.carry.proofs.Theorems.{after-ends}
+use Rattle.history.proofs.AfterEnds.{after-ends}
 use Rattle.product_table.specs.Called.{answerLength, Called}
 use Rattle.demands.specs.Demands.{OfEveryList}
 use Rattle.demands.specs.Runs.{made-long}

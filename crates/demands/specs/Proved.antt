@@ -2,7 +2,7 @@
 use Prim.Native.Nat.{ℕ, zero, suc, _≤_}
 use mathlib.Core.Path.{_≡_, refl, sym, ap, subst, _∙_}
 use mathlib.Core.Bool.{false}
-use mathlib.Core.List.{List, _++_}
+use mathlib.Core.List.{List}
 use native.Mathlib.Omega.{arith}
 use lib.ListN.{length}
 use lib.Dec.{ltb}
@@ -16,15 +16,12 @@ use Rattle.representation.proofs.MemoryCalls.{reply-legal, left-legal, left-sta
 use Rattle.representation.specs.Sound.{Sound}
 use Rattle.representation.proofs.Memories.{left-sound}
 use Rattle.representation.proofs.Round.{one-to-one}
-use Rattle.carry.specs.Version2.{left₂, leftAll₂}
-use Rattle.carry.specs.Carrying.{carryReply, carried}
-use Rattle.carry.specs.Joined.{Begins, EveryJoined}
-use Rattle.carry.specs.Joined.Begins.{new as start, over as go-on}
-use Rattle.carry.proofs.Theorems.{demand3 as listed}
-use Rattle.product_table.specs.Called.{answerLength, Called, CarriedOver}
+use Rattle.history.proofs.Demand3.{demand3 as listed}
+use Rattle.history.proofs.Corollaries.{EveryList}
+use Rattle.product_table.specs.Called.{answerLength, Called}
 use Rattle.demands.specs.Demands.{Answered, workAnswer, workState, Demand1, Run, Ran, lastMemory, NoSetUps, callsOf}
-use Rattle.demands.specs.Demands.{FollowsRules, SetsUp, stateAfter, Demand2, Began, new, over, OfEveryList, Demand3}
-use Rattle.demands.specs.Runs.{made-memory, made-answer, made-long, short-run, long-memory, long-answer, ran-events, ran-left, ran-set-ups, leftAll-state}
+use Rattle.demands.specs.Demands.{FollowsRules, SetsUp, stateAfter, Demand2, OfEveryList, Demand3}
+use Rattle.demands.specs.Runs.{made-long, short-run, long-memory, long-answer, ran-events, ran-left, ran-set-ups, leftAll-state}
 
 -- ---- demand 1
 
@@ -109,35 +106,22 @@ demand2 = record { calls = follows-rules; setUp = sets-up; list = state-listed; 
 
 -- ---- demand 3
 
--- a carry that returned 0
-module _ (old second a n b : List ℕ) (h : CarriedOver old second a n b 0) where
-  carry-long : ltb (length a) answerLength ≡ false
-  carry-long = made-long (carryReply old second) second (carried old second) a n b 0 h refl
-
-  pub carry-status : carryReply old second .status ≡ 0
-  carry-status = sym (made-answer (carryReply old second) second (carried old second) a n b 0 h carry-long .status)
-
-  pub carry-memory : n ≡ carried old second
-  carry-memory = made-memory (carryReply old second) second (carried old second) a n b 0 h carry-long
-
--- a list of calls that were made begins as the model's does
-begins : (h : List Event) (x : ℕ) (m : List ℕ) → Began h x m → Begins h x m
-begins _ _ _ (new c p x m a m₀ b h) = rw (set-up-memory c p x m a m₀ b h) (start m c p x (set-up-status c p x m a m₀ b h))
-begins _ _ _ (over m c p x ok ks r second a m₀ b h) =
-    let old = leftAll₂ (left₂ m (set-up c p x)) ks in
-    rw (carry-memory old second a m₀ b h) (go-on m c p x ok ks r second (carry-status old second a m₀ b h))
-
--- what holds of the calls of every list of the model holds of the calls for C
-pub on-calls : (P : List Event → ℕ → List ℕ → List Call → Type 0)
-    → ((h : List Event) (x : ℕ) (m : List ℕ) → Begins h x m → (ks : List Call) → RefusesSetUps m ks → P h x m ks)
-    → (h : List Event) (x : ℕ) (m : List ℕ) → Began h x m → (xs : List Run) → Ran m xs → NoSetUps xs → P h x m (callsOf xs)
-on-calls P every h x m b xs ran ups = every h x m (begins h x m b) (callsOf xs) (ran-set-ups m xs ran ups)
+-- what holds of the calls of every list of the model, on the memory that its set-up left, holds of the calls for C
+pub on-calls : (P : List ℕ → List Call → Type 0)
+    → ((m : List ℕ) (c p x : ℕ) → reply m (set-up c p x) .status ≡ 0 → (ks : List Call) → RefusesSetUps (left m (set-up c p x)) ks → P (left m (set-up c p x)) ks)
+    → (c p x : ℕ) (m a m₀ b : List ℕ) → Called (set-up c p x) m a m₀ b 0 → (xs : List Run) → Ran m₀ xs → NoSetUps xs → P m₀ (callsOf xs)
+on-calls P every c p x m a m₀ b h xs ran ups =
+    subst (λ (w : List ℕ). P w (callsOf xs)) (sym is)
+    (every m c p x (set-up-status c p x m a m₀ b h) (callsOf xs) (subst (λ (w : List ℕ). RefusesSetUps w (callsOf xs)) is (ran-set-ups m₀ xs ran ups)))
+  where
+    is : m₀ ≡ left m (set-up c p x)
+    is = set-up-memory c p x m a m₀ b h
 
 -- the same of their events and the memory after them
-pub on-lists : (P : List Event → List ℕ → Type 0) → EveryJoined P → OfEveryList P
-on-lists P every h x m b xs ran ups =
-    rw (ran-events m xs ran, ran-left m xs ran)
-    (on-calls (λ (h : List Event) (x : ℕ) (m : List ℕ) (ks : List Call). P (h ++ events m ks) (leftAll m ks)) every h x m b xs ran ups)
+pub on-lists : (P : List Event → List ℕ → Type 0) → EveryList P → OfEveryList P
+on-lists P every c p x m a m₀ b h xs ran ups =
+    rw (ran-events m₀ xs ran, ran-left m₀ xs ran)
+    (on-calls (λ (w : List ℕ) (ks : List Call). P (events w ks) (leftAll w ks)) every c p x m a m₀ b h xs ran ups)
 
 pub demand3 : Demand3
 demand3 = on-lists Demand listed

@@ -1,19 +1,20 @@
--- What an accepted end leaves of its lane, over every course: no section till the lane begins one; till it starts one no lookup, and no step that is accepted.
+-- What an accepted end leaves of its lane, over every list: no section till the lane begins one; till it starts one no lookup, and no step that is accepted.
 use Prim.Native.Nat.{ℕ, suc}
 use mathlib.Core.Path.{_≡_, refl, sym, ap, subst, _∙_}
 use mathlib.Core.Logic.{⊎-elim}
 use mathlib.Core.List.{List, [], _∷_, _++_, List·Memᴰ, List·Memᴰ·head, List·Memᴰ·tail, List·Memᴰ·cases-cons}
 use borrow.Author.Tests.{eq-eqb}
 use Rattle.model.specs.Rules.{Op, begin, end, start, Answer, fresh}
-use Rattle.model.specs.Calls.{Call, on-state}
+use Rattle.model.specs.Calls.{Call, set-up, on-state, sized, left}
 use Rattle.model.specs.Ledger.{Section, Search, Ledger, sectionOf, searchOf, sectionEnded, searchStruck, fed, fedCall, Event, ledgerFrom, ledger}
-use Rattle.model.specs.Ledger.{Came, stepEvent, endEvent, NoBegin, NoStart, AfterEnds}
+use Rattle.model.specs.Ledger.{events, Came, stepEvent, endEvent, NoBegin, NoStart, AfterEnds}
 use Rattle.laws.specs.Tests.{clash}
 use Rattle.laws.specs.Elements.{of-drops}
 use Rattle.history.proofs.CallsKeep.EveryCall.{fedCall-cases, fedCall-accepted}
 use Rattle.history.proofs.OverLists.Answers.{Noted}
 use Rattle.history.proofs.OverLists.OneList.{noted-list}
-use Rattle.history.proofs.OverLists.EveryCourse.{EveryCourse, at-fresh, EveryList, every-list}
+use Rattle.history.proofs.Demand3.{at-set-up}
+use Rattle.history.proofs.Corollaries.{EveryList}
 
 -- ---- the ledger
 
@@ -102,13 +103,19 @@ module _ (i : ℕ) where
 
 -- ---- the theorem
 
-pub after-ends-course : EveryCourse (λ (h : List Event) (m : List ℕ). AfterEnds h)
-after-ends-course k fit h t c m v i r before since rest z all = record {
+pub after-ends : EveryList (λ (h : List Event) (m : List ℕ). AfterEnds h)
+after-ends m c p n ok ks s i r before since rest z all = record {
   noSection = no-section i before r z since;
   noSearch = no-search i before r z since;
   noStep = step-refused;
 }
   where
+    m₀ : List ℕ
+    m₀ = left m (set-up c p n)
+
+    h : List Event
+    h = events m₀ ks
+
     es : List Event
     es = before ++ endEvent i r ∷ since
 
@@ -119,7 +126,4 @@ after-ends-course k fit h t c m v i r before since rest z all = record {
         came = record { before = es; rest = later; all = all ∙ ap (λ (x : List Event). es ++ x) e }
 
         q : Noted (ledger es) i
-        q = noted-list h (fresh k) t (at-fresh k fit h t c) i a came w
-
-pub after-ends : EveryList (λ (h : List Event) (m : List ℕ). AfterEnds h)
-after-ends = every-list (λ (h : List Event) (m : List ℕ). AfterEnds h) after-ends-course
+        q = noted-list m₀ ks (fresh (sized c p n)) (at-set-up m c p n ok ks s) i a came w

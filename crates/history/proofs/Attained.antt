@@ -1,4 +1,4 @@
--- No figure for the belt is less than n + 1: after every course, a lookup of a code without a record, which nobody disturbs, goes a step for each record on
+-- No figure for the belt is less than n + 1: over every list, a lookup of a code without a record, which nobody disturbs, goes a step for each record on
 -- its chain before it is answered.
 use Prim.Native.Nat.{ℕ, suc, _<_}
 use mathlib.Core.Path.{_≡_, refl, sym, ap, _∙_}
@@ -28,7 +28,7 @@ use Rattle.history.proofs.CallsKeep.Runs.{step-taken}
 use Rattle.history.proofs.OverLists.Instants.{past}
 use Rattle.history.proofs.OverLists.Stands.{Stands, reply-on, stands-next}
 use Rattle.history.proofs.OverLists.Counted.{records-chained}
-use Rattle.history.proofs.OverLists.EveryCourse.{EveryCourse, every-end, EveryList, every-list}
+use Rattle.history.proofs.Corollaries.{EveryList, every-end}
 
 -- a search that gives nothing meets no slot of the code
 lacks-nothing : (ps : List Product) (c : ℕ) (xs : List ℕ) → searched ps c xs ≡ nothing → Lacks ps c xs
@@ -125,8 +125,5 @@ attained-at h m s t v i c ok none = rw (records-chained h (v .tied) c)
     lacks : Lacks (next s (start i c) .table .products) c (chainOf (s .table) c)
     lacks = rw table (lacks-nothing (s .table .products) c (chainOf (s .table) c) (sym (v .tied .entries c) ∙ none))
 
-pub attained-course : EveryCourse Attained
-attained-course = every-end Attained attained-at
-
 pub attained : EveryList Attained
-attained = every-list Attained attained-course
+attained = every-end Attained attained-at

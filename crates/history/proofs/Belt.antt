@@ -1,9 +1,9 @@
--- How long a lookup can take (document 02, request 5): over every course, with n records on its chain when it starts, a lookup that is not dropped has its
+-- How long a lookup can take (document 02, request 5): over every list, with n records on its chain when it starts, a lookup that is not dropped has its
 -- answer by step n + 1 of its lane, and no step before is refused; n is the number of chained slots too, and no figure is less.
 use Prim.Native.Nat.{ℕ, zero, suc, _≤_}
-use mathlib.Core.Path.{_≡_, refl, sym, ap, _∙_}
+use mathlib.Core.Path.{_≡_, refl, sym, ap, subst, _∙_}
 use mathlib.Core.Bool.{true, false, _&&_}
-use mathlib.Core.List.{List, [], _∷_, _++_, append-nil, append-assoc}
+use mathlib.Core.List.{List, [], _∷_, _++_, append-nil, append-assoc, append-cancel-left, nil≢cons, head-eq-of-cons-eq, tail-eq-of-cons-eq}
 use mathlib.Core.List.{List·Memᴰ, List·Memᴰ·head, List·Memᴰ·tail}
 use native.Mathlib.Omega.{arith}
 use lib.ListN.{length}
@@ -12,19 +12,20 @@ use Rattle.model.specs.Lists.{any, all}
 use Rattle.model.specs.State.{State}
 use Rattle.model.specs.Table.{chainOf}
 use Rattle.model.specs.Rules.{start, end, Answer, zeros, answer, next, fresh}
-use Rattle.model.specs.Calls.{Call, set-up, on-state}
-use Rattle.model.specs.Ledger.{Search, Event, ledger, isAnswer, fedCall}
+use Rattle.model.specs.Calls.{Call, set-up, on-state, sized, reply, left}
+use Rattle.model.specs.Ledger.{Search, Event, ledger, isAnswer, events, fedCall}
 use Rattle.model.specs.Ledger.{isStepOf, stepAnswers, isGoing, inTime, startEvent, NoEnd, Timed, Belt, ChainsCounted}
 use Rattle.laws.specs.Tests.{clash, and-true, and-intro, or-cases, or-left}
 use Rattle.history.proofs.CallsKeep.Respects.{spared-same, looks-kept}
 use Rattle.history.proofs.CallsKeep.Unseen.{keeps-same}
-use Rattle.history.proofs.CallsKeep.Runs.{Runs, runs-recounted, runs-start, Onward, stays, goesOn, isAnswered, onward}
+use Rattle.history.proofs.CallsKeep.Runs.{Runs, runs-start, Onward, stays, goesOn, isAnswered, onward}
 use Rattle.history.proofs.OverLists.Instants.{past, length-snoc}
-use Rattle.history.proofs.OverLists.ListInvariant.{event, At, stateAfter, later, ledger-setUp, ledger-call}
-use Rattle.history.proofs.OverLists.ListInvariant.{keeps-at, past-at, past-next, Point}
+use Rattle.history.proofs.OverLists.Stands.{reply-on}
+use Rattle.history.proofs.OverLists.ListInvariant.{event, At, after, later, ledger-setUp, ledger-call, keeps-at, past-at, past-next}
 use Rattle.history.proofs.OverLists.Counted.{records-chained}
-use Rattle.history.proofs.OverLists.OneList.{told, moment}
-use Rattle.history.proofs.OverLists.EveryCourse.{EveryCourse, at-fresh, every-end, EveryList, every-list}
+use Rattle.history.proofs.OverLists.OneList.{Moment, moment}
+use Rattle.history.proofs.Demand3.{at-set-up}
+use Rattle.history.proofs.Corollaries.{EveryList, every-end}
 
 -- ---- the steps of a lookup, from any instant on
 
@@ -49,102 +50,114 @@ module _ (h : List Event) (i c : ℕ) (q : Search) where
   abbrev RunsAt : List Event → State → ℕ → Type 0
   RunsAt done s n = Runs (past h) (length done) s (ledger done) q i c n
 
-  -- what a call k, answered r, is to it; u is the state after it
-  data Next (done : List Event) (k : Call) (r : Answer) (u : State) (n : ℕ) : Type 0 where
-    same : isStepOf i k ≡ false → RunsAt (done ++ (event k r ∷ [])) u n → Next done k r u n
-    less : (j : ℕ) → isStepOf i k ≡ true → r ≡ zeros → n ≡ suc j → RunsAt (done ++ (event k r ∷ [])) u j → Next done k r u n
-    over : isStepOf i k ≡ true → isAnswer r ≡ true → Next done k r u n
+  -- what a call is to it
+  data Next (done : List Event) (m : List ℕ) (k : Call) (s : State) (n : ℕ) : Type 0 where
+    same : isStepOf i k ≡ false → RunsAt (done ++ (event m k ∷ [])) (after s k) n → Next done m k s n
+    less : (j : ℕ) → isStepOf i k ≡ true → reply m k ≡ zeros → n ≡ suc j → RunsAt (done ++ (event m k ∷ [])) (after s k) j → Next done m k s n
+    over : isStepOf i k ≡ true → isAnswer (reply m k) ≡ true → Next done m k s n
 
-  next-call : (done : List Event) (s : State) (k : Call) (r : Answer) (es : List Event) (t : State) (a : At h done s (event k r ∷ es) t)
-      → (n : ℕ) → RunsAt done s n → (r .status ≡ 0 → k ≡ on-state (end i) → ⊥) → Next done k r (stateAfter h done s k r es t a) n
+  next-call : (done : List Event) (s : State) (m : List ℕ) (k : Call) (ks : List Call) → At h done s m (k ∷ ks) → (n : ℕ) → RunsAt done s n
+      → (reply m k .status ≡ 0 → k ≡ on-state (end i) → ⊥) → Next done m k s n
   unfolding isStepOf
-  next-call done s (set-up x y z) r es t a n l f = same refl (rw (length-snoc done (event (set-up x y z) r), e) (record {
-    position = l .position;
-    lookup = l .lookup;
-    looks = looks-kept (keeps-same (a .invariant .tied) .respects) (past h) q i c n (l .position)
-        (rw (past-next h done s (set-up x y z) r es t a, e) (a .invariant .tied .entries c)) (spared-same (ledger done) i) (l .looks);
+  next-call done s m (set-up x y z) ks a n r f = same refl (rw (length-snoc done (event m (set-up x y z)), e) (record {
+    position = r .position;
+    lookup = r .lookup;
+    looks = looks-kept (keeps-same (a .invariant .tied) .respects) (past h) q i c n (r .position)
+        (rw (past-next h done s m (set-up x y z) ks a, e) (a .invariant .tied .entries c)) (spared-same (ledger done) i) (r .looks);
   }))
     where
-      e : ledger (done ++ (event (set-up x y z) r ∷ [])) ≡ ledger done
-      e = ledger-setUp h done s x y z r
-  next-call done s (on-state o) r es t a n l f =
-      go (onward (a .invariant .tied) q i c n l o (λ u e. f (ap (λ (r : Answer). r .status) is ∙ u) (ap on-state e))
-      (keeps-at h done s o r es t a) (past-at h done s o r es t a))
+      e : ledger (done ++ (event m (set-up x y z) ∷ [])) ≡ ledger done
+      e = ledger-setUp h done s m x y z
+  next-call done s m (on-state o) ks a n r f =
+      go (onward (a .invariant .tied) q i c n r o (λ u e. f (ap (λ (r : Answer). r .status) is ∙ u) (ap on-state e))
+      (keeps-at h done s m o ks a) (past-at h done s m o ks a))
     where
-      is : r ≡ answer s o
-      is = a .course .answers
+      is : reply m (on-state o) ≡ answer s o
+      is = reply-on (a .stands) o
 
       at : (j : ℕ) → Runs (past h) (suc (length done)) (next s o) (fedCall (suc (length done)) (on-state o) (answer s o) (ledger done)) q i c j
-          → RunsAt (done ++ (event (on-state o) r ∷ [])) (stateAfter h done s (on-state o) r es t a) j
-      at j l = rw (length-snoc done (event (on-state o) r), ledger-call h done s o r is) (runs-recounted (a .course .recount) l)
+          → RunsAt (done ++ (event m (on-state o) ∷ [])) (next s o) j
+      at j r = rw (length-snoc done (event m (on-state o)), ledger-call h done s m o (a .stands)) r
 
-      go : Onward (past h) (length done) s (ledger done) o q i c n → Next done (on-state o) r (stateAfter h done s (on-state o) r es t a) n
-      go (stays b l) = same b (at n l)
-      go (goesOn j b u e l) = less j b (is ∙ u) e (at j l)
-      go (isAnswered b u) = over b (rw is u)
+      go : Onward (past h) (length done) s (ledger done) o q i c n → Next done m (on-state o) s n
+      go (stays t r) = same t (at n r)
+      go (goesOn j t u e r) = less j t (is ∙ u) e (at j r)
+      go (isAnswered t u) = over t (rw is u)
 
-  timed : (since rest done : List Event) (s t : State) → At h done s (since ++ rest) t → (n : ℕ) → RunsAt done s n → NoEnd i since → Goes done q i n since
-  unfolding stepAnswers inTime any
-  timed [] rest done s t a n l f = (refl, λ u. rw append-nil (l .looks .isNoted))
-  timed (x ∷ since) rest done s t a n l f =
-      go (next-call done s (x .call) (x .answer) (since ++ rest) t a n l
-      (λ u e. f (x .answer) u (List·Memᴰ·head (ap (λ (k : Call). event k (x .answer)) (sym e)))))
-      (λ j l. timed since rest (done ++ (x ∷ [])) _ t (later h done s (x .call) (x .answer) (since ++ rest) t a) j l (λ b u d. f b u (List·Memᴰ·tail d)))
+  timed : (ks : List Call) (done : List Event) (s : State) (m : List ℕ) → At h done s m ks → (n : ℕ) → RunsAt done s n
+      → (since rest : List Event) → events m ks ≡ since ++ rest → NoEnd i since → Goes done q i n since
+  unfolding events stepAnswers inTime any
+  timed ks done s m a n r [] rest p f = (refl, λ u. rw append-nil (r .looks .isNoted))
+  timed [] done s m a n r (x ∷ since) rest p f = absurd (nil≢cons p)
+  timed (k ∷ ks) done s m a n r (x ∷ since) rest p f =
+      let is = head-eq-of-cons-eq p in
+      subst (λ (x : Event). Goes done q i n (x ∷ since)) is
+      (go (next-call done s m k ks a n r (λ u e. f (reply m k) u (List·Memᴰ·head (ap (λ (x : Call). record { call = x; answer = reply m k }) (sym e) ∙ is))))
+      (λ j r. timed ks (done ++ (event m k ∷ [])) (after s k) (left m k) (later h done s m k ks a) j r since rest (tail-eq-of-cons-eq p)
+      (λ b u d. f b u (List·Memᴰ·tail d))))
     where
-      go : {u : State} → Next done (x .call) (x .answer) u n → ((j : ℕ) → RunsAt (done ++ (x ∷ [])) u j → Goes (done ++ (x ∷ [])) q i j since)
-          → Goes done q i n (x ∷ since)
-      go (same b l) ih = let w = ih n l in rw b (w .0, λ u. rw append-snoc at (w .1 u))
-      go (less j b z e l) ih =
-          let w = ih j l in rw (b, e) (goes-in-time j (x .answer) (stepAnswers i since) z (w .0), λ u. rw append-snoc at (w .1 (rw z at u)))
-      go (over b u) ih = rw b (answers-in-time n (x .answer) (stepAnswers i since) u, λ d. clash (or-left (isAnswer (x .answer)) _ u) d)
+      go : Next done m k s n → ((j : ℕ) → RunsAt (done ++ (event m k ∷ [])) (after s k) j → Goes (done ++ (event m k ∷ [])) q i j since)
+          → Goes done q i n (event m k ∷ since)
+      go (same t r) ih = let w = ih n r in rw t (w .0, λ u. rw append-snoc at (w .1 u))
+      go (less j t z e r) ih =
+          let w = ih j r in rw (t, e) (goes-in-time j (reply m k) (stepAnswers i since) z (w .0), λ u. rw append-snoc at (w .1 (rw z at u)))
+      go (over t u) ih = rw t (answers-in-time n (reply m k) (stepAnswers i since) u, λ d. clash (or-left (isAnswer (reply m k)) _ u) d)
 
 -- ---- the figure
 
 -- from the start on
-timed-start : (h : List Event) (s t : State) → At h [] s h t → Belt h
-timed-start h s t a i c r before since rest z all f =
-    go (moment h s t a (startEvent i c r)
-    (record { before = before; rest = since ++ rest; all = all ∙ append-assoc before (startEvent i c r ∷ since) rest }))
+timed-start : (m : List ℕ) (ks : List Call) (s : State) → At (events m ks) [] s m ks → (i c : ℕ) (r : Answer) (before since rest : List Event)
+    → r .status ≡ 0 → events m ks ≡ (before ++ startEvent i c r ∷ since) ++ rest → NoEnd i since → Timed i c (before ++ startEvent i c r ∷ []) since
+timed-start m ks s a i c r before since rest z all f =
+    go (moment m ks s a (start i c) r (record { before = before; rest = since ++ rest; all = all ∙ append-assoc before (startEvent i c r ∷ since) rest }))
   where
+    h : List Event
+    h = events m ks
+
     es : List Event
     es = before ++ (startEvent i c r ∷ [])
 
-    go : Point h before (startEvent i c r ∷ (since ++ rest)) t → Timed i c es since
-    go p = record { answered = rw (records-chained es (next-at .invariant .tied) c) (w .0); itself = rw (length-snoc before (startEvent i c r)) (w .1) }
+    go : Moment m ks s (start i c) r before → Timed i c es since
+    go p = record { answered = rw (records-chained es (next-at .invariant .tied) c) (t .0); itself = rw (length-snoc before (startEvent i c r)) (t .1) }
       where
-        u : State
-        u = stateAfter h before (p .state) (on-state (start i c)) r (since ++ rest) t (p .at)
+        o : Call
+        o = on-state (start i c)
 
-        next-at : At h es u (since ++ rest) t
-        next-at = later h before (p .state) (on-state (start i c)) r (since ++ rest) t (p .at)
+        is : event (p .memory) o ≡ startEvent i c r
+        is = ap (λ (r : Answer). startEvent i c r) (reply-on (p .at .stands) (start i c) ∙ p .is)
+
+        next-at : At h es (next (p .state) (start i c)) (left (p .memory) o) (p .calls)
+        next-at = subst (λ (e : Event). At h (before ++ (e ∷ [])) (next (p .state) (start i c)) (left (p .memory) o) (p .calls)) is
+            (later h before (p .state) (p .memory) o (p .calls) (p .at))
 
         n : ℕ
-        n = length (chainOf (u .table) c)
+        n = length (chainOf (next (p .state) (start i c) .table) c)
 
         q : Search
         q = record { lane = i; code = c; started = suc (length before) }
 
-        runs : RunsAt h i c q es u n
-        runs = rw (length-snoc before (startEvent i c r), ledger-call h before (p .state) (start i c) r (p .at .course .answers))
-            (runs-recounted (p .at .course .recount) (runs-start (p .at .invariant .tied) (past h) i c (ap (λ (r : Answer). r .status) (told p) ∙ z)
-            (past-at h before (p .state) (start i c) r (since ++ rest) t (p .at))))
+        fed-start : ledger es ≡ fedCall (suc (length before)) o (answer (p .state) (start i c)) (ledger before)
+        fed-start = ap (λ (e : Event). ledger (before ++ (e ∷ []))) (sym is) ∙ ledger-call h before (p .state) (p .memory) (start i c) (p .at .stands)
 
-        w : Goes es q i n since
-        w = timed h i c q since rest es u t next-at n runs f
+        follow : events (left (p .memory) o) (p .calls) ≡ since ++ rest
+        follow = append-cancel-left es _ _
+            (sym (next-at .all) ∙ (all ∙ (ap (λ (l : List Event). l ++ rest) (sym (append-snoc before (startEvent i c r) since)) ∙ append-assoc es since rest)))
 
-pub belt-course : EveryCourse (λ (h : List Event) (m : List ℕ). Belt h)
-belt-course z fit h t c m v = timed-start h (fresh z) t (at-fresh z fit h t c)
+        runs : RunsAt h i c q es (next (p .state) (start i c)) n
+        runs = rw (length-snoc before (startEvent i c r), fed-start)
+            (runs-start (p .at .invariant .tied) (past h) i c (ap (λ (r : Answer). r .status) (p .is) ∙ z)
+            (past-at h before (p .state) (p .memory) (start i c) (p .calls) (p .at)))
+
+        t : Goes es q i n since
+        t = timed h i c q (p .calls) es _ _ next-at n runs since rest follow f
 
 pub belt : EveryList (λ (h : List Event) (m : List ℕ). Belt h)
-belt = every-list (λ (h : List Event) (m : List ℕ). Belt h) belt-course
+belt m c p n ok ks s = timed-start (left m (set-up c p n)) ks (fresh (sized c p n)) (at-set-up m c p n ok ks s)
 
 -- ---- n, in the memory
 
-pub chains-counted-course : EveryCourse ChainsCounted
-chains-counted-course = every-end ChainsCounted (λ h m s t v c. rw (t .read) (sym (records-chained h (v .tied) c)))
-
 pub chains-counted : EveryList ChainsCounted
-chains-counted = every-list ChainsCounted chains-counted-course
+chains-counted = every-end ChainsCounted (λ h m s t v c. rw (t .read) (sym (records-chained h (v .tied) c)))
 
 -- ---- what being on time says of the steps, in other words
 

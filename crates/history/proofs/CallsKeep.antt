@@ -1,8 +1,7 @@
--- A fresh state has the invariant, and every call keeps it; and what a call moves into done queues.
+-- A fresh state has the invariant, and every call keeps it.
 pub mod SlotFacts
 pub mod Respects
 pub mod Unseen
-pub mod Recounts
 pub mod Sections
 pub mod LookupSteps
 pub mod StartStep
@@ -16,4 +15,3 @@ pub mod EveryCall
 pub mod Lookups
 pub mod Runs
 pub mod Start
-pub mod DoneMoves

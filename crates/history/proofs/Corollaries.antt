@@ -1,5 +1,5 @@
--- Corollaries for a supervisor, stated as demand 3 is: over every course of states from a fresh table, and so over every list of calls after an accepted
--- set-up. h are the events and m is the memory after them; "the next call" is any call made then.
+-- Corollaries for a supervisor, stated as `Demand3` is: over every accepted set-up of any memory and every list of calls after it. h are the list's
+-- events and m is the memory after it; "the next call" is any call made then.
 use Prim.Native.Nat.{ℕ, _≤_}
 use mathlib.Core.Path.{_≡_, refl, sym, ap, subst, _∙_}
 use mathlib.Core.Logic.{_≢_}
@@ -9,19 +9,33 @@ use native.Mathlib.Omega.{arith}
 use lib.ListN.{length, length-append}
 use Rattle.model.specs.State.{State}
 use Rattle.model.specs.Rules.{Op, Answer, answer, fresh}
-use Rattle.model.specs.Calls.{on-state, reply}
-use Rattle.model.specs.Ledger.{Section, Search, Ledger, Event, ledgerFrom, ledger, isAnswer, search, Came, Explained, Holds, stepEvent}
+use Rattle.model.specs.Memory.{state}
+use Rattle.model.specs.Calls.{Call, set-up, on-state, sized, reply, left, leftAll}
+use Rattle.model.specs.Ledger.{Section, Search, Ledger, Event, ledgerFrom, ledger, isAnswer, search, events}
+use Rattle.model.specs.Ledger.{Came, Explained, Holds, stepEvent, RefusesSetUps}
 use Rattle.history.proofs.Ties.Invariant.{Invariant, Anchored, inChain, retained}
 use Rattle.history.proofs.OverLists.Instants.{past, Unchanged, window-unchanged}
 use Rattle.history.proofs.OverLists.OneEach.{ledger-one}
 use Rattle.history.proofs.OverLists.OneSection.{OneSection, one-section}
 use Rattle.history.proofs.OverLists.Stands.{Stands, reply-on}
-use Rattle.history.proofs.OverLists.ListInvariant.{At}
+use Rattle.history.proofs.OverLists.ListInvariant.{At, to-end}
 use Rattle.history.proofs.OverLists.OneList.{FoundEnd, found-end, found-holds}
-use Rattle.history.proofs.OverLists.EveryCourse.{EveryCourse, EveryList, every-list}
-use Rattle.history.proofs.OverLists.EveryCourse.{at-fresh, every-end}
-use Rattle.history.proofs.Demand3.{demand-course}
+use Rattle.history.proofs.Demand3.{demand3, at-set-up}
 use Rattle.history.proofs.NewSlots.{Unused, Enters, NewSlots, enters-unused}
+
+-- P holds of every list, by its events and the memory after it; `EveryList Demand` is `Demand3`
+abbrev pub EveryList : (List Event → List ℕ → Type 0) → Type 0
+EveryList P =
+    (m : List ℕ) (c p n : ℕ) → reply m (set-up c p n) .status ≡ 0
+    → (ks : List Call) → let m₀ = left m (set-up c p n) in RefusesSetUps m₀ ks → P (events m₀ ks) (leftAll m₀ ks)
+
+-- what the invariant gives at the end of a list
+pub every-end : (P : List Event → List ℕ → Type 0)
+    → ((h : List Event) (m : List ℕ) (s : State) → Stands s m → Invariant (past h) (length h) s (ledger h) → P h m) → EveryList P
+every-end P f m c p n ok ks r =
+    let m₀ = left m (set-up c p n) in
+    let e = to-end (events m₀ ks) ks [] (fresh (sized c p n)) m₀ (at-set-up m c p n ok ks r) in
+    f (events m₀ ks) (leftAll m₀ ks) (e .state) (e .stands) (e .invariant)
 
 -- ---- a code looked up twice
 
@@ -75,22 +89,22 @@ reply-unused : {past : ℕ → Ledger} {k : ℕ} {s : State} {g : Ledger} {m : L
 reply-unused {s = s} {g} v t o e =
     subst (λ (r : Answer). r .status ≡ 0 → Unused s g (r .a)) (sym (reply-on t o)) (enters-unused (v .tied) o e)
 
-pub new-slots-course : EveryCourse NewSlots
-new-slots-course = every-end NewSlots (λ h m s t v o w z. rw (t .read) (reply-unused v t o w z))
-
 pub new-slots : EveryList NewSlots
-new-slots = every-list NewSlots new-slots-course
+new-slots = every-end NewSlots (λ h m s t v o w z. rw (t .read) (reply-unused v t o w z))
 
-pub same-twice-course : EveryCourse SameTwice
-same-twice-course s fit h t k m v x y same starts order still = whole x order (omega arith) refl ∙ sym (whole y (omega arith) starts same)
+pub same-twice : EveryList SameTwice
+same-twice m c p n ok ks s x y same starts order still = whole x order (omega arith) refl ∙ sym (whole y (omega arith) starts same)
   where
+    h : List Event
+    h = events (left m (set-up c p n)) ks
+
     inside : instantBefore y ≤ length h
     inside = omega (arith, simp length-append at (ap length (y .came .all)))
 
     -- the answer of each is the whole search as of the start of x
     whole : (z : AnsweredLookup h) → instantBefore z ≤ instantBefore y → x .noted .started ≤ z .noted .started → x .noted .code ≡ z .noted .code
         → z .answer ≡ search (past h (x .noted .started)) (x .noted .code)
-    whole z short later code = go (demand-course s fit h t k m v .explained (z .lane) (z .answer) (z .came) (z .isAnswered))
+    whole z short later code = go (demand3 m c p n ok ks s .explained (z .lane) (z .answer) (z .came) (z .isAnswered))
       where
         go : Explained h (z .lane) (z .answer) (z .came .before) → z .answer ≡ search (past h (x .noted .started)) (x .noted .code)
         go e =
@@ -100,37 +114,39 @@ same-twice-course s fit h t k m v x y same starts order still = whole x order (o
             ∙ window-unchanged (x .noted .code) h (x .noted .started) (instantBefore y) (e .instant)
             (omega arith) (omega (arith, e .notAfter)) inside still)
 
-pub same-twice : EveryList SameTwice
-same-twice = every-list SameTwice same-twice-course
-
-pub never-another-course : EveryCourse NeverAnother
-never-another-course z fit h t k m v i r c b w = go (found-end h (fresh z) t a i r c b w)
+pub never-another : EveryList NeverAnother
+never-another m c p n ok ks s i r a b w = go (found-end m₀ ks (fresh (sized c p n)) start i r a b w)
   where
-    a : At h [] (fresh z) h t
-    a = at-fresh z fit h t k
+    m₀ : List ℕ
+    m₀ = left m (set-up c p n)
 
-    go : FoundEnd h (fresh z) t a i r (c .before) → NotAnother h m i r (c .before)
+    h : List Event
+    h = events m₀ ks
+
+    start : At h [] (fresh (sized c p n)) m₀ ks
+    start = at-set-up m c p n ok ks s
+
+    go : FoundEnd m₀ ks (fresh (sized c p n)) i r (a .before) → NotAnother h (leftAll m₀ ks) i r (a .before)
     go f = record {
       finder = f .finder;
       isOpen = f .isOpen;
       ofLane = f .ofLane;
-      sameCode = λ x u l z₁ q j e b d k o. sym (o .code) ∙ found-holds h (fresh z) t a m v i r (c .before) f (rw (f .onlyFinder x u l) at z₁) q j e .code;
-      notGiven = λ x u l z₁ o w n e. other (rw (f .onlyFinder x u l) at z₁) (rw e at (reply-unused (f .invariant) v o w n));
+      sameCode = λ x u l z q j e b d k o. sym (o .code) ∙ found-holds m₀ ks (fresh (sized c p n)) i r (a .before) f (rw (f .onlyFinder x u l) at z) q j e .code;
+      notGiven = λ x u l z o w t e. other (rw (f .onlyFinder x u l) at z) (rw e at (reply-unused (f .invariant) (f .stands) o w t));
     }
       where
-        other : List·Memᴰ (f .finder) (ledger h .sections) → Unused t (ledger h) (r .b) → ⊥
-        other x u = unused-anchored (f .finder) (r .b) u (f .held .holds x .1)
-
-pub never-another : EveryList NeverAnother
-never-another = every-list NeverAnother never-another-course
+        other : List·Memᴰ (f .finder) (ledger h .sections) → Unused (f .state) (ledger h) (r .b) → ⊥
+        other z u = unused-anchored (f .finder) (r .b) u (f .held .holds z .1)
 
 -- ---- a lane has at most one open section
 
-pub sections-one-course : EveryCourse (λ (h : List Event) (m : List ℕ). OneSection (ledger h))
-unfolding ledgerFrom
-sections-one-course z fit h t k m v =
-    one-section h h [] [] (fresh z) t (subst (λ (es : List Event). At h [] (fresh z) es t) (sym (append-nil h)) (at-fresh z fit h t k))
-    (λ a b l k e. absurd (List·Memᴰ·not-nil l))
-
 pub sections-one : EveryList (λ (h : List Event) (m : List ℕ). OneSection (ledger h))
-sections-one = every-list (λ (h : List Event) (m : List ℕ). OneSection (ledger h)) sections-one-course
+unfolding ledgerFrom
+sections-one m c p n ok ks r =
+    one-section h ks [] (fresh (sized c p n)) m₀ (at-set-up m c p n ok ks r) (λ a b l k e. absurd (List·Memᴰ·not-nil l)) h [] (sym (append-nil h))
+  where
+    m₀ : List ℕ
+    m₀ = left m (set-up c p n)
+
+    h : List Event
+    h = events m₀ ks

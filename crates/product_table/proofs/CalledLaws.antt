@@ -9,9 +9,8 @@ use Rattle.model.specs.Calls.{Call}
 use Rattle.model.specs.Labels.{readReply}
 use Rattle.access.specs.declared.Answer.{Answer}
 use Rattle.access.specs.Contract.{five, Does}
-use Rattle.carry.specs.Contract.{Carries}
 use Rattle.labels.specs.Writing.{Writes}
-use Rattle.product_table.specs.Called.{answerLength, shortAnswer, answerWords, outcome, answering, Called, CarriedOver, LabelRead, LabelWritten}
+use Rattle.product_table.specs.Called.{answerLength, shortAnswer, answerWords, outcome, answering, Called, LabelRead, LabelWritten}
 
 module _ (a : List ℕ) where
   -- fewer than five words are lent
@@ -28,9 +27,6 @@ module _ (a : List ℕ) where
   module _ (h : answerLength ≤ length a) (r : Answer) (b : List ℕ) (e : b ≡ answerWords (five r) ++ drop answerLength a) where
     pub answered : (k : Call) (m n : List ℕ) → Does k m r n → Called k m a n b (r .status)
     answered k m n d = done h r _ (d .answer) m n _ b (d .memory) e
-
-    pub answered-carried : (old m n : List ℕ) → Carries old m r n → CarriedOver old m a n b (r .status)
-    answered-carried old m n d = done h r _ (d .answer) m n _ b (d .memory) e
 
     pub answered-read : (text : List ℕ) → five r ≡ readReply text → LabelRead text a b (r .status)
     answered-read text d = done h r _ d text text text b refl e

@@ -1,5 +1,5 @@
 -- What a function for C leaves behind: the status, the words of the memory or the bytes of the text, and the words of the answer, for every input (document
--- 01, "Parts and sources"; document 02, requests 2 and 7).
+-- 01, "Parts and sources"; document 02, request 2).
 use Prim.Native.Nat.{ℕ}
 use mathlib.Core.Path.{_≡_}
 use mathlib.Core.Bool.{cond}
@@ -9,7 +9,6 @@ use lib.Dec.{ltb}
 use Rattle.model.specs.Rules.{Answer as Reply}
 use Rattle.model.specs.Calls.{Call, reply, left}
 use Rattle.model.specs.Labels.{readReply, writeReply, written}
-use Rattle.carry.specs.Carrying.{carryReply, carried}
 
 -- how many words an answer has
 abbrev pub answerLength : ℕ
@@ -43,12 +42,6 @@ answering r m n a =
 -- the call k on m and a returned s and left n and b
 abbrev pub Called : Call → List ℕ → List ℕ → List ℕ → List ℕ → ℕ → Type 0
 Called k m a n b s = outcome s n b ≡ answering (reply m k) m (left m k) a
-
--- ---- the carry
-
--- to carry the memory `old` over into m, with the words a lent, returned s and left n and b; the old memory is lent to be read alone
-abbrev pub CarriedOver : List ℕ → List ℕ → List ℕ → List ℕ → List ℕ → ℕ → Type 0
-CarriedOver old m a n b s = outcome s n b ≡ answering (carryReply old m) m (carried old m) a
 
 -- ---- labels, which have no memory
 

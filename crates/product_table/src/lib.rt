@@ -7,7 +7,7 @@ ghost use Rattle.model.specs.Rules.{add, replace, delete, begin, end, start, st
 ghost use Rattle.model.specs.Calls.{set-up, on-state};
 ghost use Rattle.access.specs.Contract.{five};
 ghost use Rattle.calls.specs.CallOf.{callOf};
-ghost use Rattle.product_table.specs.Called.{answerLength, answerWords, Called, CarriedOver, LabelRead, LabelWritten};
+ghost use Rattle.product_table.specs.Called.{answerLength, answerWords, Called, LabelRead, LabelWritten};
 use calls::Call;
 use calls::Op;
 
@@ -179,19 +179,6 @@ pub extern "C" fn pt_awaited(memory: &mut [u32], answer: &mut [u32]) -> u32
     ensures { λ s. ⌜ Called (on-state awaited) (now (memory .entry)) (now (answer .entry)) (now (memory .exit)) (now (answer .exit)) s ⌝ }
 {
     answer_call(memory, answer, Call::OnState(Op::Awaited))
-}
-
-// A table of version 2 carried over into a second memory.
-#[no_mangle]
-pub extern "C" fn pt_carry(old: &[u32], memory: &mut [u32], answer: &mut [u32]) -> u32
-    ensures { λ s. ⌜ CarriedOver (now (old .entry)) (now (memory .entry)) (now (answer .entry)) (now (memory .exit)) (now (answer .exit)) s ⌝ }
-{
-    if answer.len() < ANSWER_LENGTH {
-        return SHORT_ANSWER;
-    }
-    let r = carry::carry(old, memory);
-    write_answer(answer, r);
-    r.status
 }
 
 // ---- labels: no memory, and no call of a list

@@ -7,4 +7,3 @@ pub mod NextLanes
 pub mod NextTables
 pub mod Next
 pub mod Fresh
-pub mod Recounted

@@ -1,4 +1,4 @@
 -- `WrittenLaws` for runs of words, `FreshLaws` for the words of a fresh table, `SetUpLaws` for the ways out of set-up.
-pub mod WrittenLaws
+mod WrittenLaws
 mod FreshLaws
 pub mod SetUpLaws

@@ -125,7 +125,7 @@ fn write_slots(m: &mut [u32], first: usize, slots: u32)
 }
 
 // Writes the words of a fresh table of these sizes. All words past its total stay.
-pub fn write_fresh(m: &mut [u32], z: words::Sizes)
+fn write_fresh(m: &mut [u32], z: words::Sizes)
     requires { ⌜ (sizesFit (sizesOf z) ≡ true) × (total (sizesOf z) ≤ length (now m)) ⌝ }
     ensures { λ _. ⌜ now (m .exit) ≡ stored (fresh (sizesOf z)) (now (m .entry)) ⌝ }
 {
@@ -143,7 +143,7 @@ pub fn write_fresh(m: &mut [u32], z: words::Sizes)
 }
 
 // The number of words of a table of these sizes.
-pub fn total_words(z: words::Sizes) -> u32
+fn total_words(z: words::Sizes) -> u32
     requires { ⌜ sizesFit (sizesOf z) ≡ true ⌝ }
     ensures { λ r. ⌜ r ≡ total (sizesOf z) ⌝ }
 {

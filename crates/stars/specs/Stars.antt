@@ -277,7 +277,7 @@ lastStepNeeded =
 
 -- ---- request 6: line lengths kept; its lists are those of `scripts`, and `tallies` adds up what they move
 
--- a table of version 1 is refused; and from request 7 on one of version 2
+-- a table of an older version is refused
 abbrev pub olderVersion : List Line
 olderVersion = op awaited 3 0 0 0 0 ∷ op (clock 0) 3 0 0 0 0 ∷ op (add 0 17 25 1) 3 0 0 0 0 ∷ []
 

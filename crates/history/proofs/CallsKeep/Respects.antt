@@ -105,29 +105,20 @@ respects-still k t g g′ e f = record {
 
 -- ---- the frame: what a call does not touch
 
--- at the same instant, or a later one
-pub sections-kept : {k n : ℕ} {e : Engine} {zs : List Section} → k ≤ n → (f : Engine) → ((i : ℕ) → laneAt f i .reading ≡ laneAt e i .reading)
-    → Sections k e zs → Sections n f zs
-sections-kept l f h s = record {
+pub sections-same : {k : ℕ} {e : Engine} {zs : List Section} (f : Engine) → ((i : ℕ) → laneAt f i .reading ≡ laneAt e i .reading)
+    → Sections k e zs → Sections (suc k) f zs
+sections-same f h s = record {
   reading = λ z m. h (z .lane) ∙ s .reading z m;
   section = λ i r. s .section i (sym (h i) ∙ r);
   opened = λ z m. omega (arith, s .opened z m);
 }
 
-pub outs-kept : {k n : ℕ} {e : Engine} {os : List Out} → k ≤ n → (f : Engine) → ((x : ℕ) → queued x f ≡ queued x e) → Outs k e os → Outs n f os
-outs-kept l f h s = record {
+pub outs-same : {k : ℕ} {e : Engine} {os : List Out} (f : Engine) → ((x : ℕ) → queued x f ≡ queued x e) → Outs k e os → Outs (suc k) f os
+outs-same f h s = record {
   out = λ x p. s .out x (rw (h x) at p);
   isQueued = λ o m. rw (h (o .slot)) (s .isQueued o m);
   before = λ o z m n. omega (arith, s .before o z m n);
 }
-
--- a call later
-pub sections-same : {k : ℕ} {e : Engine} {zs : List Section} (f : Engine) → ((i : ℕ) → laneAt f i .reading ≡ laneAt e i .reading)
-    → Sections k e zs → Sections (suc k) f zs
-sections-same f h s = sections-kept (omega arith) f h s
-
-pub outs-same : {k : ℕ} {e : Engine} {os : List Out} (f : Engine) → ((x : ℕ) → queued x f ≡ queued x e) → Outs k e os → Outs (suc k) f os
-outs-same f h s = outs-kept (omega arith) f h s
 
 -- ---- what is shown of each call
 

@@ -21,7 +21,6 @@ use Rattle.representation.proofs.Causes.Passed.{next-accepted, answer-accepted,
 use Rattle.representation.proofs.Causes.Accepted.{accepts}
 use Rattle.representation.proofs.WellFormed.{LookupFits, WellFormed}
 use Rattle.representation.proofs.CallsWellFormed.Next.{status}
-use Rattle.representation.proofs.CallsWellFormed.Recounted.{recounted, lane-recounted}
 use Rattle.history.proofs.Ties.Halves.{Looks}
 use Rattle.history.proofs.Ties.Invariant.{Tied}
 use Rattle.history.proofs.CallsKeep.SlotFacts.{reading-online}
@@ -35,12 +34,6 @@ pub record Runs (past : ℕ → Ledger) (k : ℕ) (s : State) (g : Ledger) (q : 
   pub position : ℕ
   pub lookup : laneOf s i .lookup ≡ running c position
   pub looks : Looks past k (s .table) g q i c n position
-
--- with counts renumbered
-pub runs-recounted : {past : ℕ → Ledger} {k : ℕ} {s : State} {g : Ledger} {q : Search} {i c n : ℕ} (f : ℕ → ℕ) → Runs past k s g q i c n
-    → Runs past k (recounted f s) g q i c n
-runs-recounted {s = s} {i = i} f r =
-    record { position = r .position; lookup = lane-recounted f (s .engine) i .lookup ∙ r .lookup; looks = r .looks }
 
 -- no step of it is refused: the lane is known, is on, and its lookup runs
 pub step-taken : {s : State} → WellFormed s → (i c p : ℕ) → laneOf s i .lookup ≡ running c p → refusal s (step i) ≡ 0

@@ -1,129 +1,150 @@
--- The invariant over a course of states: it holds before each call of the course, and what was found before stays held to the end.
+-- The invariant over a list of calls on a memory: it holds before each call of the list, and what was found before stays held to the end.
 use Prim.Native.Nat.{ℕ, suc}
-use mathlib.Core.Path.{_≡_, sym, ap, subst, _∙_}
-use mathlib.Core.List.{List, [], _∷_, _++_, append-nil}
+use mathlib.Core.Path.{_≡_, refl, sym, ap, subst, _∙_}
+use mathlib.Core.List.{List, [], _∷_, _++_, append-nil, nil≢cons, head-eq-of-cons-eq, tail-eq-of-cons-eq}
 use lib.ListN.{length}
 use lib.Seq.{append-snoc}
 use Rattle.model.specs.State.{Product, State}
 use Rattle.model.specs.Rules.{Op, Answer, answer, next}
-use Rattle.model.specs.Calls.{Call, set-up, on-state}
-use Rattle.model.specs.Ledger.{Section, Ledger, Event, fedCall, ledger}
+use Rattle.model.specs.Memory.{state}
+use Rattle.model.specs.Calls.{Call, set-up, on-state, reply, left, leftAll}
+use Rattle.model.specs.Ledger.{Section, Ledger, Event, fedCall, ledger, events, RefusesSetUps}
 use Rattle.representation.proofs.CallsWellFormed.Next.{next-wellFormed}
-use Rattle.representation.proofs.CallsWellFormed.Recounted.{recounted, lane-recounted}
+use Rattle.representation.proofs.MemoryCalls.{refused-keeps}
 use Rattle.history.proofs.Ties.Invariant.{Invariant, Held}
 use Rattle.history.proofs.CallsKeep.Respects.{Respects, held-kept, Keeps}
 use Rattle.history.proofs.CallsKeep.Unseen.{keeps-same}
-use Rattle.history.proofs.CallsKeep.Recounts.{keeps-recounted}
 use Rattle.history.proofs.CallsKeep.EveryCall.{keeps-next}
 use Rattle.history.proofs.CallsKeep.Lookups.{invariant-same, looking-next}
 use Rattle.history.proofs.OverLists.Instants.{past, past-seam, ledger-snoc, length-snoc}
-use Rattle.history.proofs.OverLists.Courses.{Course, Leads, after}
+use Rattle.history.proofs.OverLists.Stands.{Stands, reply-on, stands-next}
 
--- the event of call k, answered r
-abbrev pub event : Call → Answer → Event
-event k r = record { call = k; answer = r }
+-- the event of call k on memory m
+abbrev pub event : List ℕ → Call → Event
+event m k = record { call = k; answer = reply m k }
 
--- ---- the course, from any of its events on
+-- ---- the list, from any of its calls on
 
--- of the events h, those of `done` have happened; the state is s, and the events es lead from it to t
-pub record At (h done : List Event) (s : State) (es : List Event) (t : State) : Type 0 where
-  pub all : h ≡ done ++ es
-  pub course : Course s es t
+-- of the list h, the events `done` have happened; memory m holds state s, and the calls ks follow
+pub record At (h done : List Event) (s : State) (m : List ℕ) (ks : List Call) : Type 0 where
+  pub all : h ≡ done ++ events m ks
+  pub stands : Stands s m
+  pub refuses : RefusesSetUps m ks
   pub invariant : Invariant (past h) (length done) s (ledger done)
 
+-- the state after a call; a set-up of the list is refused
+abbrev pub after : State → Call → State
+after s (set-up c p n) = s
+after s (on-state o) = next s o
+
 module _ (h : List Event) where
-  module _ (done : List Event) (s : State) (k : Call) (r : Answer) (es : List Event) (t : State) (a : At h done s (event k r ∷ es) t) where
+  module _ (done : List Event) (s : State) (m : List ℕ) (k : Call) (ks : List Call) (a : At h done s m (k ∷ ks)) where
     abbrev done′ : List Event
-    done′ = done ++ (event k r ∷ [])
+    done′ = done ++ (event m k ∷ [])
 
-    -- the state after the call
-    abbrev pub stateAfter : State
-    stateAfter = after s k r (Leads es t) (a .course)
-
-    all′ : h ≡ done′ ++ es
+    all′ : h ≡ done′ ++ events (left m k) ks
+    unfolding events
     all′ = rw append-snoc (a .all)
 
     -- the ledger of the next instant is the one fed with this call
     pub past-next : past h (suc (length done)) ≡ ledger done′
-    past-next = ap (past h) (sym (length-snoc done (event k r))) ∙ past-seam h done′ es all′
+    past-next = ap (past h) (sym (length-snoc done (event m k))) ∙ past-seam h done′ (events (left m k) ks) all′
 
     -- from what is shown of the call
-    later-of : (s′ : State) (g′ : Ledger) → ledger done′ ≡ g′ → Course s′ es t → Invariant (past h) (suc (length done)) s′ g′ → At h done′ s′ es t
-    later-of s′ g′ e c p = record { all = all′; course = c; invariant = rw (length-snoc done (event k r), e) p }
+    later-of : (s′ : State) (g′ : Ledger) → ledger done′ ≡ g′ → Stands s′ (left m k) → RefusesSetUps (left m k) ks
+        → Invariant (past h) (suc (length done)) s′ g′ → At h done′ s′ (left m k) ks
+    later-of s′ g′ e v r p = record { all = all′; stands = v; refuses = r; invariant = rw (length-snoc done (event m k), e) p }
 
-  module _ (done : List Event) (s : State) where
-    -- a set-up is not seen
-    pub ledger-setUp : (c p n : ℕ) (r : Answer) → ledger (done ++ (event (set-up c p n) r ∷ [])) ≡ ledger done
+  module _ (done : List Event) (s : State) (m : List ℕ) where
+    -- a refused set-up is not seen
+    pub ledger-setUp : (c p n : ℕ) → ledger (done ++ (event m (set-up c p n) ∷ [])) ≡ ledger done
     unfolding fedCall
-    ledger-setUp c p n r = ledger-snoc done (event (set-up c p n) r)
+    ledger-setUp c p n = ledger-snoc done (event m (set-up c p n))
 
     -- a call, with its state's answer
-    pub ledger-call : (o : Op) (r : Answer) → r ≡ answer s o
-        → ledger (done ++ (event (on-state o) r ∷ [])) ≡ fedCall (suc (length done)) (on-state o) (answer s o) (ledger done)
-    ledger-call o r e = ledger-snoc done (event (on-state o) r) ∙ ap (λ (r : Answer). fedCall (suc (length done)) (on-state o) r (ledger done)) e
+    pub ledger-call : (o : Op) → Stands s m
+        → ledger (done ++ (event m (on-state o) ∷ [])) ≡ fedCall (suc (length done)) (on-state o) (answer s o) (ledger done)
+    ledger-call o v = ledger-snoc done (event m (on-state o))
+        ∙ ap (λ (r : Answer). fedCall (suc (length done)) (on-state o) r (ledger done)) (reply-on v o)
 
-    module _ (o : Op) (r : Answer) (es : List Event) (t : State) (a : At h done s (event (on-state o) r ∷ es) t) where
+    module _ (o : Op) (ks : List Call) (a : At h done s m (on-state o ∷ ks)) where
       pub keeps-at : Keeps (length done) s (next s o) (ledger done) (fedCall (suc (length done)) (on-state o) (answer s o) (ledger done))
-      keeps-at = keeps-next (a .invariant .tied) o (next-wellFormed s o (a .invariant .tied .wellFormed))
+      keeps-at = keeps-next (a .invariant .tied) o (next-wellFormed s o (a .stands .wellFormed))
 
       pub past-at : past h (suc (length done)) ≡ fedCall (suc (length done)) (on-state o) (answer s o) (ledger done)
-      past-at = past-next done s (on-state o) r es t a ∙ ledger-call o r (a .course .answers)
+      past-at = past-next done s m (on-state o) ks a ∙ ledger-call o (a .stands)
 
   -- a call later
-  pub later : (done : List Event) (s : State) (k : Call) (r : Answer) (es : List Event) (t : State) (a : At h done s (event k r ∷ es) t)
-      → At h (done ++ (event k r ∷ [])) (stateAfter done s k r es t a) es t
-  later done s (set-up c p n) r es t a =
-      let same = ledger-setUp done s c p n r in
-      later-of done s (set-up c p n) r es t a s (ledger done) same (a .course)
-      (invariant-same (a .invariant) (past-next done s (set-up c p n) r es t a ∙ same))
-  later done s (on-state o) r es t a =
-      later-of done s (on-state o) r es t a (recounted f (next s o)) _ (ledger-call done s o r (a .course .answers)) (a .course .onward) (record {
-        tied = keeps-recounted f (a .course .inRange) k .tied;
-        looking = λ i. rw (lane-recounted f (next s o .engine) i .lookup) (looking-next (a .invariant) o k (past-at done s o r es t a) i);
-      })
-    where
-      f : ℕ → ℕ
-      f = a .course .recount
-
-      k : Keeps (length done) s (next s o) (ledger done) (fedCall (suc (length done)) (on-state o) (answer s o) (ledger done))
-      k = keeps-at done s o r es t a
+  pub later : (done : List Event) (s : State) (m : List ℕ) (k : Call) (ks : List Call) → At h done s m (k ∷ ks)
+      → At h (done ++ (event m k ∷ [])) (after s k) (left m k) ks
+  unfolding RefusesSetUps
+  later done s m (set-up c p n) ks a =
+      let same = ledger-setUp done s m c p n in
+      later-of done s m (set-up c p n) ks a s (ledger done) same (rw (refused-keeps m (set-up c p n) (a .refuses .0)) (a .stands)) (a .refuses .1)
+      (invariant-same (a .invariant) (past-next done s m (set-up c p n) ks a ∙ same))
+  later done s m (on-state o) ks a =
+      let k = keeps-at done s m o ks a in
+      later-of done s m (on-state o) ks a (next s o) _ (ledger-call done s m o (a .stands)) (stands-next (a .stands) o) (a .refuses)
+      (record { tied = k .tied; looking = looking-next (a .invariant) o k (past-at done s m o ks a) })
 
   -- and what it leaves to readers
-  respects-later : (done : List Event) (s : State) (k : Call) (r : Answer) (es : List Event) (t : State) (a : At h done s (event k r ∷ es) t)
-      → Respects (length done) (s .table) (stateAfter done s k r es t a .table) (ledger done) (ledger (done ++ (event k r ∷ [])))
-  respects-later done s (set-up c p n) r es t a = rw (ledger-setUp done s c p n r) (keeps-same (a .invariant .tied) .respects)
-  respects-later done s (on-state o) r es t a = rw (ledger-call done s o r (a .course .answers)) (keeps-at done s o r es t a .respects)
+  respects-later : (done : List Event) (s : State) (m : List ℕ) (k : Call) (ks : List Call) → At h done s m (k ∷ ks)
+      → Respects (length done) (s .table) (after s k .table) (ledger done) (ledger (done ++ (event m k ∷ [])))
+  respects-later done s m (set-up c p n) ks a = rw (ledger-setUp done s m c p n) (keeps-same (a .invariant .tied) .respects)
+  respects-later done s m (on-state o) ks a = rw (ledger-call done s m o (a .stands)) (keeps-at done s m o ks a .respects)
 
   -- ---- to an event, and to the end
 
-  -- the course after the events `before`, with those of `rest` to come
-  pub record Point (before rest : List Event) (t : State) : Type 0 where
+  -- the list at the call of event e, which came after `before`; the memory at the end is n
+  pub record Point (before : List Event) (e : Event) (n : List ℕ) : Type 0 where
     pub state : State
-    pub at : At h before state rest t
+    pub memory : List ℕ
+    pub call : Call
+    pub calls : List Call
+    pub at : At h before state memory (call ∷ calls)
+    pub is : event memory call ≡ e
+    pub ends : leftAll memory (call ∷ calls) ≡ n
 
-  pub point : (before rest done : List Event) (s t : State) → At h done s (before ++ rest) t → Point (done ++ before) rest t
-  point [] rest done s t a = rw append-nil (record { state = s; at = a })
-  point (e ∷ before) rest done s t a = subst (λ (l : List Event). Point l rest t) (append-snoc done e before)
-      (point before rest (done ++ (e ∷ [])) _ t (later done s (e .call) (e .answer) (before ++ rest) t a))
+  pub point : (ks : List Call) (done : List Event) (s : State) (m : List ℕ) → At h done s m ks → (before rest : List Event) (e : Event)
+      → events m ks ≡ before ++ e ∷ rest → Point (done ++ before) e (leftAll m ks)
+  unfolding events leftAll
+  point [] done s m a [] rest e p = absurd (nil≢cons p)
+  point [] done s m a (b ∷ before) rest e p = absurd (nil≢cons p)
+  point (k ∷ ks) done s m a [] rest e p =
+      rw append-nil (record { state = s; memory = m; call = k; calls = ks; at = a; is = head-eq-of-cons-eq p; ends = refl })
+  point (k ∷ ks) done s m a (b ∷ before) rest e p =
+      regroup (head-eq-of-cons-eq p)
+      (point ks (done ++ (event m k ∷ [])) (after s k) (left m k) (later done s m k ks a) before rest e (tail-eq-of-cons-eq p))
+    where
+      regroup : {x : Event} → x ≡ b → Point ((done ++ (x ∷ [])) ++ before) e (leftAll (left m k) ks)
+          → Point (done ++ (b ∷ before)) e (leftAll (left m k) ks)
+      regroup q x = rw (← q, ← append-snoc) x
 
-  -- the end of the course: what was held before is held
-  pub record End (done : List Event) (s t : State) : Type 0 where
-    pub invariant : Invariant (past h) (length h) t (ledger h)
+  -- the end of the list, with memory n: what was held before is held
+  pub record End (done : List Event) (s : State) (n : List ℕ) : Type 0 where
+    pub state : State
+    pub stands : Stands state n
+    pub invariant : Invariant (past h) (length h) state (ledger h)
     pub kept : (z : Section) (x : ℕ) (p : Product) → Held (length done) (s .table) (ledger done) z x p
-        → Held (length h) (t .table) (ledger h) z x p
+        → Held (length h) (state .table) (ledger h) z x p
 
-  pub to-end : (es done : List Event) (s t : State) → At h done s es t → End done s t
-  to-end [] done s t a = subst (End done s) (a .course) (record {
+  pub to-end : (ks : List Call) (done : List Event) (s : State) (m : List ℕ) → At h done s m ks → End done s (leftAll m ks)
+  unfolding events leftAll
+  to-end [] done s m a = record {
+    state = s;
+    stands = a .stands;
     invariant = subst (λ (d : List Event). Invariant (past h) (length d) s (ledger d)) whole (a .invariant);
     kept = λ z x p v. subst (λ (d : List Event). Held (length d) (s .table) (ledger d) z x p) whole v;
-  })
+  }
     where
       whole : done ≡ h
       whole = sym (a .all ∙ append-nil done)
-  to-end (e ∷ es) done s t a = onward (to-end es (done ++ (e ∷ [])) _ t (later done s (e .call) (e .answer) es t a))
+  to-end (k ∷ ks) done s m a = onward (to-end ks (done ++ (event m k ∷ [])) (after s k) (left m k) (later done s m k ks a))
     where
-      onward : End (done ++ (e ∷ [])) (stateAfter done s (e .call) (e .answer) es t a) t → End done s t
-      onward n = record {
-        invariant = n .invariant;
-        kept = λ z x p v. n .kept z x p (rw (length-snoc done e) (held-kept (respects-later done s (e .call) (e .answer) es t a) z x p v));
+      onward : End (done ++ (event m k ∷ [])) (after s k) (leftAll (left m k) ks) → End done s (leftAll (left m k) ks)
+      onward e = record {
+        state = e .state;
+        stands = e .stands;
+        invariant = e .invariant;
+        kept = λ z x p v. e .kept z x p (rw (length-snoc done (event m k)) (held-kept (respects-later done s m k ks a) z x p v));
       }

@@ -1,21 +1,23 @@
 -- A lane has at most one open section: so "the section then open on that lane", the finder's, is one.
 use Prim.Native.Nat.{ℕ, suc}
-use mathlib.Core.Path.{_≡_, sym, ap, subst, _∙_}
+use mathlib.Core.Path.{_≡_, sym, ap, _∙_}
 use mathlib.Core.Logic.{_⊎_, inl, inr}
-use mathlib.Core.List.{List, [], _∷_, _++_, append-nil, List·Memᴰ, List·Memᴰ·cases-cons}
+use mathlib.Core.List.{List, [], _∷_, _++_, append-nil, nil≢cons, head-eq-of-cons-eq, tail-eq-of-cons-eq, List·Memᴰ, List·Memᴰ·cases-cons}
 use lib.Seq.{append-snoc}
 use Rattle.model.specs.State.{State}
 use Rattle.model.specs.Rules.{Op, begin, Answer, firstOf, causes, result, answer}
-use Rattle.model.specs.Calls.{Call, set-up, on-state}
-use Rattle.model.specs.Ledger.{Section, Ledger, Event, sectionOf, sectionOpened, fedCall, ledger}
+use Rattle.model.specs.Calls.{Call, set-up, on-state, left}
+use Rattle.model.specs.Ledger.{Section, Ledger, Event, sectionOf, sectionOpened, fedCall, ledger, events}
 use Rattle.laws.specs.Tests.{clash}
 use Rattle.representation.proofs.Causes.Passed.{call-cases}
 use Rattle.representation.proofs.Causes.Accepted.{accepts}
 use Rattle.representation.proofs.CallsWellFormed.Next.{status}
 use Rattle.history.proofs.Ties.Invariant.{Invariant}
 use Rattle.history.proofs.CallsKeep.EveryCall.{Changed, fed-cases, fedCall-accepted, fedCall-refused}
+use Rattle.history.proofs.OverLists.Instants.{ledger-snoc}
 use Rattle.history.proofs.OverLists.OneEach.{One, one-drops}
-use Rattle.history.proofs.OverLists.ListInvariant.{event, At, ledger-setUp, ledger-call, later}
+use Rattle.history.proofs.OverLists.Stands.{reply-on}
+use Rattle.history.proofs.OverLists.ListInvariant.{event, At, after, later}
 
 abbrev pub sectionLane : Section → ℕ
 sectionLane z = z .lane
@@ -60,15 +62,23 @@ module _ {past : ℕ → Ledger} {k : ℕ} {s : State} {g : Ledger} (v : Invaria
       (λ m. rw (fedCall-refused (suc k) o m g) h)
 
 module _ (h : List Event) where
-  one-later : (done : List Event) (s : State) (k : Call) (r : Answer) (es : List Event) (t : State) → At h done s (event k r ∷ es) t
-      → OneSection (ledger done) → OneSection (ledger (done ++ (event k r ∷ [])))
-  one-later done s (set-up c p n) r es t a v = rw (ledger-setUp h done s c p n r) v
-  one-later done s (on-state o) r es t a v = rw (ledger-call h done s o r (a .course .answers)) (one-next (a .invariant) v o)
+  one-later : (done : List Event) (s : State) (m : List ℕ) (k : Call) (ks : List Call) → At h done s m (k ∷ ks) → OneSection (ledger done)
+      → OneSection (ledger (done ++ (event m k ∷ [])))
+  unfolding fedCall
+  one-later done s m (set-up c p n) ks a v = rw (ledger-snoc done (event m (set-up c p n))) v
+  one-later done s m (on-state o) ks a v =
+      rw (ledger-snoc done (event m (on-state o)), reply-on (a .stands) o) (one-next (a .invariant) v o)
 
-  -- at any instant of the course
-  pub one-section : (before rest done : List Event) (s t : State) → At h done s (before ++ rest) t → OneSection (ledger done)
-      → OneSection (ledger (done ++ before))
-  one-section [] rest done s t a v = rw append-nil v
-  one-section (e ∷ before) rest done s t a v = subst (λ (l : List Event). OneSection (ledger l)) (append-snoc done e before)
-      (one-section before rest (done ++ (e ∷ [])) _ t (later h done s (e .call) (e .answer) (before ++ rest) t a)
-      (one-later done s (e .call) (e .answer) (before ++ rest) t a v))
+  -- at any instant of the list
+  pub one-section : (ks : List Call) (done : List Event) (s : State) (m : List ℕ) → At h done s m ks → OneSection (ledger done)
+      → (before rest : List Event) → events m ks ≡ before ++ rest → OneSection (ledger (done ++ before))
+  unfolding events
+  one-section ks done s m a v [] rest p = rw append-nil v
+  one-section [] done s m a v (b ∷ before) rest p = absurd (nil≢cons p)
+  one-section (k ∷ ks) done s m a v (b ∷ before) rest p =
+      regroup (head-eq-of-cons-eq p)
+      (one-section ks (done ++ (event m k ∷ [])) (after s k) (left m k) (later h done s m k ks a)
+      (one-later done s m k ks a v) before rest (tail-eq-of-cons-eq p))
+    where
+      regroup : {x : Event} → x ≡ b → OneSection (ledger ((done ++ (x ∷ [])) ++ before)) → OneSection (ledger (done ++ (b ∷ before)))
+      regroup q o = rw (← q, ← append-snoc) o
