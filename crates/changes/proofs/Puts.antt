@@ -8,7 +8,7 @@ use borrow.Author.Tests.{eqb-true}
 use Rattle.model.specs.State.{Sizes}
 use Rattle.model.specs.Layout.{chainCount}
 use Rattle.laws.specs.Tests.{and-true, same, other, decide}
-use Rattle.representation.proofs.Addresses.Fields.{Field, top, head, end, mask, lane, slot, Inside, area, row, column, sameField}
+use Rattle.representation.proofs.Addresses.Fields.{Field, top, head, end, mask, lane, slot, yard, Inside, area, row, column, sameField}
 use Rattle.representation.proofs.Addresses.Writes.{Writes, put}
 
 -- ---- the same field
@@ -20,7 +20,8 @@ fieldAt (suc zero) i k = head i
 fieldAt (suc (suc zero)) i k = end k
 fieldAt (suc (suc (suc zero))) i k = mask i
 fieldAt (suc (suc (suc (suc zero)))) i k = lane i k
-fieldAt (suc (suc (suc (suc (suc n))))) i k = slot i k
+fieldAt (suc (suc (suc (suc (suc zero))))) i k = slot i k
+fieldAt (suc (suc (suc (suc (suc (suc n)))))) i k = yard i
 
 fieldAt-field : (f : Field) → fieldAt (area f) (row f) (column f) ≡ f
 unfolding fieldAt
@@ -30,6 +31,7 @@ fieldAt-field (end k) = refl
 fieldAt-field (mask c) = refl
 fieldAt-field (lane i k) = refl
 fieldAt-field (slot i k) = refl
+fieldAt-field (yard y) = refl
 
 pub sameField-same : (f g : Field) → sameField f g ≡ true → f ≡ g
 sameField-same f g e =
@@ -63,6 +65,7 @@ linked c h v (head k) = v (head k)
 linked c h v (end k) = v (end k)
 linked c h v (mask k) = v (mask k)
 linked c h v (lane i k) = v (lane i k)
+linked c h v (yard y) = v (yard y)
 linked c h v (slot i k) = cond (eqb k c) (h i) (v (slot i k))
 
 module _ (z : Sizes) (c : ℕ) where
@@ -72,6 +75,7 @@ module _ (z : Sizes) (c : ℕ) where
   linked-alike h k v e (end i) b = refl
   linked-alike h k v e (mask i) b = refl
   linked-alike h k v e (lane j i) b = refl
+  linked-alike h k v e (yard y) b = refl
   linked-alike h k v e (slot j i) b = ap (λ (x : ℕ). cond (eqb i c) x (v (slot j i))) (e j (b .0))
 
   -- nothing else than stood there
@@ -81,6 +85,7 @@ module _ (z : Sizes) (c : ℕ) where
   linked-same h v e (end k) b = refl
   linked-same h v e (mask k) b = refl
   linked-same h v e (lane j k) b = refl
+  linked-same h v e (yard y) b = refl
   linked-same h v e (slot j k) b =
       elim (decide k c) [
         | same q t u ↦ rw t (e j (b .0) ∙ ap (λ (k : ℕ). v (slot j k)) (sym q))
@@ -95,6 +100,7 @@ module _ (z : Sizes) (c : ℕ) where
   linked-put h k v i x e (end j) b = refl
   linked-put h k v i x e (mask j) b = refl
   linked-put h k v i x e (lane j l) b = refl
+  linked-put h k v i x e (yard y) b = refl
   linked-put h k v i x e (slot j l) b =
       elim (decide l c) [
         | same q t u ↦ rw t (e j (b .0))
@@ -115,6 +121,7 @@ headed h v (end k) = v (end k)
 headed h v (mask k) = v (mask k)
 headed h v (lane i k) = v (lane i k)
 headed h v (slot i k) = v (slot i k)
+headed h v (yard y) = v (yard y)
 
 module _ (z : Sizes) (h : ℕ → ℕ) (v : Field → ℕ) where
   pub headed-same : ((j : ℕ) → j < chainCount → h j ≡ v (head j)) → (f : Field) → Inside z f → headed h v f ≡ v f
@@ -124,6 +131,7 @@ module _ (z : Sizes) (h : ℕ → ℕ) (v : Field → ℕ) where
   headed-same e (mask k) b = refl
   headed-same e (lane j k) b = refl
   headed-same e (slot j k) b = refl
+  headed-same e (yard y) b = refl
 
   -- one of them put
   pub headed-put : (i x : ℕ) → ((j : ℕ) → j < chainCount → h j ≡ cond (eqb j i) x (v (head j))) → (f : Field) → Inside z f → headed h v f ≡ put v (head i) x f
@@ -133,6 +141,7 @@ module _ (z : Sizes) (h : ℕ → ℕ) (v : Field → ℕ) where
   headed-put i x e (mask k) b = refl
   headed-put i x e (lane j k) b = refl
   headed-put i x e (slot j k) b = refl
+  headed-put i x e (yard y) b = refl
 
 -- ---- stores, by other values that agree
 pub writes-alike : {z : Sizes} {m n : List ℕ} {v : Field → ℕ} (w : Field → ℕ) → ((f : Field) → Inside z f → v f ≡ w f) → Writes z m n v → Writes z m n w

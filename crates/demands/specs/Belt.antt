@@ -26,7 +26,7 @@ pub record Figure : Type 0 where
   -- n is the number of the chain's slots in the memory
   pub chained : OfEveryList ChainsCounted
   -- no figure is less: after the list, of a code without a record, an accepted start and steps alone: n go, and step n + 1 answers
-  pub least : (c p x : ℕ) (m a m₀ b : List ℕ) → Called (set-up c p x) m a m₀ b 0 → (xs : List Run) → Ran m₀ xs → NoSetUps xs
+  pub least : (z : Sizes) (m a m₀ b : List ℕ) → Called (set-up z) m a m₀ b 0 → (xs : List Run) → Ran m₀ xs → NoSetUps xs
       → (i k : ℕ) → search (ledger (eventsOf xs)) k ≡ accepted 2 0 0 0 → let n = recordsOn k (ledger (eventsOf xs) .entries) in
       (ys : List Run) → Ran (lastMemory m₀ xs) ys → callsOf ys ≡ alone i k n → (r : Answer) (es : List Event) → eventsOf ys ≡ startEvent i k r ∷ es
       → r .status ≡ 0 → stepAnswers i es ≡ replicate n zeros ++ (accepted 2 0 0 0 ∷ [])
@@ -46,8 +46,8 @@ pub belt-holds : Figure
 belt-holds = record {
   list = on-lists (λ (h : List Event) (m : List ℕ). Belt h) belt;
   chained = on-lists ChainsCounted chains-counted;
-  least = λ c p x m a m₀ b h xs ran ups i k none ys more calls r es is z.
+  least = λ z m a m₀ b h xs ran ups i k none ys more calls r es is z.
       let e = alone-events (lastMemory m₀ xs) ys more i k (recordsOn k (ledger (eventsOf xs) .entries)) calls r es is in
       ap (stepAnswers i) (e .1)
-      ∙ on-lists Attained attained c p x m a m₀ b h xs ran ups i k (ap (λ (r : Answer). r .status) (sym (e .0)) ∙ z) none;
+      ∙ on-lists Attained attained z m a m₀ b h xs ran ups i k (ap (λ (r : Answer). r .status) (sym (e .0)) ∙ z) none;
 }

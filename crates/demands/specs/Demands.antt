@@ -12,7 +12,7 @@ use Rattle.model.specs.State.{Sizes, State}
 use Rattle.model.specs.Layout.{total}
 use Rattle.model.specs.Rules.{Answer, Op, accepted, refused, result, performed, answer, next, fresh}
 use Rattle.model.specs.Memory.{Words, state}
-use Rattle.model.specs.Calls.{Call, set-up, on-state, sized, stored, refusalOf}
+use Rattle.model.specs.Calls.{Call, set-up, on-state, stored, refusalOf}
 use Rattle.model.specs.Ledger.{Event, Demand}
 use Rattle.representation.specs.Sound.{Sound}
 use Rattle.representation.proofs.Round.{OneToOne}
@@ -37,11 +37,11 @@ pub record Answered (r : Answer) (a b : List ℕ) (s : ℕ) : Type 0 where
 
 -- what the work of a call answers, and the state that it makes; the state of a legal memory is what its words stand for
 abbrev pub workAnswer : List ℕ → Call → Answer
-workAnswer m (set-up c p x) = accepted (total (sized c p x)) 0 0 0
+workAnswer m (set-up z) = accepted (total z) 0 0 0
 workAnswer m (on-state k) = result (state m) k
 
 abbrev pub workState : List ℕ → Call → State
-workState m (set-up c p x) = fresh (sized c p x)
+workState m (set-up z) = fresh z
 workState m (on-state k) = performed (state m) k
 
 pub record ByTheRule (k : Call) (m a n b : List ℕ) (s : ℕ) : Type 0 where
@@ -76,7 +76,7 @@ lastMemory m (x ∷ xs) = lastMemory (x .memory) xs
 
 -- no set-up among them was accepted: an accepted one makes another table, and ends the list
 abbrev pub NoSetUp : Call → ℕ → Type 0
-NoSetUp (set-up c p x) s = s ≡ 0 → ⊥
+NoSetUp (set-up z) s = s ≡ 0 → ⊥
 NoSetUp (on-state k) s = Unit {0}
 
 unfoldable pub NoSetUps : List Run → Type 0
@@ -110,15 +110,15 @@ pub record SetsUp (z : Sizes) (m n : List ℕ) : Type 0 where
 -- the state after a list's calls, by the rules
 unfoldable pub stateAfter : State → List Call → State
 stateAfter s [] = s
-stateAfter s (set-up c p x ∷ ks) = stateAfter s ks
+stateAfter s (set-up z ∷ ks) = stateAfter s ks
 stateAfter s (on-state k ∷ ks) = stateAfter (next s k) ks
 
 pub record Demand2 : Type 0 where
   pub calls : (k : Op) (m a n b : List ℕ) (s : ℕ) → Called (on-state k) m a n b s → answerLength ≤ length a → Sound m → FollowsRules k m a n b s
-  pub setUp : (c p x : ℕ) (m a n b : List ℕ) → Called (set-up c p x) m a n b 0 → Words m → SetsUp (sized c p x) m n
+  pub setUp : (z : Sizes) (m a n b : List ℕ) → Called (set-up z) m a n b 0 → Words m → SetsUp z m n
   -- over a list from an accepted set-up on, the memory is legal and stands for the state after the calls
-  pub list : (c p x : ℕ) (m a m₀ b : List ℕ) → Called (set-up c p x) m a m₀ b 0 → Words m → (xs : List Run) → Ran m₀ xs → NoSetUps xs
-      → Sound (lastMemory m₀ xs) × (state (lastMemory m₀ xs) ≡ stateAfter (fresh (sized c p x)) (callsOf xs))
+  pub list : (z : Sizes) (m a m₀ b : List ℕ) → Called (set-up z) m a m₀ b 0 → Words m → (xs : List Run) → Ran m₀ xs → NoSetUps xs
+      → Sound (lastMemory m₀ xs) × (state (lastMemory m₀ xs) ≡ stateAfter (fresh z) (callsOf xs))
   pub oneToOne : OneToOne
 
 -- ---- demand 3, whole: one statement over every list, from an accepted set-up of any memory on. `Demand` (crate `model`, Ledger) is document 01's, of the
@@ -138,7 +138,7 @@ eventsOf xs = map eventOf (drops isShort xs)
 -- P holds of every list of calls, by its events and the memory after it
 abbrev pub OfEveryList : (List Event → List ℕ → Type 0) → Type 0
 OfEveryList P =
-    (c p x : ℕ) (m a m₀ b : List ℕ) → Called (set-up c p x) m a m₀ b 0 → (xs : List Run) → Ran m₀ xs → NoSetUps xs → P (eventsOf xs) (lastMemory m₀ xs)
+    (z : Sizes) (m a m₀ b : List ℕ) → Called (set-up z) m a m₀ b 0 → (xs : List Run) → Ran m₀ xs → NoSetUps xs → P (eventsOf xs) (lastMemory m₀ xs)
 
 abbrev pub Demand3 : Type 0
 Demand3 = OfEveryList Demand

@@ -15,12 +15,12 @@ use Rattle.demands.specs.Proved.{on-calls}
 -- stand in done queues now, with those handed back so far
 abbrev pub DoneSlots : Type 0
 DoneSlots =
-    (c p x : ℕ) (m a m₀ b : List ℕ) → Called (set-up c p x) m a m₀ b 0 → (xs : List Run) → Ran m₀ xs → NoSetUps xs
+    (z : Sizes) (m a m₀ b : List ℕ) → Called (set-up z) m a m₀ b 0 → (xs : List Run) → Ran m₀ xs → NoSetUps xs
     → movedByClocks (eventsOf xs) + movedByOffs m₀ (callsOf xs) ≡ doneSlots (state (lastMemory m₀ xs) .engine) + handBacks (eventsOf xs)
 
 pub done-holds : DoneSlots
-done-holds c p x m a m₀ b h xs ran ups =
+done-holds z m a m₀ b h xs ran ups =
     rw (ran-events m₀ xs ran, ran-left m₀ xs ran)
     (on-calls
     (λ (w : List ℕ) (ks : List Call). movedByClocks (events w ks) + movedByOffs w ks ≡ doneSlots (state (leftAll w ks) .engine) + handBacks (events w ks))
-    done-counted c p x m a m₀ b h xs ran ups)
+    done-counted z m a m₀ b h xs ran ups)

@@ -10,7 +10,7 @@ use borrow.Author.Tests.{lt-ltb, le-ltb}
 use Rattle.model.specs.State.{State}
 use Rattle.model.specs.Rules.{Answer, Op, answer, fresh}
 use Rattle.model.specs.Memory.{Words, state}
-use Rattle.model.specs.Calls.{Call, set-up, on-state, sized, stored, refusalOf, replyOf, leftOf, reply, left, leftAll}
+use Rattle.model.specs.Calls.{Call, set-up, on-state, stored, refusalOf, replyOf, leftOf, reply, left, leftAll}
 use Rattle.model.specs.Ledger.{Event, events, Demand, RefusesSetUps}
 use Rattle.representation.proofs.MemoryCalls.{reply-legal, left-legal, left-state, setUp-legal, setUp-state, setUp-words, left-setUp}
 use Rattle.representation.specs.Sound.{Sound}
@@ -28,12 +28,12 @@ use Rattle.demands.specs.Runs.{made-long, short-run, long-memory, long-a
 -- where none applies, `reply` and `left` are the work's
 work-reply : (m : List ℕ) (k : Call) → replyOf m 0 k ≡ workAnswer m k
 unfolding replyOf
-work-reply m (set-up c p x) = refl
+work-reply m (set-up z) = refl
 work-reply m (on-state k) = refl
 
 work-left : (m : List ℕ) (k : Call) → leftOf m 0 k ≡ stored (workState m k) m
 unfolding leftOf
-work-left m (set-up c p x) = refl
+work-left m (set-up z) = refl
 work-left m (on-state k) = refl
 
 pub demand1 : Demand1
@@ -55,30 +55,30 @@ demand1 k m a n b s h = record {
 
 -- ---- a set-up that returned 0
 
-module _ (c p x : ℕ) (m a n b : List ℕ) (h : Called (set-up c p x) m a n b 0) where
+module _ (z : Sizes) (m a n b : List ℕ) (h : Called (set-up z) m a n b 0) where
   -- five words were lent: the short answer is not 0
   set-up-long : ltb (length a) answerLength ≡ false
-  set-up-long = made-long (reply m (set-up c p x)) m (left m (set-up c p x)) a n b 0 h refl
+  set-up-long = made-long (reply m (set-up z)) m (left m (set-up z)) a n b 0 h refl
 
-  set-up-status : reply m (set-up c p x) .status ≡ 0
-  set-up-status = sym (long-answer (set-up c p x) m a n b 0 h set-up-long .status)
+  set-up-status : reply m (set-up z) .status ≡ 0
+  set-up-status = sym (long-answer (set-up z) m a n b 0 h set-up-long .status)
 
-  set-up-memory : n ≡ left m (set-up c p x)
-  set-up-memory = long-memory (set-up c p x) m a n b 0 h set-up-long
+  set-up-memory : n ≡ left m (set-up z)
+  set-up-memory = long-memory (set-up z) m a n b 0 h set-up-long
 
-  set-up-accepted : refusalOf m (set-up c p x) ≡ 0
+  set-up-accepted : refusalOf m (set-up z) ≡ 0
   unfolding reply replyOf
-  set-up-accepted = go (refusalOf m (set-up c p x)) refl set-up-status
+  set-up-accepted = go (refusalOf m (set-up z)) refl set-up-status
     where
-      go : (y : ℕ) → refusalOf m (set-up c p x) ≡ y → replyOf m y (set-up c p x) .status ≡ 0 → refusalOf m (set-up c p x) ≡ 0
+      go : (y : ℕ) → refusalOf m (set-up z) ≡ y → replyOf m y (set-up z) .status ≡ 0 → refusalOf m (set-up z) ≡ 0
       go zero e z = e
       go (suc y) e z = absurd (omega arith)
 
-  sets-up : Words m → SetsUp (sized c p x) m n
+  sets-up : Words m → SetsUp z m n
   sets-up w = rw set-up-memory (record {
-    memory = left-setUp m c p x set-up-accepted;
-    legal = record { lawful = setUp-legal m c p x set-up-accepted; words = setUp-words m c p x set-up-accepted w };
-    state = setUp-state m c p x set-up-accepted;
+    memory = left-setUp m z set-up-accepted;
+    legal = record { lawful = setUp-legal m z set-up-accepted; words = setUp-words m z set-up-accepted w };
+    state = setUp-state m z set-up-accepted;
   })
 
 -- ---- demand 2
@@ -94,10 +94,10 @@ follows-rules k m a n b s h l v =
       state = ap state is ∙ left-state m k (v .lawful) (v .words);
     }
 
-state-listed : (c p x : ℕ) (m a m₀ b : List ℕ) → Called (set-up c p x) m a m₀ b 0 → Words m → (xs : List Run) → Ran m₀ xs → NoSetUps xs
-    → Sound (lastMemory m₀ xs) × (state (lastMemory m₀ xs) ≡ stateAfter (fresh (sized c p x)) (callsOf xs))
-state-listed c p x m a m₀ b h w xs ran ups =
-    let u = sets-up c p x m a m₀ b h w in
+state-listed : (z : Sizes) (m a m₀ b : List ℕ) → Called (set-up z) m a m₀ b 0 → Words m → (xs : List Run) → Ran m₀ xs → NoSetUps xs
+    → Sound (lastMemory m₀ xs) × (state (lastMemory m₀ xs) ≡ stateAfter (fresh z) (callsOf xs))
+state-listed z m a m₀ b h w xs ran ups =
+    let u = sets-up z m a m₀ b h w in
     let (v, e) = leftAll-state (callsOf xs) m₀ (u .legal) (ran-set-ups m₀ xs ran ups) in
     rw (ran-left m₀ xs ran) (v, e ∙ ap (λ (s : State). stateAfter s (callsOf xs)) (u .state))
 
@@ -108,20 +108,20 @@ demand2 = record { calls = follows-rules; setUp = sets-up; list = state-listed; 
 
 -- what holds of the calls of every list of the model, on the memory that its set-up left, holds of the calls for C
 pub on-calls : (P : List ℕ → List Call → Type 0)
-    → ((m : List ℕ) (c p x : ℕ) → reply m (set-up c p x) .status ≡ 0 → (ks : List Call) → RefusesSetUps (left m (set-up c p x)) ks → P (left m (set-up c p x)) ks)
-    → (c p x : ℕ) (m a m₀ b : List ℕ) → Called (set-up c p x) m a m₀ b 0 → (xs : List Run) → Ran m₀ xs → NoSetUps xs → P m₀ (callsOf xs)
-on-calls P every c p x m a m₀ b h xs ran ups =
+    → ((m : List ℕ) (z : Sizes) → reply m (set-up z) .status ≡ 0 → (ks : List Call) → RefusesSetUps (left m (set-up z)) ks → P (left m (set-up z)) ks)
+    → (z : Sizes) (m a m₀ b : List ℕ) → Called (set-up z) m a m₀ b 0 → (xs : List Run) → Ran m₀ xs → NoSetUps xs → P m₀ (callsOf xs)
+on-calls P every z m a m₀ b h xs ran ups =
     subst (λ (w : List ℕ). P w (callsOf xs)) (sym is)
-    (every m c p x (set-up-status c p x m a m₀ b h) (callsOf xs) (subst (λ (w : List ℕ). RefusesSetUps w (callsOf xs)) is (ran-set-ups m₀ xs ran ups)))
+    (every m z (set-up-status z m a m₀ b h) (callsOf xs) (subst (λ (w : List ℕ). RefusesSetUps w (callsOf xs)) is (ran-set-ups m₀ xs ran ups)))
   where
-    is : m₀ ≡ left m (set-up c p x)
-    is = set-up-memory c p x m a m₀ b h
+    is : m₀ ≡ left m (set-up z)
+    is = set-up-memory z m a m₀ b h
 
 -- the same of their events and the memory after them
 pub on-lists : (P : List Event → List ℕ → Type 0) → EveryList P → OfEveryList P
-on-lists P every c p x m a m₀ b h xs ran ups =
+on-lists P every z m a m₀ b h xs ran ups =
     rw (ran-events m₀ xs ran, ran-left m₀ xs ran)
-    (on-calls (λ (w : List ℕ) (ks : List Call). P (events w ks) (leftAll w ks)) every c p x m a m₀ b h xs ran ups)
+    (on-calls (λ (w : List ℕ) (ks : List Call). P (events w ks) (leftAll w ks)) every z m a m₀ b h xs ran ups)
 
 pub demand3 : Demand3
 demand3 = on-lists Demand listed

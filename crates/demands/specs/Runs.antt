@@ -96,7 +96,7 @@ ran-set-ups m (x ∷ xs) (d, h) (r, rs) =
     (λ e i. go (x .call) (long-answer _ _ _ _ _ _ d e .status) r i)
   where
     go : (k : Call) → x .status ≡ reply m k .status → NoSetUp k (x .status) → RefusesSetUps (left m k) (callsOf xs) → RefusesSetUps m (k ∷ callsOf xs)
-    go (set-up c p n) e f g = ((λ z. f (e ∙ z)), g)
+    go (set-up z) e f g = ((λ z. f (e ∙ z)), g)
     go (on-state k) e f g = g
 
 -- ---- the state after a list
@@ -105,8 +105,8 @@ pub leftAll-state : (ks : List Call) (m : List ℕ) → Sound m → RefusesSetUp
     → Sound (leftAll m ks) × (state (leftAll m ks) ≡ stateAfter (state m) ks)
 unfolding leftAll stateAfter RefusesSetUps
 leftAll-state [] m v r = (v, refl)
-leftAll-state (set-up c p n ∷ ks) m v r =
-    let same = refused-keeps m (set-up c p n) (r .0) in
+leftAll-state (set-up z ∷ ks) m v r =
+    let same = refused-keeps m (set-up z) (r .0) in
     rw same (leftAll-state ks m v (rw same at (r .1)))
 leftAll-state (on-state k ∷ ks) m v r =
     let (w, e) = leftAll-state ks (left m (on-state k)) (left-sound m (on-state k) v) r in

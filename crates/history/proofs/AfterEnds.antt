@@ -5,7 +5,7 @@ use mathlib.Core.Logic.{⊎-elim}
 use mathlib.Core.List.{List, [], _∷_, _++_, List·Memᴰ, List·Memᴰ·head, List·Memᴰ·tail, List·Memᴰ·cases-cons}
 use borrow.Author.Tests.{eq-eqb}
 use Rattle.model.specs.Rules.{Op, begin, end, start, Answer, fresh}
-use Rattle.model.specs.Calls.{Call, set-up, on-state, sized, left}
+use Rattle.model.specs.Calls.{Call, set-up, on-state, left}
 use Rattle.model.specs.Ledger.{Section, Search, Ledger, sectionOf, searchOf, sectionEnded, searchStruck, fed, fedCall, Event, ledgerFrom, ledger}
 use Rattle.model.specs.Ledger.{events, Came, stepEvent, endEvent, NoBegin, NoStart, AfterEnds}
 use Rattle.laws.specs.Tests.{clash}
@@ -104,14 +104,14 @@ module _ (i : ℕ) where
 -- ---- the theorem
 
 pub after-ends : EveryList (λ (h : List Event) (m : List ℕ). AfterEnds h)
-after-ends m c p n ok ks s i r before since rest z all = record {
+after-ends m z ok ks s i r before since rest z all = record {
   noSection = no-section i before r z since;
   noSearch = no-search i before r z since;
   noStep = step-refused;
 }
   where
     m₀ : List ℕ
-    m₀ = left m (set-up c p n)
+    m₀ = left m (set-up z)
 
     h : List Event
     h = events m₀ ks
@@ -126,4 +126,4 @@ after-ends m c p n ok ks s i r before since rest z all = record {
         came = record { before = es; rest = later; all = all ∙ ap (λ (x : List Event). es ++ x) e }
 
         q : Noted (ledger es) i
-        q = noted-list m₀ ks (fresh (sized c p n)) (at-set-up m c p n ok ks s) i a came w
+        q = noted-list m₀ ks (fresh z) (at-set-up m z ok ks s) i a came w

@@ -12,7 +12,7 @@ use Rattle.model.specs.Lists.{any, all}
 use Rattle.model.specs.State.{State}
 use Rattle.model.specs.Table.{chainOf}
 use Rattle.model.specs.Rules.{start, end, Answer, zeros, answer, next, fresh}
-use Rattle.model.specs.Calls.{Call, set-up, on-state, sized, reply, left}
+use Rattle.model.specs.Calls.{Call, set-up, on-state, reply, left}
 use Rattle.model.specs.Ledger.{Search, Event, ledger, isAnswer, events, fedCall}
 use Rattle.model.specs.Ledger.{isStepOf, stepAnswers, isGoing, inTime, startEvent, NoEnd, Timed, Belt, ChainsCounted}
 use Rattle.laws.specs.Tests.{clash, and-true, and-intro, or-cases, or-left}
@@ -59,15 +59,15 @@ module _ (h : List Event) (i c : ℕ) (q : Search) where
   next-call : (done : List Event) (s : State) (m : List ℕ) (k : Call) (ks : List Call) → At h done s m (k ∷ ks) → (n : ℕ) → RunsAt done s n
       → (reply m k .status ≡ 0 → k ≡ on-state (end i) → ⊥) → Next done m k s n
   unfolding isStepOf
-  next-call done s m (set-up x y z) ks a n r f = same refl (rw (length-snoc done (event m (set-up x y z)), e) (record {
+  next-call done s m (set-up z) ks a n r f = same refl (rw (length-snoc done (event m (set-up z)), e) (record {
     position = r .position;
     lookup = r .lookup;
     looks = looks-kept (keeps-same (a .invariant .tied) .respects) (past h) q i c n (r .position)
-        (rw (past-next h done s m (set-up x y z) ks a, e) (a .invariant .tied .entries c)) (spared-same (ledger done) i) (r .looks);
+        (rw (past-next h done s m (set-up z) ks a, e) (a .invariant .tied .entries c)) (spared-same (ledger done) i) (r .looks);
   }))
     where
-      e : ledger (done ++ (event m (set-up x y z) ∷ [])) ≡ ledger done
-      e = ledger-setUp h done s m x y z
+      e : ledger (done ++ (event m (set-up z) ∷ [])) ≡ ledger done
+      e = ledger-setUp h done s m z
   next-call done s m (on-state o) ks a n r f =
       go (onward (a .invariant .tied) q i c n r o (λ u e. f (ap (λ (r : Answer). r .status) is ∙ u) (ap on-state e))
       (keeps-at h done s m o ks a) (past-at h done s m o ks a))
@@ -152,7 +152,7 @@ timed-start m ks s a i c r before since rest z all f =
         t = timed h i c q (p .calls) es _ _ next-at n runs since rest follow f
 
 pub belt : EveryList (λ (h : List Event) (m : List ℕ). Belt h)
-belt m c p n ok ks s = timed-start (left m (set-up c p n)) ks (fresh (sized c p n)) (at-set-up m c p n ok ks s)
+belt m z ok ks s = timed-start (left m (set-up z)) ks (fresh z) (at-set-up m z ok ks s)
 
 -- ---- n, in the memory
 

@@ -10,7 +10,7 @@ use lib.ListN.{length, length-append}
 use Rattle.model.specs.State.{State}
 use Rattle.model.specs.Rules.{Op, Answer, answer, fresh}
 use Rattle.model.specs.Memory.{state}
-use Rattle.model.specs.Calls.{Call, set-up, on-state, sized, reply, left, leftAll}
+use Rattle.model.specs.Calls.{Call, set-up, on-state, reply, left, leftAll}
 use Rattle.model.specs.Ledger.{Section, Search, Ledger, Event, ledgerFrom, ledger, isAnswer, search, events}
 use Rattle.model.specs.Ledger.{Came, Explained, Holds, stepEvent, RefusesSetUps}
 use Rattle.history.proofs.Ties.Invariant.{Invariant, Anchored, inChain, retained}
@@ -26,15 +26,15 @@ use Rattle.history.proofs.NewSlots.{Unused, Enters, NewSlots, enters-un
 -- P holds of every list, by its events and the memory after it; `EveryList Demand` is `Demand3`
 abbrev pub EveryList : (List Event → List ℕ → Type 0) → Type 0
 EveryList P =
-    (m : List ℕ) (c p n : ℕ) → reply m (set-up c p n) .status ≡ 0
-    → (ks : List Call) → let m₀ = left m (set-up c p n) in RefusesSetUps m₀ ks → P (events m₀ ks) (leftAll m₀ ks)
+    (m : List ℕ) (z : Sizes) → reply m (set-up z) .status ≡ 0
+    → (ks : List Call) → let m₀ = left m (set-up z) in RefusesSetUps m₀ ks → P (events m₀ ks) (leftAll m₀ ks)
 
 -- what the invariant gives at the end of a list
 pub every-end : (P : List Event → List ℕ → Type 0)
     → ((h : List Event) (m : List ℕ) (s : State) → Stands s m → Invariant (past h) (length h) s (ledger h) → P h m) → EveryList P
-every-end P f m c p n ok ks r =
-    let m₀ = left m (set-up c p n) in
-    let e = to-end (events m₀ ks) ks [] (fresh (sized c p n)) m₀ (at-set-up m c p n ok ks r) in
+every-end P f m z ok ks r =
+    let m₀ = left m (set-up z) in
+    let e = to-end (events m₀ ks) ks [] (fresh z) m₀ (at-set-up m z ok ks r) in
     f (events m₀ ks) (leftAll m₀ ks) (e .state) (e .stands) (e .invariant)
 
 -- ---- a code looked up twice
@@ -93,10 +93,10 @@ pub new-slots : EveryList NewSlots
 new-slots = every-end NewSlots (λ h m s t v o w z. rw (t .read) (reply-unused v t o w z))
 
 pub same-twice : EveryList SameTwice
-same-twice m c p n ok ks s x y same starts order still = whole x order (omega arith) refl ∙ sym (whole y (omega arith) starts same)
+same-twice m z ok ks s x y same starts order still = whole x order (omega arith) refl ∙ sym (whole y (omega arith) starts same)
   where
     h : List Event
-    h = events (left m (set-up c p n)) ks
+    h = events (left m (set-up z)) ks
 
     inside : instantBefore y ≤ length h
     inside = omega (arith, simp length-append at (ap length (y .came .all)))
@@ -104,7 +104,7 @@ same-twice m c p n ok ks s x y same starts order still = whole x order (omega ar
     -- the answer of each is the whole search as of the start of x
     whole : (z : AnsweredLookup h) → instantBefore z ≤ instantBefore y → x .noted .started ≤ z .noted .started → x .noted .code ≡ z .noted .code
         → z .answer ≡ search (past h (x .noted .started)) (x .noted .code)
-    whole z short later code = go (demand3 m c p n ok ks s .explained (z .lane) (z .answer) (z .came) (z .isAnswered))
+    whole z short later code = go (demand3 m z ok ks s .explained (z .lane) (z .answer) (z .came) (z .isAnswered))
       where
         go : Explained h (z .lane) (z .answer) (z .came .before) → z .answer ≡ search (past h (x .noted .started)) (x .noted .code)
         go e =
@@ -115,23 +115,23 @@ same-twice m c p n ok ks s x y same starts order still = whole x order (omega ar
             (omega arith) (omega (arith, e .notAfter)) inside still)
 
 pub never-another : EveryList NeverAnother
-never-another m c p n ok ks s i r a b w = go (found-end m₀ ks (fresh (sized c p n)) start i r a b w)
+never-another m z ok ks s i r a b w = go (found-end m₀ ks (fresh z) start i r a b w)
   where
     m₀ : List ℕ
-    m₀ = left m (set-up c p n)
+    m₀ = left m (set-up z)
 
     h : List Event
     h = events m₀ ks
 
-    start : At h [] (fresh (sized c p n)) m₀ ks
-    start = at-set-up m c p n ok ks s
+    start : At h [] (fresh z) m₀ ks
+    start = at-set-up m z ok ks s
 
-    go : FoundEnd m₀ ks (fresh (sized c p n)) i r (a .before) → NotAnother h (leftAll m₀ ks) i r (a .before)
+    go : FoundEnd m₀ ks (fresh z) i r (a .before) → NotAnother h (leftAll m₀ ks) i r (a .before)
     go f = record {
       finder = f .finder;
       isOpen = f .isOpen;
       ofLane = f .ofLane;
-      sameCode = λ x u l z q j e b d k o. sym (o .code) ∙ found-holds m₀ ks (fresh (sized c p n)) i r (a .before) f (rw (f .onlyFinder x u l) at z) q j e .code;
+      sameCode = λ x u l z q j e b d k o. sym (o .code) ∙ found-holds m₀ ks (fresh z) i r (a .before) f (rw (f .onlyFinder x u l) at z) q j e .code;
       notGiven = λ x u l z o w t e. other (rw (f .onlyFinder x u l) at z) (rw e at (reply-unused (f .invariant) (f .stands) o w t));
     }
       where
@@ -142,11 +142,11 @@ never-another m c p n ok ks s i r a b w = go (found-end m₀ ks (fresh (sized c 
 
 pub sections-one : EveryList (λ (h : List Event) (m : List ℕ). OneSection (ledger h))
 unfolding ledgerFrom
-sections-one m c p n ok ks r =
-    one-section h ks [] (fresh (sized c p n)) m₀ (at-set-up m c p n ok ks r) (λ a b l k e. absurd (List·Memᴰ·not-nil l)) h [] (sym (append-nil h))
+sections-one m z ok ks r =
+    one-section h ks [] (fresh z) m₀ (at-set-up m z ok ks r) (λ a b l k e. absurd (List·Memᴰ·not-nil l)) h [] (sym (append-nil h))
   where
     m₀ : List ℕ
-    m₀ = left m (set-up c p n)
+    m₀ = left m (set-up z)
 
     h : List Event
     h = events m₀ ks

@@ -15,7 +15,7 @@ use Rattle.model.specs.Table.{chainOf, slotOf}
 use Rattle.model.specs.Rules.{Op, add, replace, delete, begin, end, start, step, pass, clock, on, off, hand-back, awaited, Answer, refused, Outcome, going, found}
 use Rattle.model.specs.Rules.{absent, outcome, outcomeAnswer, stepped, leaving, retiring, reclaiming, performed, result, answer, next, fresh}
 use Rattle.model.specs.Memory.{state}
-use Rattle.model.specs.Calls.{Call, set-up, on-state, sized, reply, left, leftAll}
+use Rattle.model.specs.Calls.{Call, set-up, on-state, reply, left, leftAll}
 use Rattle.model.specs.Ledger.{events, RefusesSetUps, doneIn, doneSlots, Moving, clocks, handsBack, other, goesOff, moving, clockTold, offMoved, handedOne}
 use Rattle.model.specs.Ledger.{movedByClocks, handBacks, movedByOffs, DoneCounted}
 use Rattle.laws.specs.Tests.{clash}
@@ -123,9 +123,9 @@ counts-list : (ks : List Call) (s : State) (m : List ℕ) → Stands s m → Ref
     → doneSlots (s .engine) + (movedByClocks (events m ks) + movedByOffs m ks) ≡ doneSlots (state (leftAll m ks) .engine) + handBacks (events m ks)
 unfolding events leftAll movedByClocks handBacks movedByOffs RefusesSetUps moving clockTold offMoved handedOne
 counts-list [] s m v r = rw (v .read) (omega arith)
-counts-list (set-up c p n ∷ ks) s m v (f, r) =
-    let same = refused-keeps m (set-up c p n) f in
-    rw (ne-eqb (reply m (set-up c p n) .status) 0 f, same) (omega (arith, counts-list ks s m v (rw same at r)))
+counts-list (set-up z ∷ ks) s m v (f, r) =
+    let same = refused-keeps m (set-up z) f in
+    rw (ne-eqb (reply m (set-up z) .status) 0 f, same) (omega (arith, counts-list ks s m v (rw same at r)))
 counts-list (on-state o ∷ ks) s m v r =
     let one = counts-next s (v .wellFormed) o in
     let rest = counts-list ks (next s o) (left m (on-state o)) (stands-next v o) r in
@@ -133,5 +133,5 @@ counts-list (on-state o ∷ ks) s m v r =
 
 pub done-counted : DoneCounted
 unfolding fresh
-done-counted m c p n ok ks r =
-    omega (arith, counts-list ks (fresh (sized c p n)) (left m (set-up c p n)) (set-up-stands m c p n ok) r, doneIn-fresh (laneCount (sized c p n)))
+done-counted m z ok ks r =
+    omega (arith, counts-list ks (fresh z) (left m (set-up z)) (set-up-stands m z ok) r, doneIn-fresh (laneCount z))

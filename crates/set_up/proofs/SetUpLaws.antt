@@ -12,38 +12,38 @@ use Rattle.access.specs.declared.Answer.{Answer}
 use Rattle.access.specs.Contract.{five, Does}
 use Rattle.model.specs.Calls.{set-up, sized, stored, refusalOf, replyOf, leftOf, reply, left}
 
-module _ (m : List ℕ) (c p s : ℕ) where
-  refusal-1 : sizesFit (sized c p s) ≡ false → refusalOf m (set-up c p s) ≡ 1
+module _ (m : List ℕ) (z : Sizes) where
+  refusal-1 : sizesFit z ≡ false → refusalOf m (set-up z) ≡ 1
   unfolding refusalOf firstOf
   refusal-1 h = rw h
 
-  refusal-2 : sizesFit (sized c p s) ≡ true → length m < total (sized c p s) → refusalOf m (set-up c p s) ≡ 2
+  refusal-2 : sizesFit z ≡ true → length m < total z → refusalOf m (set-up z) ≡ 2
   unfolding refusalOf firstOf
-  refusal-2 h l = rw (h, lt-ltb (length m) (total (sized c p s)) l)
+  refusal-2 h l = rw (h, lt-ltb (length m) (total z) l)
 
-  refusal-0 : sizesFit (sized c p s) ≡ true → total (sized c p s) ≤ length m → refusalOf m (set-up c p s) ≡ 0
+  refusal-0 : sizesFit z ≡ true → total z ≤ length m → refusalOf m (set-up z) ≡ 0
   unfolding refusalOf firstOf
-  refusal-0 h l = rw (h, le-ltb (length m) (total (sized c p s)) l)
+  refusal-0 h l = rw (h, le-ltb (length m) (total z) l)
 
-  pub out-of-range : (r : Answer) → sizesFit (sized c p s) ≡ false → five r ≡ refused 1 → Does (set-up c p s) m r m
+  pub out-of-range : (r : Answer) → sizesFit z ≡ false → five r ≡ refused 1 → Does (set-up z) m r m
   unfolding reply replyOf left leftOf
   out-of-range r h e = record {
-    answer = e ∙ sym (ap (λ (x : ℕ). replyOf m x (set-up c p s)) (refusal-1 h));
-    memory = sym (ap (λ (x : ℕ). leftOf m x (set-up c p s)) (refusal-1 h));
+    answer = e ∙ sym (ap (λ (x : ℕ). replyOf m x (set-up z)) (refusal-1 h));
+    memory = sym (ap (λ (x : ℕ). leftOf m x (set-up z)) (refusal-1 h));
   }
 
-  pub too-short : (r : Answer) → sizesFit (sized c p s) ≡ true → length m < total (sized c p s) → five r ≡ refused 2 → Does (set-up c p s) m r m
+  pub too-short : (r : Answer) → sizesFit z ≡ true → length m < total z → five r ≡ refused 2 → Does (set-up z) m r m
   unfolding reply replyOf left leftOf
   too-short r h l e = record {
-    answer = e ∙ sym (ap (λ (x : ℕ). replyOf m x (set-up c p s)) (refusal-2 h l));
-    memory = sym (ap (λ (x : ℕ). leftOf m x (set-up c p s)) (refusal-2 h l));
+    answer = e ∙ sym (ap (λ (x : ℕ). replyOf m x (set-up z)) (refusal-2 h l));
+    memory = sym (ap (λ (x : ℕ). leftOf m x (set-up z)) (refusal-2 h l));
   }
 
-  pub written : (x : ℕ) (r : Answer) (n : List ℕ) → sizesFit (sized c p s) ≡ true → total (sized c p s) ≤ length m
-      → x ≡ total (sized c p s) → five r ≡ accepted x 0 0 0
-      → n ≡ stored (fresh (sized c p s)) m → Does (set-up c p s) m r n
+  pub written : (x : ℕ) (r : Answer) (n : List ℕ) → sizesFit z ≡ true → total z ≤ length m
+      → x ≡ total z → five r ≡ accepted x 0 0 0
+      → n ≡ stored (fresh z) m → Does (set-up z) m r n
   unfolding reply replyOf left leftOf
   written x r n h l ex e g = record {
-    answer = e ∙ ap (λ (y : ℕ). accepted y 0 0 0) ex ∙ sym (ap (λ (x : ℕ). replyOf m x (set-up c p s)) (refusal-0 h l));
-    memory = g ∙ sym (ap (λ (x : ℕ). leftOf m x (set-up c p s)) (refusal-0 h l));
+    answer = e ∙ ap (λ (y : ℕ). accepted y 0 0 0) ex ∙ sym (ap (λ (x : ℕ). replyOf m x (set-up z)) (refusal-0 h l));
+    memory = g ∙ sym (ap (λ (x : ℕ). leftOf m x (set-up z)) (refusal-0 h l));
   }

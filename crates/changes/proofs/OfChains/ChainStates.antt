@@ -12,7 +12,7 @@ use Rattle.model.specs.Table.{blank, linkOf}
 use Rattle.model.specs.Rules.{with}
 use Rattle.model.specs.Memory.{slotWords}
 use Rattle.laws.specs.ListLaws.{getD-set}
-use Rattle.representation.proofs.Addresses.Fields.{Field, top, head, end, mask, lane, slot, value}
+use Rattle.representation.proofs.Addresses.Fields.{Field, top, head, end, mask, lane, slot, yard, value}
 use Rattle.changes.proofs.Puts.{linked, headed}
 
 -- ---- changes
@@ -64,4 +64,5 @@ module _ (s : State) (c : List (List ℕ)) (l : List ℕ) where
   value-withChains (end k) = refl
   value-withChains (mask k) = refl
   value-withChains (lane i k) = refl
+  value-withChains (yard y) = refl
   value-withChains (slot j k) = getD-set (slotWords s j) chainLinkAt k (chainLinksWith j) 0 (omega arith)

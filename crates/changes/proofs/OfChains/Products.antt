@@ -16,7 +16,7 @@ use Rattle.model.specs.Calls.{stored}
 use Rattle.laws.specs.Tests.{eqb-self, same, other, decide}
 use Rattle.laws.specs.ListLaws.{getD-set}
 use Rattle.laws.specs.Successors.{successorIn-out}
-use Rattle.representation.proofs.Addresses.Fields.{Field, top, head, end, mask, lane, slot, Inside, value}
+use Rattle.representation.proofs.Addresses.Fields.{Field, top, head, end, mask, lane, slot, yard, Inside, value}
 use Rattle.representation.proofs.Addresses.Writes.{Writes, put, writes-none, writes-put, writes-done}
 use Rattle.chains.specs.Chain.{linkAddress, productSet, cleared}
 use Rattle.changes.proofs.Shows.{Shows, shows-then, stored-then}
@@ -62,6 +62,7 @@ module _ (s : State) (m : List ℕ) (shows : Shows m s) (o : ℕ) (inside : o < 
     value-product (end k) b = refl
     value-product (mask k) b = refl
     value-product (lane i k) b = refl
+    value-product (yard y) b = refl
     value-product (slot j zero) b = product-part (λ (q : Product). low (q .code)) j
     value-product (slot j (suc zero)) b = product-part (λ (q : Product). high (q .code)) j
     value-product (slot j (suc (suc zero))) b = product-part (λ (q : Product). q .deposit) j

@@ -9,13 +9,13 @@ use lib.Dec.{eqb}
 use Rattle.model.specs.Word.{none}
 use Rattle.model.specs.Lists.{concatMap, successorIn}
 use Rattle.model.specs.State.{Sizes, Queues, Lane, Engine, State}
-use Rattle.model.specs.Layout.{currentGenerationAt, largestGenerationAt, cabinetMaskAt, globalGenerationAt, freeAt, queueLinkAt}
+use Rattle.model.specs.Layout.{currentGenerationAt, largestGenerationAt, yardMaskAt, globalGenerationAt, freeAt, queueLinkAt}
 use Rattle.model.specs.Engine.{laneAt, setQueues, withCurrent, withLargest, withLanes, withGlobal}
 use Rattle.model.specs.Rules.{withEngine}
-use Rattle.model.specs.Memory.{contents, cabinetMask, laneMask, laneWords, slotWords, queuesOf, laneQueues}
+use Rattle.model.specs.Memory.{contents, laneMask, cabinetMask, yardMask, laneWords, slotWords, queuesOf, laneQueues}
 use Rattle.model.specs.Calls.{stored}
 use Rattle.laws.specs.ListLaws.{getD-set}
-use Rattle.representation.proofs.Addresses.Fields.{Field, top, head, end, mask, lane, slot, Inside, value, topWords, endWords}
+use Rattle.representation.proofs.Addresses.Fields.{Field, top, head, end, mask, lane, slot, yard, Inside, value, topWords, endWords}
 use Rattle.representation.proofs.Addresses.Writes.{Writes, put, writes-none, writes-put, writes-done}
 use Rattle.changes.proofs.Shows.{Shows}
 use Rattle.changes.proofs.Shape.{Shape, queued}
@@ -52,6 +52,7 @@ module _ (s : State) (m : List ℕ) (shows : Shows m s) where
       held (mask c) b = refl
       held (lane i k) b = refl
       held (slot i k) b = refl
+      held (yard y) b = refl
 
   pub write-largest : (g : ℕ) → set m largestGenerationAt g ≡ stored (withEngine s (withLargest g (s .engine))) m
   unfolding contents slotWords
@@ -66,6 +67,7 @@ module _ (s : State) (m : List ℕ) (shows : Shows m s) where
       held (mask c) b = refl
       held (lane i k) b = refl
       held (slot i k) b = refl
+      held (yard y) b = refl
 
   pub write-global-generation : (g : ℕ) → set m globalGenerationAt g ≡ stored (withEngine s (withGlobal (withGeneration g (s .engine .global)) (s .engine))) m
   unfolding slotWords
@@ -83,6 +85,7 @@ module _ (s : State) (m : List ℕ) (shows : Shows m s) where
       held (mask c) b = refl
       held (lane i k) b = refl
       held (slot i k) b = refl
+      held (yard y) b = refl
 
 -- an engine with as many lanes and the same slots queued
 pub shape-engine : (s : State) (e : Engine) → Shape s → length (e .lanes) ≡ length (s .engine .lanes)
@@ -106,22 +109,24 @@ module _ (s : State) (ls : List Lane) where
 
   -- the fields of s, with the masks of the lanes ls
   abbrev pub maskedValue : Field → ℕ
-  maskedValue (top k) = cond (eqb k cabinetMaskAt) (cabinetMask withPending) (value s (top k))
+  maskedValue (top k) = cond (eqb k yardMaskAt) (yardMask withPending) (value s (top k))
   maskedValue (head k) = value s (head k)
   maskedValue (end k) = value s (end k)
   maskedValue (mask c) = laneMask withPending c
   maskedValue (lane i k) = value s (lane i k)
   maskedValue (slot i k) = value s (slot i k)
+  maskedValue (yard y) = cabinetMask withPending y
 
   -- the lanes differ in their pending bits alone
   module _ (words : (j : ℕ) → laneWords (laneAt (withPending .engine) j) ≡ laneWords (laneAt (s .engine) j))
       (queues : concatMap laneQueues ls ≡ concatMap laneQueues (s .engine .lanes)) where
     pub value-withPending : (f : Field) → value withPending f ≡ maskedValue f
     unfolding contents slotWords
-    value-withPending (top k) = getD-set (topWords s) cabinetMaskAt k (cabinetMask withPending) 0 (omega arith)
+    value-withPending (top k) = getD-set (topWords s) yardMaskAt k (yardMask withPending) 0 (omega arith)
     value-withPending (head k) = refl
     value-withPending (end k) = refl
     value-withPending (mask c) = refl
+    value-withPending (yard y) = refl
     value-withPending (lane i k) = ap (λ (ws : List ℕ). getD ws k 0) (words i)
     value-withPending (slot i k) =
         ap (λ (r : List (List ℕ)). getD (set (slotWords s i) queueLinkAt (successorIn (s .table .free ∷ queuesOf (s .engine .global) ++ r) i none)) k 0) queues

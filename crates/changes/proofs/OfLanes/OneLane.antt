@@ -18,9 +18,9 @@ use Rattle.model.specs.Calls.{stored}
 use Rattle.laws.specs.Tests.{and-false-right, eqb-self, same, other, decide}
 use Rattle.laws.specs.ListLaws.{length-update, getD-set, getD-update-same, getD-update-other}
 use Rattle.laws.specs.Elements.{Each}
-use Rattle.representation.proofs.Addresses.Fields.{Field, top, head, end, mask, lane, slot, value}
+use Rattle.representation.proofs.Addresses.Fields.{Field, top, head, end, mask, lane, slot, yard, value}
 use Rattle.representation.proofs.Addresses.Writes.{Writes, put, writes-none, writes-put, writes-done}
-use Rattle.representation.proofs.Addresses.MaskWords.{laneMask-kept, top-kept}
+use Rattle.representation.proofs.Addresses.MaskWords.{laneMask-kept, cabinetMask-kept, top-kept}
 use Rattle.changes.proofs.Shows.{Shows}
 use Rattle.changes.proofs.Shape.{LaneAtEach, Shape}
 use Rattle.changes.proofs.Puts.{writes-alike}
@@ -48,6 +48,7 @@ laneOver s i xs (end k) = value s (end k)
 laneOver s i xs (mask c) = value s (mask c)
 laneOver s i xs (lane j k) = cond (eqb j i) (getD xs k 0) (value s (lane j k))
 laneOver s i xs (slot j k) = value s (slot j k)
+laneOver s i xs (yard y) = value s (yard y)
 
 module _ (s : State) (i : ℕ) where
   abbrev l : Lane
@@ -64,6 +65,7 @@ module _ (s : State) (i : ℕ) where
         | other e t u ↦ rw t
       ]
   laneOver-own (slot j k) = refl
+  laneOver-own (yard y) = refl
 
   laneOver-put : (xs : List ℕ) (a x : ℕ) → a < length xs → (f : Field) → put (laneOver s i xs) (lane i a) x f ≡ laneOver s i (set xs a x) f
   laneOver-put xs a x h (top k) = refl
@@ -76,6 +78,7 @@ module _ (s : State) (i : ℕ) where
         | other e t u ↦ rw t (rw (and-false-right (eqb k a)))
       ]
   laneOver-put xs a x h (slot j k) = refl
+  laneOver-put xs a x h (yard y) = refl
 
   module _ (m : List ℕ) (shows : Shows m s) (within : i < laneCount (s .sizes)) where
     abbrev z : Sizes
@@ -130,6 +133,7 @@ module _ (s : State) (i : ℕ) (g : Lane → Lane) (pending : g (laneAt (s .engi
   value-withLane h (head k) = refl
   value-withLane h (end k) = refl
   value-withLane h (mask c) = laneMask-kept s (atLane i g (s .engine)) (s .table) kept c
+  value-withLane h (yard y) = cabinetMask-kept s (atLane i g (s .engine)) (s .table) kept y
   value-withLane h (lane j k) =
       elim (decide j i) [
         | same e t u ↦ rw e (rw (getD-update-same freshLane (s .engine .lanes) i g h, eqb-self i))

@@ -14,9 +14,9 @@ use Rattle.model.specs.Engine.{freshLane, laneAt, atLane}
 use Rattle.model.specs.Memory.{allQueues, flags, laneWords, slotWords}
 use Rattle.laws.specs.Tests.{and-false-right, eqb-self, same, other, decide}
 use Rattle.laws.specs.ListLaws.{update-cases, getD-update-same, getD-update-other, getD-set}
-use Rattle.representation.proofs.Addresses.Fields.{Field, top, head, end, mask, lane, slot, value, endWords}
+use Rattle.representation.proofs.Addresses.Fields.{Field, top, head, end, mask, lane, slot, yard, value, endWords}
 use Rattle.representation.proofs.Addresses.Writes.{put}
-use Rattle.representation.proofs.Addresses.MaskWords.{laneMask-kept, top-kept}
+use Rattle.representation.proofs.Addresses.MaskWords.{laneMask-kept, cabinetMask-kept, top-kept}
 use Rattle.changes.proofs.Shape.{LaneAtEach}
 use Rattle.changes.proofs.Puts.{linked}
 use Rattle.changes.specs.Queues.{Part, next, current, done, Queue, free, global, lane as ofLane, Named, partOf, partAt, atPart, queueOf}
@@ -114,6 +114,9 @@ module _ (s : State) (f : List ℕ → List ℕ) where
   value-withQueue free w h (mask c) = refl
   value-withQueue (global p) w h (mask c) = refl
   value-withQueue (ofLane i p) w h (mask c) = laneMask-kept s (e i p) (s .table) (pending i p) c
+  value-withQueue free w h (yard y) = refl
+  value-withQueue (global p) w h (yard y) = refl
+  value-withQueue (ofLane i p) w h (yard y) = cabinetMask-kept s (e i p) (s .table) (pending i p) y
   value-withQueue free w h (lane j k) = refl
   value-withQueue (global p) w h (lane j k) = refl
   value-withQueue (ofLane i p) w h (lane j k) = lane-value i p (omega (arith, w)) j k
@@ -128,6 +131,7 @@ linked-over q xs h k v w e (top j) = e (top j)
 linked-over q xs h k v w e (head j) = e (head j)
 linked-over q xs h k v w e (end j) = e (end j)
 linked-over q xs h k v w e (mask j) = e (mask j)
+linked-over q xs h k v w e (yard j) = e (yard j)
 linked-over q xs h k v w e (lane i j) = e (lane i j)
 linked-over q xs h k v w e (slot i j) =
     rw (slot-first i j q, slot-word i j q lastOffset, slot-word i j q lengthOffset)

@@ -34,7 +34,7 @@ use Rattle.history.proofs.CallsKeep.Reclaim.{lanes-same, keeps-handBack
 
 -- the call changes code c: an add, replace or delete of it
 unfoldable pub changesCode : ℕ → Call → Bool
-changesCode c (set-up x y z) = false
+changesCode c (set-up z) = false
 changesCode c (on-state (add i b d m)) = eqb b c
 changesCode c (on-state (replace i b d m)) = eqb b c
 changesCode c (on-state (delete i b)) = eqb b c
@@ -98,7 +98,7 @@ fed-cases P k awaited r g h = h .same
 pub fedCall-cases : (P : Ledger → Type 0) (k : ℕ) (x : Call) (r : Answer) (g : Ledger) → P g
     → ((o : Op) → x ≡ on-state o → r .status ≡ 0 → Changed P o g) → P (fedCall k x r g)
 unfolding fedCall
-fedCall-cases P k (set-up x y z) r g p h = p
+fedCall-cases P k (set-up z) r g p h = p
 fedCall-cases P k (on-state o) r g p h =
     cond-cases P (eqb (r .status) 0) (λ t. fed-cases P k o r g (h o refl (eqb-true (r .status) 0 t))) (λ t. p)
 

@@ -34,7 +34,7 @@ pub record At (h done : List Event) (s : State) (m : List ℕ) (ks : List Call) 
 
 -- the state after a call; a set-up of the list is refused
 abbrev pub after : State → Call → State
-after s (set-up c p n) = s
+after s (set-up z) = s
 after s (on-state o) = next s o
 
 module _ (h : List Event) where
@@ -57,9 +57,9 @@ module _ (h : List Event) where
 
   module _ (done : List Event) (s : State) (m : List ℕ) where
     -- a refused set-up is not seen
-    pub ledger-setUp : (c p n : ℕ) → ledger (done ++ (event m (set-up c p n) ∷ [])) ≡ ledger done
+    pub ledger-setUp : (z : Sizes) → ledger (done ++ (event m (set-up z) ∷ [])) ≡ ledger done
     unfolding fedCall
-    ledger-setUp c p n = ledger-snoc done (event m (set-up c p n))
+    ledger-setUp z = ledger-snoc done (event m (set-up z))
 
     -- a call, with its state's answer
     pub ledger-call : (o : Op) → Stands s m
@@ -78,10 +78,10 @@ module _ (h : List Event) where
   pub later : (done : List Event) (s : State) (m : List ℕ) (k : Call) (ks : List Call) → At h done s m (k ∷ ks)
       → At h (done ++ (event m k ∷ [])) (after s k) (left m k) ks
   unfolding RefusesSetUps
-  later done s m (set-up c p n) ks a =
-      let same = ledger-setUp done s m c p n in
-      later-of done s m (set-up c p n) ks a s (ledger done) same (rw (refused-keeps m (set-up c p n) (a .refuses .0)) (a .stands)) (a .refuses .1)
-      (invariant-same (a .invariant) (past-next done s m (set-up c p n) ks a ∙ same))
+  later done s m (set-up z) ks a =
+      let same = ledger-setUp done s m z in
+      later-of done s m (set-up z) ks a s (ledger done) same (rw (refused-keeps m (set-up z) (a .refuses .0)) (a .stands)) (a .refuses .1)
+      (invariant-same (a .invariant) (past-next done s m (set-up z) ks a ∙ same))
   later done s m (on-state o) ks a =
       let k = keeps-at done s m o ks a in
       later-of done s m (on-state o) ks a (next s o) _ (ledger-call done s m o (a .stands)) (stands-next (a .stands) o) (a .refuses)
@@ -90,7 +90,7 @@ module _ (h : List Event) where
   -- and what it leaves to readers
   respects-later : (done : List Event) (s : State) (m : List ℕ) (k : Call) (ks : List Call) → At h done s m (k ∷ ks)
       → Respects (length done) (s .table) (after s k .table) (ledger done) (ledger (done ++ (event m k ∷ [])))
-  respects-later done s m (set-up c p n) ks a = rw (ledger-setUp done s m c p n) (keeps-same (a .invariant .tied) .respects)
+  respects-later done s m (set-up z) ks a = rw (ledger-setUp done s m z) (keeps-same (a .invariant .tied) .respects)
   respects-later done s m (on-state o) ks a = rw (ledger-call done s m o (a .stands)) (keeps-at done s m o ks a .respects)
 
   -- ---- to an event, and to the end

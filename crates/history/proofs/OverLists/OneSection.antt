@@ -65,7 +65,7 @@ module _ (h : List Event) where
   one-later : (done : List Event) (s : State) (m : List ℕ) (k : Call) (ks : List Call) → At h done s m (k ∷ ks) → OneSection (ledger done)
       → OneSection (ledger (done ++ (event m k ∷ [])))
   unfolding fedCall
-  one-later done s m (set-up c p n) ks a v = rw (ledger-snoc done (event m (set-up c p n))) v
+  one-later done s m (set-up z) ks a v = rw (ledger-snoc done (event m (set-up z))) v
   one-later done s m (on-state o) ks a v =
       rw (ledger-snoc done (event m (on-state o)), reply-on (a .stands) o) (one-next (a .invariant) v o)
 
