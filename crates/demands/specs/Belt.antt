@@ -3,6 +3,7 @@ use Prim.Native.Nat.{ℕ, suc}
 use mathlib.Core.Path.{_≡_, sym, ap, _∙_}
 use mathlib.Core.List.{List, [], _∷_, _++_, head-eq-of-cons-eq, tail-eq-of-cons-eq}
 use lib.ListN.{replicate}
+use Rattle.model.specs.State.{Sizes}
 use Rattle.model.specs.Rules.{start, step, Answer, accepted, zeros}
 use Rattle.model.specs.Calls.{Call, set-up, on-state, reply, left}
 use Rattle.model.specs.Ledger.{Event, ledger, search, events, recordsOn, stepAnswers, startEvent, Belt, ChainsCounted, Attained}

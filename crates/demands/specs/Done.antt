@@ -2,6 +2,7 @@
 use Prim.Native.Nat.{ℕ, _+_}
 use mathlib.Core.Path.{_≡_}
 use mathlib.Core.List.{List}
+use Rattle.model.specs.State.{Sizes}
 use Rattle.model.specs.Memory.{state}
 use Rattle.model.specs.Calls.{Call, set-up, leftAll}
 use Rattle.model.specs.Ledger.{events, doneSlots, movedByClocks, handBacks, movedByOffs}

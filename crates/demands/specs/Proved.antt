@@ -7,7 +7,7 @@ use native.Mathlib.Omega.{arith}
 use lib.ListN.{length}
 use lib.Dec.{ltb}
 use borrow.Author.Tests.{lt-ltb, le-ltb}
-use Rattle.model.specs.State.{State}
+use Rattle.model.specs.State.{Sizes, State}
 use Rattle.model.specs.Rules.{Answer, Op, answer, fresh}
 use Rattle.model.specs.Memory.{Words, state}
 use Rattle.model.specs.Calls.{Call, set-up, on-state, stored, refusalOf, replyOf, leftOf, reply, left, leftAll}

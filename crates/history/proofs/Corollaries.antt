@@ -7,7 +7,7 @@ use mathlib.Core.Bool.{true}
 use mathlib.Core.List.{List, [], append-nil, List·Memᴰ, List·Memᴰ·not-nil}
 use native.Mathlib.Omega.{arith}
 use lib.ListN.{length, length-append}
-use Rattle.model.specs.State.{State}
+use Rattle.model.specs.State.{Sizes, State}
 use Rattle.model.specs.Rules.{Op, Answer, answer, fresh}
 use Rattle.model.specs.Memory.{state}
 use Rattle.model.specs.Calls.{Call, set-up, on-state, reply, left, leftAll}

@@ -3,7 +3,7 @@ use Prim.Native.Nat.{ℕ, zero, suc}
 use mathlib.Core.Path.{_≡_, refl}
 use mathlib.Core.List.{List, []}
 use native.Mathlib.Omega.{arith}
-use Rattle.model.specs.State.{State}
+use Rattle.model.specs.State.{Sizes, State}
 use Rattle.model.specs.Rules.{fresh}
 use Rattle.model.specs.Calls.{Call, set-up, refusalOf, replyOf, reply, left}
 use Rattle.model.specs.Ledger.{ledgerFrom, events, RefusesSetUps, Demand3}

@@ -5,6 +5,7 @@ use mathlib.Core.Path.{_≡_, ap, sym, _∙_}
 use mathlib.Core.List.{List}
 use lib.ListN.{length}
 use borrow.Author.Tests.{lt-ltb, le-ltb}
+use Rattle.model.specs.State.{Sizes}
 use Rattle.model.specs.Layout.{total}
 use Rattle.model.specs.Rules.{accepted, refused, firstOf, fresh}
 use Rattle.model.specs.Legal.{sizesFit}

@@ -4,7 +4,7 @@ use mathlib.Core.Path.{_≡_, refl, sym, ap, subst, _∙_}
 use mathlib.Core.List.{List, [], _∷_, _++_, append-nil, nil≢cons, head-eq-of-cons-eq, tail-eq-of-cons-eq}
 use lib.ListN.{length}
 use lib.Seq.{append-snoc}
-use Rattle.model.specs.State.{Product, State}
+use Rattle.model.specs.State.{Sizes, Product, State}
 use Rattle.model.specs.Rules.{Op, Answer, answer, next}
 use Rattle.model.specs.Memory.{state}
 use Rattle.model.specs.Calls.{Call, set-up, on-state, reply, left, leftAll}
