@@ -23,9 +23,7 @@ same-length : tie.Need-same-length
 same-length c = search needs
 
 returns : tie.Need-returns
-returns c =
-    let at-clear-bit : tie.After-clear-bit = search in
-    cleared-by _ _ _ _ (at-clear-bit .clear-bit .ensures)
+returns c = search (needs, cleared-by)
 
 pub clear-spec : {M : Type 1} → statement M
 clear-spec = tie.close (tie.spec mul-clear-bit slice-read-clear-bit clear-bit-requires mul-m slice-write-m same-length returns)
