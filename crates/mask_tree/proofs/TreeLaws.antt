@@ -1,5 +1,5 @@
--- Laws of a tree of masks, each by one induction over the levels: after a bit is cleared up the levels they are the masks of the flags less that one, and levels
--- that are set by those below them are the masks of the lowest level's flags.
+-- Laws of a tree of masks, each by one induction over the levels: after a bit is cleared up the levels they are the masks of the flags less that one, and
+-- levels that are set by those below them are the masks of the lowest level's flags.
 use Prim.Native.Nat.{ℕ, zero, suc, _+_, _*_, _/_, _≤_, _<_}
 use mathlib.Core.Bool.{Bool, false, not, cond}
 use mathlib.Core.Path.{_≡_, refl, ap, sym, _∙_, subst, fun-ext}
@@ -41,12 +41,12 @@ pub masked-alike : (m : List ℕ) (ls : List Level) (f h : ℕ → Bool) → ((i
 masked-alike m ls f h e = subst (Masked m ls) (fun-ext e)
 
 -- a store elsewhere
-pub masked-set : (m : List ℕ) (a x : ℕ) (ls : List Level) (f : ℕ → Bool) → Each (Off a) ls → Masked m ls f → Masked (set m a x) ls f
+masked-set : (m : List ℕ) (a x : ℕ) (ls : List Level) (f : ℕ → Bool) → Each (Off a) ls → Masked m ls f → Masked (set m a x) ls f
 masked-set m a x [] f o k = tt
 masked-set m a x (l ∷ ls) f o k =
     (λ g b. getD-set-other m a (l .first + g) x 0 (λ e. o .0 g b (sym e)) ∙ k .0 g b, masked-set m a x ls (standing (l .wide) f) (o .1) (k .1))
 
-pub inside-kept : (m n : List ℕ) (ls : List Level) → length n ≡ length m → Inside m ls → Inside n ls
+inside-kept : (m n : List ℕ) (ls : List Level) → length n ≡ length m → Inside m ls → Inside n ls
 inside-kept m n ls e h = subst (λ (c : ℕ). Each (λ (l : Level). l .first + l .count ≤ c) ls) (sym e) h
 
 -- ---- the flags but one, group by group
@@ -236,8 +236,8 @@ raisedUp-else m l [] a o = refl
 raisedUp-else m l (k ∷ ks) a o = raisedUp-else (raisedTo m (l .first) k (k .count)) k ks a (o .1) ∙ raisedTo-else m (l .first) k (k .count) a (o .0)
 
 -- one level: k's masks are those of the flags that l's masks stand for
-module _ (f : ℕ → Bool) (m : List ℕ) (l k : Level) (full : k .count * k .wide ≡ l .count) (apart : (g h : ℕ) → g < l .count → h < k .count → l .first + g ≢ k .first + h)
-    (inside : k .first + k .count ≤ length m) (masked : LevelMasked m l f) where
+module _ (f : ℕ → Bool) (m : List ℕ) (l k : Level) (full : k .count * k .wide ≡ l .count)
+    (apart : (g h : ℕ) → g < l .count → h < k .count → l .first + g ≢ k .first + h) (inside : k .first + k .count ≤ length m) (masked : LevelMasked m l f) where
   raised-masked : LevelMasked (raisedTo m (l .first) k (k .count)) k (standing (l .wide) f)
   raised-masked g h =
       raisedTo-there m (l .first) k (k .count) inside (λ i j p q. apart i j (omega (arith, full)) q) g h
