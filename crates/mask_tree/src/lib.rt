@@ -18,7 +18,8 @@ pub fn clear(m: &mut [u32], at: usize, place: u32) -> bool
     requires { ⌜ (at < length (now m)) × (place < width) ⌝ }
     ensures { λ r. ⌜ Cleared (now (m .entry)) at place r (now (m .exit)) ⌝ }
 {
-    let rest = masks::clear_bit(m[at], place);
+    let mask = m[at];
+    let rest = masks::clear_bit(mask, place);
     m[at] = rest;
     rest == 0
 }

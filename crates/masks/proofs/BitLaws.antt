@@ -6,8 +6,8 @@ use mathlib.Core.List.{List, [], _∷_, map}
 use mathlib.Core.Logic.{⊎-elim}
 use native.Mathlib.Omega.{arith}
 use lib.ListN.{length, set}
-use lib.Pow.{pow-mono}
-use lib.Bits.{bitAnd, bitOr}
+use lib.Pow.{pow-pos, pow-mono}
+use lib.Bits.{bitAnd, bitOr, and-zero-l}
 use lib.Count.{ones, trailingZeros}
 use lib.Dec.{eqb}
 use Rattle.model.specs.Lists.{any, from, mask, bit}
@@ -43,6 +43,10 @@ module _ (w p : ℕ) (hw : w < 2 ^ width) (hp : p < width) where
       ap (λ (x : ℕ). bitAnd w ((2 ^ width - 1) - x)) (shl-bit p hp)
       ∙ ap (λ (x : ℕ). bitAnd x ((2 ^ width - 1) - 2 ^ p)) (sym (mask-flags w width hw))
       ∙ and-clear width (bits w) p (omega (arith, length-bits w)) (omega (arith, length-bits w))
+
+-- 0 has no bit to clear
+pub withoutBit-zero : (p : ℕ) → p < width → withoutBit p 0 ≡ 0
+withoutBit-zero p h = sym (and-withoutBit 0 p (pow-pos width) h) ∙ and-zero-l ((2 ^ width - 1) - (1 * 2 ^ p) % 2 ^ width)
 
 module _ (w : ℕ) (hw : w < 2 ^ width) where
   pub ones-trues : ones w ≡ trues (bits w)

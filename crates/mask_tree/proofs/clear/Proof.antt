@@ -4,11 +4,11 @@ use Rattle.mask_tree.proofs.FunctionLaws.{cleared-by}
 use Rattle.mask_tree.proofs.clear.Statement.{statement}
 use Rattle.mask_tree.proofs.clear.Tie as tie
 
-mul-clear-bit : tie.Need-mul-clear-bit
-mul-clear-bit c = search needs
+mul-mask : tie.Need-mul-mask
+mul-mask c = search needs
 
-slice-read-clear-bit : tie.Need-slice-read-clear-bit
-slice-read-clear-bit c = search needs
+slice-read-mask : tie.Need-slice-read-mask
+slice-read-mask c = search needs
 
 clear-bit-requires : tie.Need-clear-bit-requires
 clear-bit-requires c κs = search needs
@@ -28,4 +28,4 @@ returns c =
     cleared-by _ _ _ _ (at-clear-bit .clear-bit .ensures)
 
 pub clear-spec : {M : Type 1} → statement M
-clear-spec = tie.close (tie.spec mul-clear-bit slice-read-clear-bit clear-bit-requires mul-m slice-write-m same-length returns)
+clear-spec = tie.close (tie.spec mul-mask slice-read-mask clear-bit-requires mul-m slice-write-m same-length returns)

@@ -18,10 +18,9 @@ loop-holds c = raising-start _ _ _
 
 standing-mask-requires : tie.Need-standing-mask-requires Inv-loop μ-loop
 standing-mask-requires c κs =
-    let at-loop-test : tie.In-loop Inv-loop μ-loop = search in
     let at-loop : tie.At-loop Inv-loop μ-loop = search in
     let entry : tie.Start Inv-loop μ-loop = search in
-    (omega (arith, raising-room _ _ _ _ _ _ (at-loop .loop .inv) (at-loop-test .loop-test .taken), entry .pre), entry .pre .1 .1)
+    (omega (arith, raising-room _ _ _ _ _ _ (at-loop .loop .inv) (omega arith), entry .pre), entry .pre .1 .1)
 
 cast-m : tie.Need-cast-m Inv-loop μ-loop
 cast-m c = search needs
@@ -40,10 +39,9 @@ cast-at c = search needs
 
 add-at : tie.Need-add-at Inv-loop μ-loop
 add-at c =
-    let at-loop-test : tie.In-loop Inv-loop μ-loop = search in
     let at-loop : tie.At-loop Inv-loop μ-loop = search in
     let entry : tie.Start Inv-loop μ-loop = search in
-    omega (arith, raising-room _ _ _ _ _ _ (at-loop .loop .inv) (at-loop-test .loop-test .taken), entry .pre)
+    omega (arith, raising-room _ _ _ _ _ _ (at-loop .loop .inv) (omega arith), entry .pre)
 
 add-g : tie.Need-add-g Inv-loop μ-loop
 add-g c = omega arith
@@ -52,13 +50,18 @@ loop-less : tie.Need-loop-less Inv-loop μ-loop
 loop-less c = omega arith
 
 loop-again : tie.Need-loop-again Inv-loop μ-loop
-loop-again c = search (needs, raising-on)
+loop-again c =
+    let at-standing-mask : tie.After-standing-mask Inv-loop μ-loop = search in
+    let at-loop : tie.At-loop Inv-loop μ-loop = search in
+    raising-on _ _ _ _ _ _ (at-loop .loop .inv) (omega arith) _ (at-standing-mask .standing-mask .ensures)
 
 same-length : tie.Need-same-length Inv-loop μ-loop
 same-length c = omega arith
 
 returns : tie.Need-returns Inv-loop μ-loop
-returns c = search (needs, raising-done)
+returns c =
+    let at-loop : tie.At-loop Inv-loop μ-loop = search in
+    raising-done _ _ _ _ _ _ (at-loop .loop .inv) (omega arith)
 
 pub raise-spec : {M : Type 1} → statement M
 raise-spec =
