@@ -104,9 +104,9 @@ module _ (i : ℕ) where
 -- ---- the theorem
 
 pub after-ends : EveryList (λ (h : List Event) (m : List ℕ). AfterEnds h)
-after-ends m z ok ks s i r before since rest z all = record {
-  noSection = no-section i before r z since;
-  noSearch = no-search i before r z since;
+after-ends m z ok ks s i r before since rest fine all = record {
+  noSection = no-section i before r fine since;
+  noSearch = no-search i before r fine since;
   noStep = step-refused;
 }
   where
@@ -120,7 +120,7 @@ after-ends m z ok ks s i r before since rest z all = record {
     es = before ++ endEvent i r ∷ since
 
     step-refused : NoStart i since → (a : Answer) (later : List Event) → rest ≡ stepEvent i a ∷ later → a .status ≡ 0 → ⊥
-    step-refused f a later e w = no-search i before r z since f (q .noted) (q .isNoted) (q .ofLane)
+    step-refused f a later e w = no-search i before r fine since f (q .noted) (q .isNoted) (q .ofLane)
       where
         came : Came h (stepEvent i a)
         came = record { before = es; rest = later; all = all ∙ ap (λ (x : List Event). es ++ x) e }

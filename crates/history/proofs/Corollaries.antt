@@ -102,14 +102,14 @@ same-twice m z ok ks s x y same starts order still = whole x order (omega arith)
     inside = omega (arith, simp length-append at (ap length (y .came .all)))
 
     -- the answer of each is the whole search as of the start of x
-    whole : (z : AnsweredLookup h) → instantBefore z ≤ instantBefore y → x .noted .started ≤ z .noted .started → x .noted .code ≡ z .noted .code
-        → z .answer ≡ search (past h (x .noted .started)) (x .noted .code)
-    whole z short later code = go (demand3 m z ok ks s .explained (z .lane) (z .answer) (z .came) (z .isAnswered))
+    whole : (v : AnsweredLookup h) → instantBefore v ≤ instantBefore y → x .noted .started ≤ v .noted .started → x .noted .code ≡ v .noted .code
+        → v .answer ≡ search (past h (x .noted .started)) (x .noted .code)
+    whole v short later code = go (demand3 m z ok ks s .explained (v .lane) (v .answer) (v .came) (v .isAnswered))
       where
-        go : Explained h (z .lane) (z .answer) (z .came .before) → z .answer ≡ search (past h (x .noted .started)) (x .noted .code)
+        go : Explained h (v .lane) (v .answer) (v .came .before) → v .answer ≡ search (past h (x .noted .started)) (x .noted .code)
         go e =
-            let is = ledger-one (z .came .before) .searches (e .noted) (z .noted) (e .isNoted) (z .isNoted) (e .ofLane ∙ sym (z .ofLane)) in
-            let from : z .noted .started ≤ e .instant = rw is at (e .notBefore) in
+            let is = ledger-one (v .came .before) .searches (e .noted) (v .noted) (e .isNoted) (v .isNoted) (e .ofLane ∙ sym (v .ofLane)) in
+            let from : v .noted .started ≤ e .instant = rw is at (e .notBefore) in
             e .whole ∙ (ap (search (past h (e .instant))) (ap (λ (q : Search). q .code) is ∙ sym code)
             ∙ window-unchanged (x .noted .code) h (x .noted .started) (instantBefore y) (e .instant)
             (omega arith) (omega (arith, e .notAfter)) inside still)
@@ -131,7 +131,7 @@ never-another m z ok ks s i r a b w = go (found-end m₀ ks (fresh z) start i r 
       finder = f .finder;
       isOpen = f .isOpen;
       ofLane = f .ofLane;
-      sameCode = λ x u l z q j e b d k o. sym (o .code) ∙ found-holds m₀ ks (fresh z) i r (a .before) f (rw (f .onlyFinder x u l) at z) q j e .code;
+      sameCode = λ x u l v q j e b d k o. sym (o .code) ∙ found-holds m₀ ks (fresh z) i r (a .before) f (rw (f .onlyFinder x u l) at v) q j e .code;
       notGiven = λ x u l z o w t e. other (rw (f .onlyFinder x u l) at z) (rw e at (reply-unused (f .invariant) (f .stands) o w t));
     }
       where

@@ -28,9 +28,9 @@ set-up-accepted m z = go (refusalOf m (set-up z))
 pub set-up-stands : (m : List ℕ) (z : Sizes) → reply m (set-up z) .status ≡ 0 → Stands (fresh z) (left m (set-up z))
 unfolding fresh
 set-up-stands m z h =
-    let z = set-up-accepted m z h in
-    let u = setUp-accepted m z z in
-    rw (left-setUp m z z) (stands-stored (fresh z) m (fresh-wellFormed z (u .inRange)) (u .long))
+    let free = set-up-accepted m z h in
+    let u = setUp-accepted m z free in
+    rw (left-setUp m z free) (stands-stored (fresh z) m (fresh-wellFormed z (u .inRange)) (u .long))
 
 -- the list, from its set-up on
 pub at-set-up : (m : List ℕ) (z : Sizes) → reply m (set-up z) .status ≡ 0 → (ks : List Call) → RefusesSetUps (left m (set-up z)) ks

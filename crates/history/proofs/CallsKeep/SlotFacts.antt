@@ -8,7 +8,7 @@ use native.Mathlib.Omega.{arith}
 use lib.Dec.{leb, leb→le}
 use Rattle.model.specs.Word.{none}
 use Rattle.model.specs.State.{Lane, Engine, State}
-use Rattle.model.specs.Layout.{maxCabinets, maxPlaces, maxSlots}
+use Rattle.model.specs.Layout.{maxYards, maxCabinets, maxPlaces, maxSlots}
 use Rattle.model.specs.Legal.{sizesFit}
 use Rattle.model.specs.Engine.{freshLane, laneAt, atLane}
 use Rattle.model.specs.Ledger.{Section, Out}
@@ -32,8 +32,11 @@ module _ {s : State} (w : WellFormed s) where
   -- there are at most 1,024 slots, so none is no slot
   pub slots-most : s .sizes .slots ≤ maxSlots
   unfolding sizesFit
-  slots-most = leb→le slots maxSlots (true-T (leb slots maxSlots) (every-true tests (w .sizes) .1 .1 .1 .1 .1 .0))
+  slots-most = leb→le slots maxSlots (true-T (leb slots maxSlots) (every-true tests (w .sizes) .1 .1 .1 .1 .1 .1 .1 .0))
     where
+      yards : ℕ
+      yards = s .sizes .yards
+
       cabinets : ℕ
       cabinets = s .sizes .cabinets
 
@@ -44,7 +47,7 @@ module _ {s : State} (w : WellFormed s) where
       slots = s .sizes .slots
 
       tests : List Bool
-      tests = leb 1 cabinets ∷ leb cabinets maxCabinets ∷ leb 1 places ∷ leb places maxPlaces ∷ leb 1 slots ∷ leb slots maxSlots ∷ []
+      tests = leb 1 yards ∷ leb yards maxYards ∷ leb 1 cabinets ∷ leb cabinets maxCabinets ∷ leb 1 places ∷ leb places maxPlaces ∷ leb 1 slots ∷ leb slots maxSlots ∷ []
 
   pub standing-some : (x : ℕ) → 0 < standing x s → x ≢ none
   standing-some x h = omega (arith, w .range x h, slots-most)
