@@ -21,7 +21,8 @@ use Rattle.changes.proofs.OfQueues.QueueChanges.{empty-shown}
 use Rattle.changes.proofs.OfOwners.Owners.{named-by, Owner, allLanes, oneLane, Known, queueBy, queuesBy, generationBy, joinedWords}
 use Rattle.engine.specs.declared.OwnerWords.{OwnerWords}
 use Rattle.engine.specs.Period.{requestedWords}
-use Rattle.engine.proofs.PeriodLaws.{current-shown, mask-shown, mask-runs}
+use Rattle.representation.proofs.FromState.Periods.{yardMask-runs}
+use Rattle.engine.proofs.PeriodLaws.{current-shown, mask-shown}
 use Rattle.engine.specs.Advance.{targetWord, settledWords, batchedWords, begunWords}
 
 -- ---- the words at the owner's addresses
@@ -89,7 +90,7 @@ module _ (s : State) (m : List ℕ) (shows : Shows m s) where
     pub target-shown : targetWord m ≡ target e
     unfolding targetWord target
     target-shown =
-        ap₂ (λ (b : Bool) (g : ℕ). cond b g (up g)) (ap (λ (k : ℕ). eqb k 0) (mask-shown s m shows) ∙ mask-runs s (w .lanes)) (current-shown s m shows)
+        ap₂ (λ (b : Bool) (g : ℕ). cond b g (up g)) (ap (λ (k : ℕ). eqb k 0) (mask-shown s m shows) ∙ yardMask-runs s (w .lanes)) (current-shown s m shows)
         ∙ turned (runs e)
       where
         turned : (b : Bool) → cond (not b) (e .current) (up (e .current)) ≡ cond b (up (e .current)) (e .current)

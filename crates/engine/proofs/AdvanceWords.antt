@@ -7,7 +7,7 @@ use lib.Dec.{ltb}
 use borrow.Author.Tests.{eq-eqb, ne-eqb, lt-ltb, le-ltb}
 use Rattle.model.specs.Word.{up, later}
 use Rattle.model.specs.State.{Sizes}
-use Rattle.model.specs.Layout.{currentOffset, currentGenerationAt, cabinetMaskAt}
+use Rattle.model.specs.Layout.{currentOffset, currentGenerationAt, yardMaskAt}
 use Rattle.model.specs.Memory.{at}
 use Rattle.engine.specs.declared.OwnerWords.{OwnerWords}
 use Rattle.engine.specs.Period.{requestedWords}
@@ -15,13 +15,13 @@ use Rattle.engine.specs.Advance.{targetWord, finishedWords, settledWords
 
 module _ (m : List ℕ) where
   -- no period runs, or one does
-  pub target-rests : at m cabinetMaskAt ≡ 0 → at m currentGenerationAt ≡ targetWord m
+  pub target-rests : at m yardMaskAt ≡ 0 → at m currentGenerationAt ≡ targetWord m
   unfolding targetWord
-  target-rests t = sym (ap (λ (d : Bool). cond d (at m currentGenerationAt) (up (at m currentGenerationAt))) (eq-eqb (at m cabinetMaskAt) 0 t))
+  target-rests t = sym (ap (λ (d : Bool). cond d (at m currentGenerationAt) (up (at m currentGenerationAt))) (eq-eqb (at m yardMaskAt) 0 t))
 
-  pub target-runs : (at m cabinetMaskAt ≡ 0 → ⊥) → (r : ℕ) → r ≡ up (at m currentGenerationAt) → r ≡ targetWord m
+  pub target-runs : (at m yardMaskAt ≡ 0 → ⊥) → (r : ℕ) → r ≡ up (at m currentGenerationAt) → r ≡ targetWord m
   unfolding targetWord
-  target-runs t r e = e ∙ sym (ap (λ (d : Bool). cond d (at m currentGenerationAt) (up (at m currentGenerationAt))) (ne-eqb (at m cabinetMaskAt) 0 t))
+  target-runs t r e = e ∙ sym (ap (λ (d : Bool). cond d (at m currentGenerationAt) (up (at m currentGenerationAt))) (ne-eqb (at m yardMaskAt) 0 t))
 
 module _ (m : List ℕ) (z : Sizes) (o : OwnerWords) where
   abbrev finished : List ℕ

@@ -4,12 +4,11 @@ use mathlib.Core.Bool.{Bool, true, false, cond}
 use mathlib.Core.Path.{_≡_, refl, ap, sym, _∙_}
 use mathlib.Core.List.{List}
 use native.Mathlib.Omega.{arith}
-use Rattle.model.specs.State.{Sizes, laneCount, Engine, State}
+use Rattle.model.specs.State.{cabinetCount, Sizes, laneCount, Engine, State}
 use Rattle.model.specs.Layout.{generationAt, queuesAt}
 use Rattle.model.specs.Engine.{laneAt, released, advancedLane, advancedGlobal, quiesced, sampled, clocked}
 use Rattle.model.specs.Rules.{clock, withEngine, withLane, performed}
 use Rattle.model.specs.Calls.{stored}
-use Rattle.masks.specs.Bits.{width}
 use Rattle.representation.proofs.FromState.Standing.{fit}
 use Rattle.representation.proofs.WellFormed.{WellFormed}
 use Rattle.changes.proofs.Shows.{Shows, stored-shown, shows-then, stored-then}
@@ -28,7 +27,7 @@ use Rattle.engine.proofs.CompareLaws.{moved-quiesced}
 use Rattle.engine.proofs.SampleLaws.{within-lanes, sample-stored, shape-sampled}
 use Rattle.engine.specs.Clock.{comparedWords, sampleWords, clockWords}
 
-module _ (s : State) (m : List ℕ) (shows : Shows m s) (w : WellFormed s) (c p : ℕ) (inCabinets : c < s .sizes .cabinets) (inPlaces : p < s .sizes .places) where
+module _ (s : State) (m : List ℕ) (shows : Shows m s) (w : WellFormed s) (c p : ℕ) (inCabinets : c < cabinetCount (s .sizes)) (inPlaces : p < s .sizes .places) where
   abbrev z : Sizes
   z = s .sizes
 
@@ -62,14 +61,8 @@ module _ (s : State) (m : List ℕ) (shows : Shows m s) (w : WellFormed s) (c p 
       (ap (λ (a : ℕ). movedOn (recordAt m a)) (cabinetAt-lane z c p) ∙ moved-quiesced s m shows k known (w .fits k))
       ∙ go (quiesced (laneAt (s .engine) k))
     where
-      fewC : z .cabinets ≤ width
-      fewC = omega (arith, fit s w .fewCabinets)
-
-      fewP : z .places ≤ width
-      fewP = omega (arith, fit s w .fewPlaces)
-
       go : (b : Bool) → cond b (releasedWords m z l) m ≡ stored (withEngine s (comparedBy b)) m
-      go true = released-stored s m shows (w .lanes) c p inCabinets inPlaces fewC fewP
+      go true = released-stored s m shows (w .lanes) c p inCabinets inPlaces (fit s w)
       go false = sym (stored-shown s m shows)
 
   shape₁ : Shape (withEngine s e₁)

@@ -1,5 +1,7 @@
 -- Which change of the state the words after each function are: `Words` what the code's steps give, `Laws` the change of the state.
 
+-- the masks as a tree
+pub mod MaskLevels
 -- grace periods: begin, end and request
 pub mod PeriodWords
 pub mod StartLaws
@@ -7,7 +9,6 @@ pub mod PeriodLaws
 -- the release of a lane
 pub mod ReleaseWords
 pub mod ReleaseBits
-pub mod ReleaseMasks
 pub mod ReleaseStores
 pub mod ReleaseLaws
 -- the advance of an owner

@@ -5,7 +5,7 @@ use mathlib.Core.List.{List}
 use native.Mathlib.Omega.{arith}
 use native.Mathlib.Nat.{mul-le-mul-right}
 use native.Mathlib.Decide.{decLt}
-use Rattle.model.specs.State.{Sizes, laneCount, State}
+use Rattle.model.specs.State.{cabinetCount, Sizes, laneCount, State}
 use Rattle.model.specs.Engine.{released, advancedGlobal, wentOff}
 use Rattle.model.specs.Rules.{off, causes, refusal, withEngine, performed}
 use Rattle.model.specs.Calls.{stored}
@@ -27,7 +27,7 @@ use Rattle.engine.proofs.AdvanceLaws.{advanced-stored}
 use Rattle.engine.specs.Off.{handedWords, offWords}
 use Rattle.engine.proofs.OffSteps.{gone, leftWords, left-stored, shape-left}
 
-module _ (s : State) (m : List ℕ) (shows : Shows m s) (w : WellFormed s) (c p : ℕ) (inCabinets : c < s .sizes .cabinets) (inPlaces : p < s .sizes .places) where
+module _ (s : State) (m : List ℕ) (shows : Shows m s) (w : WellFormed s) (c p : ℕ) (inCabinets : c < cabinetCount (s .sizes)) (inPlaces : p < s .sizes .places) where
   abbrev z : Sizes
   z = s .sizes
 
@@ -38,7 +38,7 @@ module _ (s : State) (m : List ℕ) (shows : Shows m s) (w : WellFormed s) (c p 
   lane-number = c * z .places + p
 
   lane-within : lane-number < laneCount (s .sizes)
-  lane-within = omega (arith, row-within c (z .cabinets) (z .places) inCabinets)
+  lane-within = omega (arith, row-within c (cabinetCount z) (z .places) inCabinets)
 
   -- the global queues advance
   abbrev advancedAll : List ℕ → List ℕ
@@ -52,7 +52,6 @@ module _ (s : State) (m : List ℕ) (shows : Shows m s) (w : WellFormed s) (c p 
   unfolding offWords performed wentOff
   off-stored =
       let x = wellFormed-shape s w in
-      let f = fit s w in
       -- left
       let t = gone s x lane-number lane-within in
       let n = leftWords s x lane-number lane-within m shows in
@@ -62,7 +61,7 @@ module _ (s : State) (m : List ℕ) (shows : Shows m s) (w : WellFormed s) (c p 
       let u = withEngine t (released lane-number (t .engine)) in
       let k = releasedWords n z l in
       let r =
-      released-stored t n (shows-then t m n (shows .long) q) (y .lanes) c p inCabinets inPlaces (omega (arith, f .fewCabinets)) (omega (arith, f .fewPlaces)) in
+      released-stored t n (shows-then t m n (shows .long) q) (y .lanes) c p inCabinets inPlaces (fit s w) in
       let v = stored-then t u m n k refl q r in
       ap stepsAt (cabinetAt-lane (s .sizes) c p)
       ∙ stored-then u (withEngine u (advancedGlobal (u .engine))) m k (advancedAll k) refl v

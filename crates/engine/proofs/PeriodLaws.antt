@@ -3,59 +3,24 @@
 use Prim.Native.Nat.{ℕ}
 use mathlib.Core.Bool.{Bool, true, false, not, cond}
 use mathlib.Core.Path.{_≡_, refl, ap, ap₂, sym, _∙_}
-use mathlib.Core.List.{List, map}
+use mathlib.Core.List.{List}
 use native.Mathlib.Omega.{arith}
-use lib.ListN.{set, length-map, List·getD-map}
+use lib.ListN.{set}
 use lib.Dec.{eqb}
 use Rattle.model.specs.Word.{up, later}
-use Rattle.model.specs.Lists.{concat, from}
-use Rattle.model.specs.Lists.{mask as maskOf}
-use Rattle.model.specs.State.{Sizes, laneCount, Engine, State}
-use Rattle.model.specs.Layout.{currentGenerationAt, largestGenerationAt, cabinetMaskAt}
-use Rattle.model.specs.Engine.{freshLane, laneAt, withCurrent, withLargest, isPending, runs, started, ended, requested}
+use Rattle.model.specs.State.{Sizes, Engine, State}
+use Rattle.model.specs.Layout.{currentGenerationAt, largestGenerationAt, yardMaskAt}
+use Rattle.model.specs.Engine.{withCurrent, withLargest, runs, started, ended, requested}
 use Rattle.model.specs.Rules.{withEngine}
-use Rattle.model.specs.Memory.{at, contents, flags, pendingAt, laneMask, cabinetMask, isNotZero}
+use Rattle.model.specs.Memory.{at, contents, yardMask}
 use Rattle.model.specs.Calls.{stored}
-use Rattle.laws.specs.Tests.{not-not}
-use Rattle.laws.specs.ListLaws.{map-from-alike, map-map-from, map-from-getD}
-use Rattle.laws.specs.Elements.{any-map}
-use Rattle.laws.specs.Masks.{isTrue, some, mask-zero}
-use Rattle.laws.specs.Levels.{concat-rows, upper, some-concat}
-use Rattle.representation.proofs.Addresses.Fields.{top, end, mask}
+use Rattle.representation.proofs.Addresses.Fields.{top, end}
+use Rattle.representation.proofs.FromState.Periods.{yardMask-runs}
 use Rattle.changes.proofs.Shows.{Shows, stored-shown, shows-then, stored-then}
 use Rattle.changes.proofs.Shape.{LaneAtEach, Shape}
 use Rattle.changes.proofs.OfLanes.EngineWords.{write-current, write-largest, shape-engine}
 use Rattle.engine.specs.Period.{startedWords, endedWords, raisedWords, requestedWords}
 use Rattle.engine.proofs.StartLaws.{shape-started, started-stored}
-
--- ---- a period runs while the cabinet mask is not 0
-
-module _ (s : State) (each : LaneAtEach s) where
-  -- a cabinet's flags
-  abbrev row : ℕ → List Bool
-  row c = map (pendingAt s c) (from 0 (s .sizes .places))
-
-  abbrev rows : List (List Bool)
-  rows = map row (from 0 (s .sizes .cabinets))
-
-  concat-flags : concat rows ≡ map isPending (s .engine .lanes)
-  concat-flags =
-      concat-rows (λ (i : ℕ). laneAt (s .engine) i .pending) (s .sizes .places) (s .sizes .cabinets)
-      ∙ map-from-getD (λ (i : ℕ). laneAt (s .engine) i .pending) false (map isPending (s .engine .lanes)) (laneCount (s .sizes))
-      (length-map (s .engine .lanes) isPending ∙ each) (λ i b. sym (List·getD-map isPending (s .engine .lanes) i freshLane))
-
-  cabinetMask-upper : cabinetMask s ≡ maskOf (upper rows)
-  cabinetMask-upper =
-      ap maskOf
-      (map-map-from isNotZero (laneMask s) 0 (s .sizes .cabinets)
-      ∙ map-from-alike _ (λ (c : ℕ). some (row c)) 0 (s .sizes .cabinets) (λ c a b. ap not (mask-zero (row c)) ∙ not-not (some (row c)))
-      ∙ sym (map-map-from some row 0 (s .sizes .cabinets)))
-
-  pub mask-runs : eqb (cabinetMask s) 0 ≡ not (runs (s .engine))
-  mask-runs =
-      ap (λ (w : ℕ). eqb w 0) cabinetMask-upper
-      ∙ mask-zero (upper rows)
-      ∙ ap not (sym (some-concat rows) ∙ ap some concat-flags ∙ any-map isTrue isPending (s .engine .lanes))
 
 -- ---- end period, and request
 
@@ -68,9 +33,9 @@ module _ (s : State) (m : List ℕ) (shows : Shows m s) where
   unfolding contents
   largest-shown = shows .image (top largestGenerationAt) (omega arith)
 
-  pub mask-shown : at m cabinetMaskAt ≡ cabinetMask s
+  pub mask-shown : at m yardMaskAt ≡ yardMask s
   unfolding contents
-  mask-shown = shows .image (top cabinetMaskAt) (omega arith)
+  mask-shown = shows .image (top yardMaskAt) (omega arith)
 
 module _ (s : State) (m : List ℕ) (shows : Shows m s) (each : LaneAtEach s) where
   abbrev z : Sizes
@@ -120,7 +85,7 @@ module _ (s : State) (m : List ℕ) (shows : Shows m s) (each : LaneAtEach s) wh
   pub requested-stored : (g : ℕ) → requestedWords m z g ≡ stored (withEngine s (requested g (s .engine))) m
   unfolding requested requestedWords
   requested-stored g =
-      ap (λ (d : Bool). cond d (startedWords (raisedWords m g) z) (raisedWords m g)) (ap (λ (w : ℕ). eqb w 0) (mask-shown s m shows) ∙ mask-runs s each)
+      ap (λ (d : Bool). cond d (startedWords (raisedWords m g) z) (raisedWords m g)) (ap (λ (w : ℕ). eqb w 0) (mask-shown s m shows) ∙ yardMask-runs s each)
       ∙ requested-by (runs (s .engine)) g
 
 -- ---- the shape stays

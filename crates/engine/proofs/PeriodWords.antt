@@ -1,28 +1,25 @@
--- Laws of the words of Period: what the lane masks leave, and one cabinet more.
-use Prim.Native.Nat.{ℕ, zero, suc, _+_, _*_, _^_, _<_, _≤_}
+-- Laws of the words of Period: what the lane masks leave, and what the code's steps give.
+use Prim.Native.Nat.{ℕ, zero, suc, _+_, _*_, _<_, _≤_}
 use mathlib.Core.Bool.{Bool, true, false, cond}
 use mathlib.Core.Path.{_≡_, refl, ap, ap₂, sym, _∙_}
-use mathlib.Core.List.{List, map}
+use mathlib.Core.List.{List}
 use native.Mathlib.Omega.{arith}
-use lib.ListN.{length, set, take, drop, length-set}
+use lib.ListN.{length, set, length-set}
 use lib.Seq.{getD-set-same, getD-set-other}
-use lib.Bits.{bitOr}
-use lib.Pow.{pow-mono}
 use borrow.Author.Tests.{eq-eqb, ne-eqb}
 use native.Mathlib.Numerals.{add-one}
 use Rattle.model.specs.Word.{up, later}
-use Rattle.model.specs.Lists.{from, mask}
-use Rattle.model.specs.State.{Sizes}
-use Rattle.model.specs.Layout.{maxCabinets, currentGenerationAt, largestGenerationAt, cabinetMaskAt, masksAt, laneLength, onlineBit}
-use Rattle.model.specs.Memory.{at, flag, isNotZero}
+use Rattle.model.specs.Lists.{mask}
+use Rattle.model.specs.State.{Sizes, cabinetCount}
+use Rattle.model.specs.Layout.{currentGenerationAt, largestGenerationAt, yardMaskAt, masksAt, onlineBit, yardsBody}
+use Rattle.model.specs.Memory.{at, flag}
 use Rattle.laws.specs.Tests.{same, other, decide}
 use Rattle.laws.specs.ListLaws.{map-from-alike}
-use Rattle.laws.specs.Masks.{mask-from-lt, mask-from-suc}
-use Rattle.laws.specs.MaskFlags.{shl-bit}
-use Rattle.masks.specs.Bits.{width, withBit}
+use Rattle.mask_tree.specs.Tree.{raisedTo, raisedUp}
+use Rattle.mask_tree.proofs.TreeLaws.{length-raisedUp}
 use Rattle.lanes.specs.Cabinet.{placeAt, cabinetAt, onlineAt, onlineMask}
-use Rattle.lanes.proofs.CabinetLaws.{mask-more}
-use Rattle.engine.specs.Period.{someOnline, masksSet, waitingFor, startedWords, Awaited, endedWords, raisedWords, requestedWords}
+use Rattle.engine.specs.Levels.{laneLevel, yardLevel, upperLevels}
+use Rattle.engine.specs.Period.{masksSet, startedWords, endedWords, raisedWords, requestedWords}
 
 module _ (m : List ℕ) (z : Sizes) where
   pub length-masksSet : (n : ℕ) → length (masksSet m z n) ≡ length m
@@ -61,43 +58,40 @@ module _ (m : List ℕ) (z : Sizes) where
           ]
 
   -- which lanes are on stays
-  pub online-masksSet : (n c : ℕ) → n ≤ z .cabinets → onlineMask (masksSet m z n) z c ≡ onlineMask m z c
+  online-masksSet : (n c : ℕ) → n ≤ cabinetCount z → onlineMask (masksSet m z n) z c ≡ onlineMask m z c
   unfolding onlineMask
   online-masksSet n c h =
       ap mask
       (map-from-alike (onlineAt (masksSet m z n) (cabinetAt z c)) (onlineAt m (cabinetAt z c)) 0 (z .places)
       (λ p a b. ap (flag onlineBit) (masksSet-else n (cabinetAt z c + placeAt p) (λ k q e. omega arith))))
 
-  -- one cabinet more
-  pub waiting-more : (n : ℕ) → n < width → cond (someOnline m z n) (withBit n (waitingFor m z n)) (waitingFor m z n) ≡ waitingFor m z (suc n)
-  unfolding waitingFor
-  waiting-more n h = mask-more (someOnline m z) n h
-
-  -- ---- what the code's steps give
-
-  -- the lanes that are on
-  pub awaited : (c w i x r : ℕ) → i ≡ c → x ≡ onlineMask m z c → r ≡ cond (isNotZero x) (withBit c w) w → Awaited m z c w r (set m (masksAt + i) x)
-  awaited c w i x r e f g = record { mask = g ∙ ap (λ (v : ℕ). cond (isNotZero v) (withBit c w) w) f; memory = ap₂ (λ (j v : ℕ). set m (masksAt + j) v) e f }
-
-  -- one round of the loop
-  pub one-more : (n : ℕ) → n < z .cabinets → z .cabinets ≤ maxCabinets → (x y : List ℕ) (w r : ℕ) → x ≡ masksSet m z n → w ≡ waitingFor m z n
-      → Awaited x z n w r y
-      → (length y ≡ length m) × ((y ≡ masksSet m z (n + 1)) × (r ≡ waitingFor m z (n + 1)))
+  -- one round of the loop: the lanes of cabinet n that are on
+  pub one-more : (n i v : ℕ) → n < cabinetCount z → (x : List ℕ) → x ≡ masksSet m z n → i ≡ n → v ≡ onlineMask x z n
+      → set x (masksAt + i) v ≡ masksSet m z (n + 1)
   unfolding masksSet
-  one-more n h few x y w r e f g =
-      let o : onlineMask x z n ≡ onlineMask m z n =
-      ap (λ (l : List ℕ). onlineMask l z n) e ∙ online-masksSet n n (omega arith) in
-      let p : y ≡ masksSet m z (suc n) = g .memory ∙ ap₂ (λ (l : List ℕ) (v : ℕ). set l (masksAt + n) v) e o in
-      let q : r ≡ waitingFor m z (suc n) =
-      g .mask ∙ ap₂ (λ (v u : ℕ). cond (isNotZero v) (withBit n u) u) o f ∙ waiting-more n (omega arith) in (
-        ap length p ∙ length-masksSet (suc n),
-        (p ∙ ap (masksSet m z) (sym (add-one n)), q ∙ ap (waitingFor m z) (sym (add-one n))),
-      )
+  one-more n i v h x e f g =
+      let o : v ≡ onlineMask m z n = g ∙ ap (λ (l : List ℕ). onlineMask l z n) e ∙ online-masksSet n n (omega arith) in
+      ap (λ (j : ℕ). set x (masksAt + j) v) f ∙ ap₂ (λ (l : List ℕ) (w : ℕ). set l (masksAt + n) w) e o ∙ ap (masksSet m z) (sym (add-one n))
+
+  -- the masks above, level by level; the yards' body begins at a
+  pub started-by : (a : ℕ) (x y w : List ℕ) → a ≡ yardsBody z → x ≡ masksSet m z (cabinetCount z)
+      → y ≡ raisedTo x masksAt (record { first = a; wide = z .cabinets; count = z .yards }) (z .yards) → w ≡ raisedTo y a (yardLevel z) 1 → w ≡ startedWords m z
+  unfolding startedWords raisedUp
+  started-by a x y w e f g h =
+      h
+      ∙ ap (λ (l : List ℕ). raisedTo l a (yardLevel z) 1)
+      (g ∙ ap (λ (l : List ℕ). raisedTo l masksAt (record { first = a; wide = z .cabinets; count = z .yards }) (z .yards)) f)
+      ∙ ap
+      (λ (i : ℕ). raisedTo
+      (raisedTo (masksSet m z (cabinetCount z)) masksAt (record { first = i; wide = z .cabinets; count = z .yards }) (z .yards))
+      i
+      (yardLevel z)
+      1)
+      e
 
   pub length-startedWords : length (startedWords m z) ≡ length m
   unfolding startedWords
-  length-startedWords =
-      length-set (masksSet m z (z .cabinets)) cabinetMaskAt (waitingFor m z (z .cabinets)) ∙ length-masksSet (z .cabinets)
+  length-startedWords = length-raisedUp (masksSet m z (cabinetCount z)) (laneLevel z) (upperLevels z) ∙ length-masksSet (cabinetCount z)
 
   -- the two ways out of the end of a period, and of a request
   module _ (g : ℕ) (b : Bool) (e : g ≡ up (at m currentGenerationAt)) (f : b ≡ later g (at m largestGenerationAt)) where
@@ -114,13 +108,13 @@ module _ (m : List ℕ) (z : Sizes) where
     ended-goes t n q = q ∙ ap (λ (d : Bool). cond d (set m currentGenerationAt g) (startedWords (set m currentGenerationAt g) z)) (sym t) ∙ ended-by
 
   module _ (g : ℕ) (x : List ℕ) (e : x ≡ raisedWords m g) where
-    pub requested-goes : at m cabinetMaskAt ≡ 0 → (n : List ℕ) → n ≡ startedWords x z → n ≡ requestedWords m z g
+    pub requested-goes : at m yardMaskAt ≡ 0 → (n : List ℕ) → n ≡ startedWords x z → n ≡ requestedWords m z g
     unfolding requestedWords
     requested-goes t n q =
         q ∙ ap (λ (l : List ℕ). startedWords l z) e
-        ∙ ap (λ (d : Bool). cond d (startedWords (raisedWords m g) z) (raisedWords m g)) (sym (eq-eqb (at m cabinetMaskAt) 0 t))
+        ∙ ap (λ (d : Bool). cond d (startedWords (raisedWords m g) z) (raisedWords m g)) (sym (eq-eqb (at m yardMaskAt) 0 t))
 
-    pub requested-rests : (at m cabinetMaskAt ≡ 0 → ⊥) → x ≡ requestedWords m z g
+    pub requested-rests : (at m yardMaskAt ≡ 0 → ⊥) → x ≡ requestedWords m z g
     unfolding requestedWords
     requested-rests t =
-        e ∙ ap (λ (d : Bool). cond d (startedWords (raisedWords m g) z) (raisedWords m g)) (sym (ne-eqb (at m cabinetMaskAt) 0 t))
+        e ∙ ap (λ (d : Bool). cond d (startedWords (raisedWords m g) z) (raisedWords m g)) (sym (ne-eqb (at m yardMaskAt) 0 t))

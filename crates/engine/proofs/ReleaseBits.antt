@@ -1,11 +1,8 @@
 -- A lane drops its snapshot; it drops its bit; the period ends where no lane is awaited any more.
-use Prim.Native.Nat.{ℕ, zero, suc, _+_, _*_, _<_}
+use Prim.Native.Nat.{ℕ, zero, suc}
 use mathlib.Core.Bool.{Bool, true, false, not, cond}
 use mathlib.Core.Path.{_≡_, refl, ap, sym, _∙_}
-use mathlib.Core.Logic.{_≢_}
 use mathlib.Core.List.{List, [], _∷_, _++_}
-use native.Mathlib.Omega.{arith}
-use native.Mathlib.Decide.{decLt}
 use lib.ListN.{getD}
 use lib.Dec.{eqb}
 use Rattle.model.specs.Lists.{update, concatMap}
@@ -17,9 +14,9 @@ use Rattle.model.specs.Calls.{stored}
 use Rattle.changes.proofs.Shows.{Shows, stored-shown}
 use Rattle.changes.proofs.Shape.{LaneAtEach}
 use Rattle.changes.proofs.OfLanes.LaneRecords.{holding}
-use Rattle.lanes.proofs.CabinetLaws.{row-within}
+use Rattle.representation.proofs.FromState.Periods.{yardMask-runs}
 use Rattle.engine.specs.Period.{endedWords}
-use Rattle.engine.proofs.PeriodLaws.{mask-shown, mask-runs, ended-stored}
+use Rattle.engine.proofs.PeriodLaws.{mask-shown, ended-stored}
 use Rattle.engine.specs.Release.{overWords}
 
 -- ---- the snapshot
@@ -48,20 +45,12 @@ queues-unawaited [] i = refl
 queues-unawaited (l ∷ ls) zero = refl
 queues-unawaited (l ∷ ls) (suc i) = ap (λ (r : List (List ℕ)). laneQueues l ++ r) (queues-unawaited ls i)
 
--- places of other cabinets are other lanes
-pub other-row : (k c n q p : ℕ) → k ≢ c → q < n → p < n → k * n + q ≢ c * n + p
-other-row k c n q p d h g e =
-    elim (decLt k c) [
-      | yes b ↦ omega (arith, row-within k c n b)
-      | no b ↦ let r : c < k = omega arith in omega (arith, row-within c k n r)
-    ]
-
 -- if no lane is awaited any more, the period ends
 pub over-stored : (s : State) (m : List ℕ) → Shows m s → LaneAtEach s
     → overWords m (s .sizes) ≡ stored (withEngine s (cond (not (runs (s .engine))) (ended (s .engine)) (s .engine))) m
 unfolding overWords
 over-stored s m shows each =
-    ap (λ (d : Bool). cond d (endedWords m (s .sizes)) m) (ap (λ (w : ℕ). eqb w 0) (mask-shown s m shows) ∙ mask-runs s each)
+    ap (λ (d : Bool). cond d (endedWords m (s .sizes)) m) (ap (λ (w : ℕ). eqb w 0) (mask-shown s m shows) ∙ yardMask-runs s each)
     ∙ go (not (runs (s .engine)))
   where
     go : (b : Bool) → cond b (endedWords m (s .sizes)) m ≡ stored (withEngine s (cond b (ended (s .engine)) (s .engine))) m

@@ -5,14 +5,14 @@ use mathlib.Core.Path.{_≡_, refl, ap, ap₂, _∙_}
 use mathlib.Core.List.{List, [], _∷_, _++_}
 use native.Mathlib.Omega.{arith}
 use Rattle.model.specs.Lists.{update, concat, concatMap, count}
-use Rattle.model.specs.State.{laneCount, unheld, Lane, Engine, State}
+use Rattle.model.specs.State.{cabinetCount, laneCount, unheld, Lane, Engine, State}
 use Rattle.model.specs.Engine.{freshLane, laneAt, setPending, withLanes, atLane, runs, ended, released}
 use Rattle.model.specs.Rules.{withEngine, withLane}
 use Rattle.model.specs.Memory.{laneQueues, queuesOf}
 use Rattle.model.specs.Calls.{stored}
 use Rattle.laws.specs.ListLaws.{getD-update-same, update-update, length-update}
-use Rattle.masks.specs.Bits.{width}
 use Rattle.representation.proofs.Addresses.Fields.{lane}
+use Rattle.representation.proofs.Sentences.Facts.{SizesFit}
 use Rattle.changes.proofs.Shows.{Shows, shows-then, stored-then}
 use Rattle.changes.proofs.Shape.{LaneAtEach, Shape}
 use Rattle.changes.proofs.OfLanes.EngineWords.{shape-engine}
@@ -29,8 +29,8 @@ use Rattle.engine.proofs.ReleaseStores.{passedEngine, passed-stored}
 
 -- ---- both
 
-module _ (s : State) (m : List ℕ) (shows : Shows m s) (each : LaneAtEach s) (c p : ℕ) (inCabinets : c < s .sizes .cabinets) (inPlaces : p < s .sizes .places)
-    (fewCabinets : s .sizes .cabinets ≤ width) (fewPlaces : s .sizes .places ≤ width) where
+module _ (s : State) (m : List ℕ) (shows : Shows m s) (each : LaneAtEach s) (c p : ℕ) (inCabinets : c < cabinetCount (s .sizes)) (inPlaces : p < s .sizes .places)
+    (fit : SizesFit (s .sizes)) where
   abbrev lane-number : ℕ
   lane-number = c * s .sizes .places + p
 
@@ -44,7 +44,7 @@ module _ (s : State) (m : List ℕ) (shows : Shows m s) (each : LaneAtEach s) (c
   dropped = changedAt m (l .address) Drop
 
   lane-within : lane-number < laneCount (s .sizes)
-  lane-within = omega (arith, row-within c (s .sizes .cabinets) (s .sizes .places) inCabinets)
+  lane-within = omega (arith, row-within c (cabinetCount (s .sizes)) (s .sizes .places) inCabinets)
 
   first-stored : dropped ≡ stored u m
   first-stored = ap (λ (a : ℕ). changedAt m a Drop) (cabinetAt-lane (s .sizes) c p) ∙ record-dropped s m shows lane-number lane-within each
@@ -59,9 +59,9 @@ module _ (s : State) (m : List ℕ) (shows : Shows m s) (each : LaneAtEach s) (c
   unfolding releasedWords released
   released-stored =
       stored-then u (withEngine u (passedEngine u dropped
-      (shows-then u m dropped (shows .long) first-stored) each-u c p inCabinets inPlaces fewCabinets fewPlaces
+      (shows-then u m dropped (shows .long) first-stored) each-u c p inCabinets inPlaces fit
       (laneAt (u .engine) lane-number .pending))) m dropped (passedWords dropped (s .sizes) l) refl first-stored
-      (passed-stored u dropped (shows-then u m dropped (shows .long) first-stored) each-u c p inCabinets inPlaces fewCabinets fewPlaces)
+      (passed-stored u dropped (shows-then u m dropped (shows .long) first-stored) each-u c p inCabinets inPlaces fit)
       ∙ ap₂ (λ (b : Bool) (x : List Lane). stored
       (withEngine s (cond (b && not (runs (withLanes x (s .engine)))) (ended (withLanes x (s .engine))) (withLanes x (s .engine)))) m) same-bit
       (update-update (s .engine .lanes) lane-number unsampled unawaited)

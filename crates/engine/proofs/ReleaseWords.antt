@@ -3,48 +3,26 @@ use Prim.Native.Nat.{ℕ, _+_}
 use mathlib.Core.Bool.{Bool, true, false, cond}
 use mathlib.Core.Path.{_≡_, ap, sym, _∙_}
 use mathlib.Core.List.{List}
-use lib.ListN.{set}
-use lib.Dec.{eqb}
 use borrow.Author.Tests.{eq-eqb, ne-eqb}
 use Rattle.model.specs.State.{Sizes}
-use Rattle.model.specs.Layout.{cabinetMaskAt, masksAt}
+use Rattle.model.specs.Layout.{yardMaskAt, masksAt}
 use Rattle.model.specs.Memory.{at, flag}
-use Rattle.masks.specs.Bits.{withoutBit}
 use Rattle.lanes.specs.declared.Place.{Place}
 use Rattle.lanes.specs.declared.Change.the-variants.{Drop}
 use Rattle.lanes.specs.RecordChanges.{changedAt}
 use Rattle.engine.specs.Period.{endedWords}
-use Rattle.engine.specs.Release.{overWords, clearedBy, clearedWords, passedWords, releasedWords}
-
-module _ (m : List ℕ) (c p i r : ℕ) (e : i ≡ c) (f : r ≡ withoutBit p (at m (masksAt + i))) where
-  abbrev n : List ℕ
-  n = set m (masksAt + i) r
-
-  cleared : cond (eqb r 0) (set n cabinetMaskAt (withoutBit c (at n cabinetMaskAt))) n ≡ clearedWords m c p
-  unfolding clearedWords
-  cleared =
-      ap (λ (j : ℕ). cond (eqb r 0) (set (set m (masksAt + j) r) cabinetMaskAt (withoutBit c (at (set m (masksAt + j) r) cabinetMaskAt)))
-      (set m (masksAt + j) r)) e
-      ∙ ap (clearedBy m c) (f ∙ ap (λ (j : ℕ). withoutBit p (at m (masksAt + j))) e)
-
-  -- the last bit of the cabinet went, or another is left
-  pub cleared-last : (x : ℕ) → r ≡ 0 → x ≡ withoutBit c (at n cabinetMaskAt) → set n cabinetMaskAt x ≡ clearedWords m c p
-  cleared-last x q g =
-      ap (set n cabinetMaskAt) g ∙ ap (λ (d : Bool). cond d (set n cabinetMaskAt (withoutBit c (at n cabinetMaskAt))) n) (sym (eq-eqb r 0 q)) ∙ cleared
-
-  pub cleared-more : (r ≡ 0 → ⊥) → n ≡ clearedWords m c p
-  cleared-more q = ap (λ (d : Bool). cond d (set n cabinetMaskAt (withoutBit c (at n cabinetMaskAt))) n) (sym (ne-eqb r 0 q)) ∙ cleared
+use Rattle.engine.specs.Release.{overWords, clearedWords, passedWords, releasedWords}
 
 module _ (m : List ℕ) (z : Sizes) (l : Place) where
   -- the lane's bit is set, or not
   module _ (b : Bool) (i : ℕ) (e : i ≡ l .cabinet) (f : b ≡ flag (l .place) (at m (masksAt + i))) where
     abbrev over : List ℕ
-    over = overWords (clearedWords m (l .cabinet) (l .place)) z
+    over = overWords (clearedWords m z l) z
 
     tested : b ≡ flag (l .place) (at m (masksAt + l .cabinet))
     tested = f ∙ ap (λ (j : ℕ). flag (l .place) (at m (masksAt + j))) e
 
-    pub passed-set : b ≡ true → (x y : List ℕ) → x ≡ clearedWords m (l .cabinet) (l .place) → y ≡ overWords x z → y ≡ passedWords m z l
+    pub passed-set : b ≡ true → (x y : List ℕ) → x ≡ clearedWords m z l → y ≡ overWords x z → y ≡ passedWords m z l
     unfolding passedWords
     passed-set t x y q g = g ∙ ap (λ (w : List ℕ). overWords w z) q ∙ ap (λ (d : Bool). cond d over m) (sym t ∙ tested)
 
@@ -58,10 +36,10 @@ module _ (m : List ℕ) (z : Sizes) (l : Place) where
 
 module _ (m : List ℕ) (z : Sizes) where
   -- the period is over, or not
-  pub over-ends : at m cabinetMaskAt ≡ 0 → (n : List ℕ) → n ≡ endedWords m z → n ≡ overWords m z
+  pub over-ends : at m yardMaskAt ≡ 0 → (n : List ℕ) → n ≡ endedWords m z → n ≡ overWords m z
   unfolding overWords
-  over-ends t n q = q ∙ ap (λ (d : Bool). cond d (endedWords m z) m) (sym (eq-eqb (at m cabinetMaskAt) 0 t))
+  over-ends t n q = q ∙ ap (λ (d : Bool). cond d (endedWords m z) m) (sym (eq-eqb (at m yardMaskAt) 0 t))
 
-  pub over-goes : (at m cabinetMaskAt ≡ 0 → ⊥) → m ≡ overWords m z
+  pub over-goes : (at m yardMaskAt ≡ 0 → ⊥) → m ≡ overWords m z
   unfolding overWords
-  over-goes t = ap (λ (d : Bool). cond d (endedWords m z) m) (sym (ne-eqb (at m cabinetMaskAt) 0 t))
+  over-goes t = ap (λ (d : Bool). cond d (endedWords m z) m) (sym (ne-eqb (at m yardMaskAt) 0 t))

@@ -4,16 +4,16 @@ use mathlib.Core.Bool.{Bool, true, false, not, cond, _&&_}
 use mathlib.Core.Path.{_≡_, refl, ap, ap₂, sym, _∙_}
 use mathlib.Core.List.{List}
 use native.Mathlib.Omega.{arith}
-use Rattle.model.specs.State.{Sizes, laneCount, held, isHeld, Lane, State}
+use Rattle.model.specs.State.{cabinetCount, Sizes, laneCount, held, isHeld, Lane, State}
 use Rattle.model.specs.Layout.{masksAt, laneAddress}
 use Rattle.model.specs.Engine.{freshLane, laneAt, setPending, withLanes, sampled}
 use Rattle.model.specs.Rules.{withEngine, withLane}
-use Rattle.model.specs.Memory.{at, flag, laneQueues, pendingAt}
+use Rattle.model.specs.Memory.{at, flag, laneQueues, laneBit}
 use Rattle.model.specs.Calls.{stored}
 use Rattle.laws.specs.Tests.{and-true}
-use Rattle.laws.specs.Masks.{flag-mask-from}
 use Rattle.representation.proofs.Addresses.Fields.{mask}
 use Rattle.laws.specs.Updates.{update-same, update-alike}
+use Rattle.representation.proofs.FromState.Periods.{flag-group}
 use Rattle.changes.proofs.Shows.{Shows, stored-shown}
 use Rattle.changes.proofs.Shape.{LaneAtEach, Shape}
 use Rattle.changes.proofs.OfLanes.OneLane.{shape-lane}
@@ -50,7 +50,7 @@ module _ (s : State) (m : List ℕ) (shows : Shows m s) (i : ℕ) (h : i < laneC
       ∙ ap (λ (ls : List Lane). stored (withEngine s (withLanes ls (s .engine))) m)
       (sym (update-same freshLane (s .engine .lanes) i sampled (ap (λ (d : Bool). cond d (setPending true (held (l .quiescent)) l) l) e)))
 
-module _ (s : State) (m : List ℕ) (shows : Shows m s) (each : LaneAtEach s) (c p : ℕ) (inCabinets : c < s .sizes .cabinets)
+module _ (s : State) (m : List ℕ) (shows : Shows m s) (each : LaneAtEach s) (c p : ℕ) (inCabinets : c < cabinetCount (s .sizes))
     (inPlaces : p < s .sizes .places) where
   abbrev z : Sizes
   z = s .sizes
@@ -59,14 +59,14 @@ module _ (s : State) (m : List ℕ) (shows : Shows m s) (each : LaneAtEach s) (c
   i = c * z .places + p
 
   pub within-lanes : i < laneCount z
-  within-lanes = omega (arith, row-within c (z .cabinets) (z .places) inCabinets)
+  within-lanes = omega (arith, row-within c (cabinetCount z) (z .places) inCabinets)
 
   pub sample-stored : sampleWords m (stand z c p) ≡ stored (withLane s i sampled) m
   unfolding sampleWords recordAt
   sample-stored =
       ap (λ (x : ℕ). cond (flag p (at m (masksAt + c)) && not (isHolding (recordAt m x))) (changedAt m x Sample) m) (cabinetAt-lane z c p)
       ∙ ap₂ (λ (b d : Bool). cond (b && not d) (changedAt m (laneAddress z i) Sample) m)
-      (ap (flag p) (shows .image (mask c) inCabinets) ∙ flag-mask-from (pendingAt s c) (z .places) p inPlaces)
+      (ap (flag p) (shows .image (mask c) inCabinets) ∙ flag-group (z .places) (laneBit s) c p inPlaces)
       (held-shown s m shows i within-lanes)
       ∙ copied-by s m shows i within-lanes each (unsampled s m shows i within-lanes) refl
 

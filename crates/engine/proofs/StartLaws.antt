@@ -1,32 +1,31 @@
 -- Which change of the state `startedWords` is: a period begins, and each lane that is online is awaited.
 use Prim.Native.Nat.{ℕ, zero, suc, _+_, _*_, _<_, _≤_}
-use mathlib.Core.Bool.{Bool, cond}
 use mathlib.Core.Path.{_≡_, refl, ap, sym, _∙_}
-use mathlib.Core.Logic.{_≢_}
 use mathlib.Core.List.{List, [], _∷_, _++_, map}
 use native.Mathlib.Omega.{arith}
-use lib.ListN.{getD, length-map}
-use lib.Seq.{getD-set-same, getD-set-other}
+use lib.ListN.{length, getD, length-map}
 use Rattle.model.specs.Lists.{concat, concatMap, count}
 use Rattle.model.specs.Lists.{mask as maskOf}
-use Rattle.model.specs.State.{Sizes, laneCount, isRunning, isHeld, Lane, State}
-use Rattle.model.specs.Layout.{cabinetMaskAt, headsAt, freeAt, masksAt, laneAddress, slotAddress, onlineBit}
+use Rattle.model.specs.State.{Sizes, cabinetCount, laneCount, isRunning, isHeld, Lane, State}
+use Rattle.model.specs.Layout.{laneAddress, onlineBit, total}
 use Rattle.model.specs.Engine.{freshLane, laneAt, withLanes, awaiting, started}
 use Rattle.model.specs.Rules.{withEngine}
-use Rattle.model.specs.Memory.{at, flag, flags, laneWords, laneQueues, queuesOf, pendingAt, laneMask, cabinetMask, isNotZero}
+use Rattle.model.specs.Memory.{at, flag, flags, laneWords, laneQueues, queuesOf, laneBit, laneMask}
 use Rattle.model.specs.Calls.{stored}
-use Rattle.laws.specs.Tests.{same, other, decide}
-use Rattle.laws.specs.ListLaws.{map-from-alike, map-map-from}
+use Rattle.laws.specs.ListLaws.{map-from-alike}
 use Rattle.laws.specs.Elements.{getD-map}
 use Rattle.laws.specs.Masks.{flag-mask}
-use Rattle.representation.proofs.Addresses.Fields.{top, head, end, mask, lane, slot, value}
-use Rattle.representation.proofs.Addresses.Writes.{Image, by-fields}
+use Rattle.representation.proofs.Addresses.Fields.{lane}
+use Rattle.mask_tree.specs.Tree.{Masked}
+use Rattle.mask_tree.proofs.TreeLaws.{raisedUp-else, raisedUp-masked}
 use Rattle.changes.proofs.Shows.{Shows}
 use Rattle.changes.proofs.Shape.{LaneAtEach, Shape}
-use Rattle.changes.proofs.OfLanes.EngineWords.{shape-engine, withPending, maskedValue, value-withPending}
+use Rattle.changes.proofs.OfLanes.EngineWords.{shape-engine, withPending}
 use Rattle.lanes.specs.Cabinet.{cabinetAt, onlineAt, onlineMask}
 use Rattle.lanes.proofs.CabinetLaws.{cabinetAt-lane, row-within}
-use Rattle.engine.specs.Period.{someOnline, masksSet, waitingFor, startedWords}
+use Rattle.engine.specs.Levels.{laneLevel, upperLevels}
+use Rattle.engine.specs.Period.{masksSet, startedWords}
+use Rattle.engine.proofs.MaskLevels.{allLevels, NoMask, stacked, apart, inside, masked-stored}
 use Rattle.engine.proofs.PeriodWords.{masksSet-else, masksSet-there, length-masksSet, length-startedWords}
 
 -- ---- begin period
@@ -71,56 +70,35 @@ module _ (s : State) (m : List ℕ) (shows : Shows m s) (each : LaneAtEach s) wh
   pending-started : (i : ℕ) → i < laneCount z → laneAt (t .engine) i .pending ≡ laneAt (s .engine) i .online
   pending-started i h = ap (λ (l : Lane). l .pending) (getD-map freshLane freshLane awaiting (s .engine .lanes) i (omega (arith, each)))
 
-  mask-started : (c : ℕ) → c < z .cabinets → onlineMask m z c ≡ laneMask t c
+  mask-started : (c : ℕ) → c < cabinetCount z → onlineMask m z c ≡ laneMask t c
   unfolding onlineMask
-  mask-started c h = ap maskOf (map-from-alike (onlineAt m (cabinetAt z c)) (pendingAt t c) 0 (z .places) go)
+  mask-started c h = ap maskOf (map-from-alike (onlineAt m (cabinetAt z c)) (λ (p : ℕ). laneBit t (c * z .places + p)) 0 (z .places) go)
     where
-      go : (p : ℕ) → 0 ≤ p → p < 0 + z .places → onlineAt m (cabinetAt z c) p ≡ pendingAt t c p
+      go : (p : ℕ) → 0 ≤ p → p < 0 + z .places → onlineAt m (cabinetAt z c) p ≡ laneBit t (c * z .places + p)
       go p a b =
-          let k : c * z .places + p < laneCount z = omega (arith, row-within c (z .cabinets) (z .places) h) in
+          let k : c * z .places + p < laneCount z = omega (arith, row-within c (cabinetCount z) (z .places) h) in
           ap (λ (a : ℕ). flag onlineBit (at m a)) (cabinetAt-lane z c p) ∙ online-shown (c * z .places + p) k ∙ sym (pending-started (c * z .places + p) k)
 
-  cabinet-started : waitingFor m z (z .cabinets) ≡ cabinetMask t
-  unfolding waitingFor
-  cabinet-started =
-      ap maskOf
-      (map-from-alike (someOnline m z) (λ (c : ℕ). isNotZero (laneMask t c)) 0 (z .cabinets) (λ c a b. ap isNotZero (mask-started c (omega arith)))
-      ∙ sym (map-map-from isNotZero (laneMask t) 0 (z .cabinets)))
+  -- the lane masks, by which the masks above are set
+  abbrev lowest : List ℕ
+  lowest = masksSet m z (cabinetCount z)
+
+  long : total z ≤ length lowest
+  long = omega (arith, shows .long, length-masksSet m z (cabinetCount z))
+
+  started-masked : Masked (startedWords m z) (allLevels z) (laneBit t)
+  unfolding startedWords
+  started-masked =
+      raisedUp-masked (laneBit t) lowest (laneLevel z) (upperLevels z) (stacked z) (apart z) (inside z lowest long)
+      (λ c b. masksSet-there m z (cabinetCount z) c b (omega (arith, shows .long)) ∙ mask-started c b)
 
   -- all words but the masks stay
-  kept : (a : ℕ) → a ≢ cabinetMaskAt → ((k : ℕ) → k < z .cabinets → a ≡ masksAt + k → ⊥) → at (startedWords m z) a ≡ at m a
+  kept : (a : ℕ) → NoMask z a → at (startedWords m z) a ≡ at m a
   unfolding startedWords
-  kept a n h =
-      getD-set-other (masksSet m z (z .cabinets)) cabinetMaskAt a (waitingFor m z (z .cabinets)) 0 n
-      ∙ masksSet-else m z (z .cabinets) a h
-
-  image-started : Image z (startedWords m z) (maskedValue s ls)
-  unfolding startedWords
-  image-started (top k) b =
-      elim (decide k cabinetMaskAt) [
-        | same e q u ↦
-            ap (at (startedWords m z)) e
-            ∙ getD-set-same (masksSet m z (z .cabinets)) cabinetMaskAt (waitingFor m z (z .cabinets)) 0
-            (omega (arith, shows .long, length-masksSet m z (z .cabinets)))
-            ∙ cabinet-started
-            ∙ sym (ap (λ (d : Bool). cond d (cabinetMask t) (value s (top k))) q)
-        | other e q u ↦
-            kept k e (λ j p r. omega arith)
-            ∙ shows .image (top k) b
-            ∙ sym (ap (λ (d : Bool). cond d (cabinetMask t) (value s (top k))) q)
-      ]
-  image-started (head k) b = kept (headsAt + k) (λ e. omega arith) (λ j p e. omega arith) ∙ shows .image (head k) b
-  image-started (end k) b = kept (freeAt + k) (λ e. omega arith) (λ j p e. omega arith) ∙ shows .image (end k) b
-  image-started (mask c) b =
-      getD-set-other (masksSet m z (z .cabinets)) cabinetMaskAt (masksAt + c) (waitingFor m z (z .cabinets)) 0 (λ e. omega arith)
-      ∙ masksSet-there m z (z .cabinets) c b (omega (arith, shows .long))
-      ∙ mask-started c b
-  image-started (lane i k) b = kept (laneAddress z i + k) (λ e. omega arith) (λ j p e. omega arith) ∙ shows .image (lane i k) b
-  image-started (slot i k) b = kept (slotAddress z i + k) (λ e. omega arith) (λ j p e. omega arith) ∙ shows .image (slot i k) b
+  kept a o = raisedUp-else lowest (laneLevel z) (upperLevels z) a (o .1) ∙ masksSet-else m z (cabinetCount z) a (o .0)
 
   pub started-stored : startedWords m z ≡ stored (withEngine s (started (s .engine))) m
   unfolding started
   started-stored =
-      by-fields t m (startedWords m z) (shows .long) (length-startedWords m z)
-      (λ f b. image-started f b ∙ sym (value-withPending s ls (words-awaiting (s .engine .lanes)) (queues-awaiting (s .engine .lanes)) f))
-      (λ a h. kept a (λ e. omega arith) (λ j p e. omega arith))
+      masked-stored s m shows ls (words-awaiting (s .engine .lanes)) (queues-awaiting (s .engine .lanes))
+      (startedWords m z) (length-startedWords m z) started-masked kept

@@ -7,7 +7,7 @@ use lib.ListN.{length, set}
 use lib.Dec.{eqb, ltb}
 use Rattle.model.specs.Word.{up, later}
 use Rattle.model.specs.State.{Sizes}
-use Rattle.model.specs.Layout.{currentOffset, doneOffset, queuesWidth, currentGenerationAt, cabinetMaskAt}
+use Rattle.model.specs.Layout.{currentOffset, doneOffset, queuesWidth, currentGenerationAt, yardMaskAt}
 use Rattle.model.specs.Layout.{globalQueuesAt, globalGenerationAt, generationAt, queuesAt}
 use Rattle.model.specs.Memory.{at}
 use Rattle.words.specs.Lent.{Lent}
@@ -31,7 +31,7 @@ pub record OwnerLent (m : List ℕ) (z : Sizes) (o : OwnerWords) : Type 0 where
 
 -- the generation whose end a batch that begins to wait now has to see
 unfoldable pub targetWord : List ℕ → ℕ
-targetWord m = cond (eqb (at m cabinetMaskAt) 0) (at m currentGenerationAt) (up (at m currentGenerationAt))
+targetWord m = cond (eqb (at m yardMaskAt) 0) (at m currentGenerationAt) (up (at m currentGenerationAt))
 
 module _ (m : List ℕ) (z : Sizes) (o : OwnerWords) where
   -- the current queue is appended to done, and its generation is at rest

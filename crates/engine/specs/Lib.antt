@@ -1,4 +1,5 @@
 -- What the contracts of the engine cite: the words after each of its functions.
+pub mod Levels
 pub mod Period
 pub mod Release
 pub mod Advance

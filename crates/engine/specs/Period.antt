@@ -1,41 +1,28 @@
 -- What the code of grace periods does to the words of a memory with a table of sizes z. No legality is needed.
 use Prim.Native.Nat.{ℕ, zero, suc, _+_}
-use mathlib.Core.Bool.{Bool, cond}
-use mathlib.Core.Path.{_≡_}
-use mathlib.Core.List.{List, map}
+use mathlib.Core.Bool.{cond}
+use mathlib.Core.List.{List}
 use lib.ListN.{set}
 use lib.Dec.{eqb}
 use Rattle.model.specs.Word.{up, later}
-use Rattle.model.specs.Lists.{from, mask}
-use Rattle.model.specs.State.{Sizes}
-use Rattle.model.specs.Layout.{currentGenerationAt, largestGenerationAt, cabinetMaskAt, masksAt}
-use Rattle.model.specs.Memory.{at, isNotZero}
-use Rattle.masks.specs.Bits.{withBit}
+use Rattle.model.specs.State.{Sizes, cabinetCount}
+use Rattle.model.specs.Layout.{currentGenerationAt, largestGenerationAt, yardMaskAt, masksAt}
+use Rattle.model.specs.Memory.{at}
+use Rattle.mask_tree.specs.Tree.{raisedUp}
 use Rattle.lanes.specs.Cabinet.{onlineMask}
+use Rattle.engine.specs.Levels.{laneLevel, upperLevels}
 
 -- ---- begin period
 
 module _ (m : List ℕ) (z : Sizes) where
-  -- a lane of cabinet c is on
-  abbrev pub someOnline : ℕ → Bool
-  someOnline c = isNotZero (onlineMask m z c)
-
   -- the first n lane masks become those of the lanes that are on
   unfoldable pub masksSet : ℕ → List ℕ
   masksSet zero = m
   masksSet (suc n) = set (masksSet n) (masksAt + n) (onlineMask m z n)
 
-  -- the cabinet mask of the first n cabinets
-  unfoldable pub waitingFor : ℕ → ℕ
-  waitingFor n = mask (map someOnline (from 0 n))
-
+  -- all lane masks, and by them the masks above
   unfoldable pub startedWords : List ℕ
-  startedWords = set (masksSet (z .cabinets)) cabinetMaskAt (waitingFor (z .cabinets))
-
--- one cabinet is awaited, beside those of the cabinet mask w: the memory is n afterwards, and the cabinet mask r
-pub record Awaited (m : List ℕ) (z : Sizes) (c w r : ℕ) (n : List ℕ) : Type 0 where
-  pub mask : r ≡ cond (someOnline m z c) (withBit c w) w
-  pub memory : n ≡ set m (masksAt + c) (onlineMask m z c)
+  startedWords = raisedUp (masksSet (cabinetCount z)) (laneLevel z) (upperLevels z)
 
 -- ---- end period, and request
 
@@ -51,4 +38,4 @@ raisedWords m g = cond (later g (at m largestGenerationAt)) (set m largestGenera
 
 -- the largest requested is raised; if no period runs, one begins
 unfoldable pub requestedWords : List ℕ → Sizes → ℕ → List ℕ
-requestedWords m z g = cond (eqb (at m cabinetMaskAt) 0) (startedWords (raisedWords m g) z) (raisedWords m g)
+requestedWords m z g = cond (eqb (at m yardMaskAt) 0) (startedWords (raisedWords m g) z) (raisedWords m g)

@@ -2,18 +2,18 @@
 ghost use mathlib.Core.Path.{_≡_};
 ghost use Prim.Native.Nat.{_<_};
 ghost use lib.ListN.{length};
-ghost use Rattle.model.specs.Layout.{cabinetMaskAt};
+ghost use Rattle.model.specs.Layout.{yardMaskAt};
 ghost use Rattle.words.specs.Lent.{sizesOf, Lent};
 ghost use Rattle.lanes.specs.Cabinet.{LaneLent};
 ghost use Rattle.engine.specs.Advance.{OwnerLent, ofLane, ofAll, targetWord, finishedWords, settledWords, batchedWords, begunWords, advancedWords};
 
 // The generation whose end a batch that begins to wait now has to see: the current, or one more if a period runs.
 fn target(m: &[u32]) -> u32
-    requires { ⌜ cabinetMaskAt < length (now m) ⌝ }
+    requires { ⌜ yardMaskAt < length (now m) ⌝ }
     ensures { λ r. ⌜ r ≡ targetWord (now (m .entry)) ⌝ }
 {
     let current = m[words::CURRENT_GENERATION_AT];
-    if m[words::CABINET_MASK_AT] == 0 {
+    if m[words::YARD_MASK_AT] == 0 {
         return current;
     }
     masks::up(current)

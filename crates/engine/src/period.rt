@@ -1,39 +1,45 @@
 // Grace periods: begin, end, the request for one, and the release of a lane (document 01, "Generations and passes").
 ghost use mathlib.Core.Path.{_≡_};
-ghost use Prim.Native.Nat.{_+_, _<_};
+ghost use Prim.Native.Nat.{_<_};
 ghost use lib.ListN.{length};
-ghost use Rattle.model.specs.Layout.{largestGenerationAt, masksAt};
+ghost use Rattle.model.specs.State.{cabinetCount};
+ghost use Rattle.model.specs.Layout.{largestGenerationAt};
 ghost use Rattle.words.specs.Lent.{sizesOf, Lent};
-ghost use Rattle.masks.specs.Bits.{width};
 ghost use Rattle.lanes.specs.Cabinet.{LaneLent};
-ghost use Rattle.engine.specs.Period.{Awaited, startedWords, endedWords, raisedWords, requestedWords};
+ghost use Rattle.engine.specs.Period.{masksSet, startedWords, endedWords, raisedWords, requestedWords};
 ghost use Rattle.engine.specs.Release.{overWords, clearedWords, passedWords, releasedWords};
 
-// The period waits for the lanes of a cabinet that are on: its lane mask is theirs. Answers the cabinet mask
-// `waiting`, with the cabinet's bit where there is such a lane.
-fn await_cabinet(m: &mut [u32], z: words::Sizes, cabinet: u32, waiting: u32) -> u32
-    requires { ⌜ (Lent (now m) (sizesOf z)) × (cabinet < z .cabinets) ⌝ }
-    ensures { λ r. ⌜ Awaited (now (m .entry)) (sizesOf z) cabinet waiting r (now (m .exit)) ⌝ }
+// The period waits for the lanes that are on: each cabinet's lane mask is theirs.
+fn await_lanes(m: &mut [u32], z: words::Sizes)
+    requires { ⌜ Lent (now m) (sizesOf z) ⌝ }
+    ensures { λ _. ⌜ now (m .exit) ≡ masksSet (now (m .entry)) (sizesOf z) (cabinetCount (sizesOf z)) ⌝ }
 {
-    let online = lanes::cabinet::cabinet_online(m, z, cabinet);
-    m[words::MASKS_AT + words::index(cabinet)] = online;
-    if online == 0 {
-        return waiting;
+    let cabinets = words::cabinet_count(z);
+    for c in 0..cabinets {
+        let online = lanes::cabinet::cabinet_online(m, z, c);
+        m[words::MASKS_AT + words::index(c)] = online;
     }
-    masks::set_bit(waiting, cabinet)
 }
 
-// Begins a period: the bits of all lanes that are on, and of their cabinets.
+// Begins a period: the bits of all lanes that are on, and above them those of their cabinets and of their yards.
 pub fn start_period(m: &mut [u32], z: words::Sizes)
     requires { ⌜ Lent (now m) (sizesOf z) ⌝ }
     ensures { λ _. ⌜ now (m .exit) ≡ startedWords (now (m .entry)) (sizesOf z) ⌝ }
 {
-    let cabinets = z.cabinets;
-    let mut waiting: u32 = 0;
-    for c in 0..cabinets {
-        waiting = await_cabinet(m, z, c, waiting);
-    }
-    m[words::CABINET_MASK_AT] = waiting;
+    let yards = words::yards_start(z);
+    await_lanes(m, z);
+    let cabinets = mask_tree::Level {
+        first: yards,
+        wide: z.cabinets,
+        count: z.yards,
+    };
+    mask_tree::raise(m, words::MASKS_AT, cabinets);
+    let top = mask_tree::Level {
+        first: words::YARD_MASK_AT,
+        wide: z.yards,
+        count: 1,
+    };
+    mask_tree::raise(m, yards, top);
 }
 
 // Ends a period: the current generation goes up, and if the largest requested is not earlier, another begins.
@@ -65,7 +71,7 @@ pub fn request(m: &mut [u32], z: words::Sizes, g: u32)
     requires { ⌜ Lent (now m) (sizesOf z) ⌝ }
     ensures { λ _. ⌜ now (m .exit) ≡ requestedWords (now (m .entry)) (sizesOf z) g ⌝ }
 {
-    let waiting = m[words::CABINET_MASK_AT];
+    let waiting = m[words::YARD_MASK_AT];
     raise_largest(m, g);
     if waiting == 0 {
         start_period(m, z);
@@ -77,22 +83,25 @@ fn end_if_over(m: &mut [u32], z: words::Sizes)
     requires { ⌜ Lent (now m) (sizesOf z) ⌝ }
     ensures { λ _. ⌜ now (m .exit) ≡ overWords (now (m .entry)) (sizesOf z) ⌝ }
 {
-    if m[words::CABINET_MASK_AT] == 0 {
+    if m[words::YARD_MASK_AT] == 0 {
         end_period(m, z);
     }
 }
 
-// The bit of a lane goes, and its cabinet's bit with the last of them.
-fn clear_pending(m: &mut [u32], lane: lanes::Place)
-    requires { ⌜ (masksAt + lane .cabinet < length (now m)) × ((lane .cabinet < width) × (lane .place < width)) ⌝ }
-    ensures { λ _. ⌜ now (m .exit) ≡ clearedWords (now (m .entry)) (lane .cabinet) (lane .place) ⌝ }
+// The bit of a lane goes, its cabinet's with the last of the cabinet, and its yard's with the last of the yard.
+fn clear_pending(m: &mut [u32], z: words::Sizes, lane: lanes::Place)
+    requires { ⌜ LaneLent (now m) (sizesOf z) lane ⌝ }
+    ensures { λ _. ⌜ now (m .exit) ≡ clearedWords (now (m .entry)) (sizesOf z) lane ⌝ }
 {
-    let i = words::MASKS_AT + words::index(lane.cabinet);
-    let rest = masks::clear_bit(m[i], lane.place);
-    m[i] = rest;
-    if rest == 0 {
-        m[words::CABINET_MASK_AT] = masks::clear_bit(m[words::CABINET_MASK_AT], lane.cabinet);
+    let cabinet = words::MASKS_AT + words::index(lane.cabinet);
+    let yard = words::yards_start(z) + words::index(lane.yard);
+    if !mask_tree::clear(m, cabinet, lane.place) {
+        return;
     }
+    if !mask_tree::clear(m, yard, lane.bay) {
+        return;
+    }
+    mask_tree::clear(m, words::YARD_MASK_AT, lane.yard);
 }
 
 // The bit of a lane goes if it is set, and the period ends if it was the last.
@@ -101,7 +110,7 @@ fn pass_period(m: &mut [u32], z: words::Sizes, lane: lanes::Place)
     ensures { λ _. ⌜ now (m .exit) ≡ passedWords (now (m .entry)) (sizesOf z) lane ⌝ }
 {
     if masks::test(m[words::MASKS_AT + words::index(lane.cabinet)], lane.place) {
-        clear_pending(m, lane);
+        clear_pending(m, z, lane);
         end_if_over(m, z);
     }
 }

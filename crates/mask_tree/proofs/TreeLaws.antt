@@ -1,8 +1,8 @@
 -- Laws of a tree of masks, each by one induction over the levels: after a bit is cleared up the levels they are the masks of the flags less that one, and
 -- levels that are set by those below them are the masks of the lowest level's flags.
 use Prim.Native.Nat.{ℕ, zero, suc, _+_, _*_, _/_, _≤_, _<_}
-use mathlib.Core.Bool.{Bool, false, not, cond}
-use mathlib.Core.Path.{_≡_, refl, ap, sym, _∙_, subst, fun-ext}
+use mathlib.Core.Bool.{Bool, true, false, not, cond}
+use mathlib.Core.Path.{_≡_, refl, ap, ap₂, sym, _∙_, subst, fun-ext}
 use mathlib.Core.Logic.{_≢_}
 use mathlib.Core.List.{List, [], _∷_}
 use native.Mathlib.Omega.{arith}
@@ -19,7 +19,7 @@ use Rattle.laws.specs.ListLaws.{map-from-alike}
 use Rattle.laws.specs.Elements.{Each}
 use Rattle.masks.specs.Bits.{width, withoutBit}
 use Rattle.masks.proofs.BitLaws.{withoutBit-from, withoutBit-zero}
-use Rattle.mask_tree.specs.Tree.{Level, Masked, Apart, Inside, Rung, levels, maskAt, Climbs, cleared, clearedUp, but}
+use Rattle.mask_tree.specs.Tree.{Level, Masked, Apart, Inside, Rung, levels, maskAt, Climbs, cleared, clearedUp, Cleared, but}
 use Rattle.mask_tree.specs.Tree.{standingAt, standingMask, raisedTo, raisedUp, Stacked}
 
 -- ---- levels
@@ -178,6 +178,34 @@ clearedUp-masked f m i (r ∷ rs) c o s k =
     (inside-kept m n (levels rs) (length-set m (maskAt r) x) (s .1))
     (above-masked f m i r rs c o s k)))
     (λ t. level-left f m i r rs c o s k (λ e. clash (eq-eqb x 0 e) t))
+
+-- ---- the climb, a level at a time: a bit was cleared at a, and it goes on while the mask is 0
+
+module _ (m n : List ℕ) (r : Rung) (rs : List Rung) (a : ℕ) (b : Bool) (e : a ≡ maskAt r) (c : Cleared m a (r .place) b n) where
+  first : n ≡ cleared m (maskAt r) (r .place)
+  first = c .memory ∙ ap (λ (i : ℕ). cleared m i (r .place)) e
+
+  last : b ≡ eqb (withoutBit (r .place) (at m (maskAt r))) 0
+  last = c .last ∙ ap (λ (i : ℕ). eqb (withoutBit (r .place) (at m i)) 0) e
+
+  by : cond b (clearedUp n rs) n ≡ clearedUp m (r ∷ rs)
+  unfolding clearedUp
+  by = ap₂ (λ (d : Bool) (x : List ℕ). cond d (clearedUp x rs) x) last first
+
+  pub climb-goes : b ≡ true → (x : List ℕ) → x ≡ clearedUp n rs → x ≡ clearedUp m (r ∷ rs)
+  climb-goes t x q = q ∙ ap (λ (d : Bool). cond d (clearedUp n rs) n) (sym t) ∙ by
+
+  pub climb-ends : b ≡ false → n ≡ clearedUp m (r ∷ rs)
+  climb-ends t = ap (λ (d : Bool). cond d (clearedUp n rs) n) (sym t) ∙ by
+
+  -- at the highest level
+  pub climb-top : rs ≡ [] → n ≡ clearedUp m (r ∷ rs)
+  unfolding clearedUp
+  climb-top t = go b ∙ ap (λ (xs : List Rung). cond b (clearedUp n xs) n) (sym t) ∙ by
+    where
+      go : (d : Bool) → n ≡ cond d (clearedUp n []) n
+      go true = refl
+      go false = refl
 
 -- ---- masks set by those below them
 
