@@ -1,5 +1,5 @@
 -- A lane as the calls hand it on: its number, where its record begins, and the sizes of the table, worked out once a call.
-use Prim.Native.Nat.{ℕ, _+_, _/_, _%_, _≤_, _<_}
+use Prim.Native.Nat.{ℕ, _+_, _*_, _/_, _%_, _≤_, _<_}
 use mathlib.Core.Path.{_≡_}
 use mathlib.Core.List.{List}
 use lib.ListN.{length}
@@ -41,18 +41,32 @@ placeOf z i = stand z (i / z .places) (i % z .places)
 -- a lane of a table of its sizes
 pub record Standing (l : Lane) : Type 0 where
   pub few : Few (sizesOf (l .sizes))
-  pub some : 1 ≤ l .sizes .places
+  pub someCabinets : 1 ≤ l .sizes .cabinets
+  pub somePlaces : 1 ≤ l .sizes .places
   pub known : l .number < laneCount (sizesOf (l .sizes))
 
--- the cabinet size is subtracted at most so often
+-- each size is subtracted at most so often
 abbrev pub mostSubtractions : ℕ
 mostSubtractions = 7
 
 abbrev pub splitOf : Split → Subtracted
 splitOf s = split (s .times) (s .left)
 
--- where the lane stands, by quotient and remainder; the cabinet is the number of subtractions
+-- the lanes of a yard
+abbrev pub yardSize : Sizes → ℕ
+yardSize z = z .cabinets * z .places
+
+-- the yard's size subtracted from the lane's number, and the cabinet's from what is left
+abbrev pub yardSplit : Lane → Subtracted
+yardSplit l = subtracted mostSubtractions (yardSize (sizesOf (l .sizes))) (l .number)
+
+abbrev pub baySplit : Lane → Subtracted
+baySplit l = subtracted mostSubtractions (l .sizes .places) (yardSplit l .left)
+
+-- where the lane stands, by quotient and remainder; its yard and its cabinet there are the numbers of subtractions
 pub record Placed (l : Lane) (p : Place) : Type 0 where
   pub place : p ≡ placeOf (sizesOf (l .sizes)) (l .number)
-  pub subtractions : p .cabinet ≡ subtracted mostSubtractions (l .sizes .places) (l .number) .times
-  pub few : p .cabinet ≤ mostSubtractions
+  pub yard : p .yard ≡ yardSplit l .times
+  pub bay : p .bay ≡ baySplit l .times
+  pub fewYards : p .yard ≤ mostSubtractions
+  pub fewBays : p .bay ≤ mostSubtractions

@@ -18,7 +18,7 @@ ghost use Rattle.words.specs.Lent.{sizesOf, Few};
 ghost use Rattle.masks.specs.Bits.{width};
 ghost use Rattle.access.specs.Contract.{five};
 ghost use Rattle.access.specs.Flags.{withFlag, flagPut};
-ghost use Rattle.access.specs.Lanes.{laneNamed, Named, LaneIn, Standing, mostSubtractions, splitOf, Placed};
+ghost use Rattle.access.specs.Lanes.{laneNamed, Named, LaneIn, Standing, mostSubtractions, splitOf, yardSize, Placed};
 
 // ---- answers
 
@@ -104,15 +104,25 @@ fn subtract_size(number: u32, size: u32) -> Split
     Split { times, left }
 }
 
-// Where a lane stands: its cabinet is as often as the cabinet size can be subtracted from its number, and its place is what
-// is left. Worked out once a call, of a lane that there is, and handed on.
+// The lanes of a yard.
+fn yard_size(z: words::Sizes) -> u32
+    requires { ⌜ Few (sizesOf z) ⌝ }
+    ensures { λ r. ⌜ r ≡ yardSize (sizesOf z) ⌝ }
+{
+    z.cabinets * z.places
+}
+
+// Where a lane stands: its yard is as often as the yard's size can be subtracted from its number, its cabinet there as often
+// as the cabinet's size from what is left, and its place is what is left then. Worked out once a call, of a lane that there
+// is, and handed on.
 pub fn place_of(lane: Lane) -> lanes::Place
     requires { ⌜ Standing lane ⌝ }
     ensures { λ r. ⌜ Placed lane r ⌝ }
 {
     let z = lane.sizes;
-    let s = subtract_size(lane.number, z.places);
-    lanes::cabinet::stand_at(z, s.times, s.left)
+    let y = subtract_size(lane.number, yard_size(z));
+    let b = subtract_size(y.left, z.places);
+    lanes::cabinet::stand_at(z, y.times, b.times, b.left)
 }
 
 // Bit p of a lane's flags.

@@ -1,12 +1,13 @@
 -- Division by subtraction: a size is subtracted from a number until what is left is below it, at most k times. For numbers below k + 1 sizes the count is the
--- quotient, and what is left the remainder (`subtracted-divides`).
+-- quotient, and what is left the remainder (`subtracted-divides`). First by a group of c sizes and then by the size, it is the quotient by c, and its remainder.
 use Prim.Native.Nat.{ℕ, zero, suc, _+_, _*_, _-_, _/_, _%_, _≤_, _<_}
 use mathlib.Core.Path.{_≡_, refl, ap, ap₂, sym, _∙_}
 use mathlib.Core.Bool.{Bool, true, false, cond}
 use native.Mathlib.Omega.{arith}
 use native.Mathlib.Decide.{decLt}
-use native.Mathlib.Nat.{suc-mul, div-eq-of-lt, mod-eq-of-lt, div-eq-sub-div, mod-eq-sub-mod, mul-zero}
+use native.Mathlib.Nat.{suc-mul, div-eq-of-lt, mod-eq-of-lt, div-eq-sub-div, mod-eq-sub-mod, mul-zero, mul-comm, mod-lt, div-div-eq-div-mul}
 use lib.Dec.{leb}
+use lib.Arith.{digits-div, digits-mod, mod-mul}
 use borrow.Author.Tests.{le-leb, lt-leb}
 
 -- how often the size was subtracted, and what is left
@@ -70,6 +71,20 @@ subtracted-divides (suc k) size i h =
           ∙ ap (after 1) (subtracted-divides k size (i - size) fewer)
           ∙ sym (ap₂ split turn (mod-eq-sub-mod goes))
     ]
+
+-- ---- groups of c sizes, then sizes
+
+-- the number of the group
+pub group-divides : (c size i : ℕ) → i / (c * size) ≡ i / size / c
+group-divides c size i = ap (λ (n : ℕ). i / n) (mul-comm c size) ∙ sym (div-div-eq-div-mul i size c)
+
+-- how many sizes are in what is left of it, and what is left then
+module _ (c size i : ℕ) (some-c : 1 ≤ c) (some-size : 1 ≤ size) where
+  pub rest-divides : i % (c * size) / size ≡ i / size % c
+  rest-divides = ap (λ (n : ℕ). n / size) (mod-mul i some-c some-size) ∙ digits-div (i / size % c) (mod-lt i some-size)
+
+  pub rest-left : i % (c * size) % size ≡ i % size
+  rest-left = ap (λ (n : ℕ). n % size) (mod-mul i some-c some-size) ∙ digits-mod (i / size % c) (mod-lt i some-size)
 
 -- ---- the loop
 

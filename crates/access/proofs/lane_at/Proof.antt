@@ -1,7 +1,7 @@
 -- The sizes are read from the contents, and the address is that of the layout.
 use native.Mathlib.Omega.{arith}
 use Rattle.access.proofs.Ways.{long}
-use Rattle.access.proofs.LaneLaws.{named-by}
+use Rattle.access.proofs.LaneLaws.{few-read, named-by}
 use borrow.Author.Needs.{needs}
 use Rattle.access.proofs.lane_at.Statement.{statement}
 use Rattle.access.proofs.lane_at.Tie as tie
@@ -12,7 +12,7 @@ read-sizes-requires c κs =
     omega (arith, long _ (entry .pre))
 
 lane-address-requires : tie.Need-lane-address-requires
-lane-address-requires c κs = search needs
+lane-address-requires c κs = search (needs, few-read)
 
 returns : tie.Need-returns
 returns c = search (needs, named-by)
