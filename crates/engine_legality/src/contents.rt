@@ -7,7 +7,7 @@ ghost use Rattle.model.specs.Legal.{contentsAgree};
 ghost use Rattle.engine_legality.specs.SameContents.{sameContents};
 
 // The first words of m are these contents.
-pub fn begins_with(m: &[u32], contents: &[u32]) -> bool
+fn begins_with(m: &[u32], contents: &[u32]) -> bool
     requires { ⌜ (contentsLength ≤ length (now m)) × (contentsLength ≤ length (now contents)) ⌝ }
     ensures { λ r. ⌜ r ≡ sameContents (now (m .entry)) (now (contents .entry)) ⌝ }
 {

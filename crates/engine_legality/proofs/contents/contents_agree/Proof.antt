@@ -3,15 +3,12 @@ use mathlib.Core.Path.{_∙_}
 use borrow.Author.Tests.{not-true, not-false}
 use Rattle.words.proofs.LentLaws.{few-tested}
 use borrow.Author.Needs.{needs}
-use Rattle.model.specs.Memory.{contents}
-use Rattle.model.specs.Layout.{total}
-use Rattle.model.specs.Legal.{contentsAgree}
-use Rattle.engine_legality.proofs.ContentsLaws.{agrees-short, agrees-unsized, agrees-other, agrees-decided, contents-twelve, contents-agrees}
+use Rattle.engine_legality.proofs.ContentsLaws.{contents-short, contents-unsized, contents-other, contents-decided}
 use Rattle.engine_legality.proofs.contents.contents_agree.Statement.{statement}
 use Rattle.engine_legality.proofs.contents.contents_agree.Tie as tie
 
 returns : tie.Need-returns
-returns c = agrees-short contents total contentsAgree contents-agrees contents-twelve _ (c .if1 .taken)
+returns c = contents-short _ (c .if1 .taken)
 
 read-sizes-requires : tie.Need-read-sizes-requires
 read-sizes-requires c κs = search needs
@@ -20,12 +17,7 @@ sizes-fit-requires : tie.Need-sizes-fit-requires
 sizes-fit-requires c κs = search needs
 
 returns-2 : tie.Need-returns-2
-returns-2 c =
-    let at-sizes-fit : tie.After-sizes-fit = search in
-    let at-read-sizes : tie.After-read-sizes = search in
-    let at-if1 : tie.Else1 = search in
-    agrees-unsized contents total contentsAgree contents-agrees contents-twelve _ (at-if1 .if1 .left) _ (at-read-sizes .read-sizes .ensures) _ (at-sizes-fit .sizes-fit .ensures)
-    (not-true _ (c .if2 .taken))
+returns-2 c = search (needs, contents-unsized, not-true)
 
 slice-aggregate-write : tie.Need-slice-aggregate-write
 slice-aggregate-write c = search needs
@@ -40,15 +32,7 @@ begins-with-requires : tie.Need-begins-with-requires
 begins-with-requires c κs = search needs
 
 returns-3 : tie.Need-returns-3
-returns-3 c =
-    let at-begins-with : tie.After-begins-with = search in
-    let at-write : tie.After-write = search in
-    let at-if2 : tie.Else2 = search in
-    let at-sizes-fit : tie.After-sizes-fit = search in
-    let at-read-sizes : tie.After-read-sizes = search in
-    let at-if1 : tie.Else1 = search in
-    agrees-other contents total contentsAgree contents-agrees contents-twelve _ (at-if1 .if1 .left) _ (at-read-sizes .read-sizes .ensures) _ (at-sizes-fit .sizes-fit .ensures)
-    (not-false _ (at-if2 .if2 .left)) _ (at-write .write .ensures) _ (at-begins-with .begins-with .ensures) (not-true _ (c .if3 .taken))
+returns-3 c = search (needs, contents-other, not-true, not-false)
 
 bodies-of-requires : tie.Need-bodies-of-requires
 bodies-of-requires c κs =
@@ -70,7 +54,7 @@ returns-4 c =
     let at-sizes-fit : tie.After-sizes-fit = search in
     let at-read-sizes : tie.After-read-sizes = search in
     let at-if1 : tie.Else1 = search in
-    agrees-decided contents total contentsAgree contents-agrees contents-twelve _ (at-if1 .if1 .left) _ (at-read-sizes .read-sizes .ensures) _ (at-sizes-fit .sizes-fit .ensures) (not-false _ (at-if2 .if2 .left))
+    contents-decided _ (at-if1 .if1 .left) _ (at-read-sizes .read-sizes .ensures) _ (at-sizes-fit .sizes-fit .ensures) (not-false _ (at-if2 .if2 .left))
     _ (at-write .write .ensures) _ (at-begins-with .begins-with .ensures) (not-false _ (at-if3 .if3 .left))
     _ (at-index .index .ensures ∙ at-bodies-of .bodies-of .ensures .total)
 
