@@ -60,13 +60,8 @@ fn cabinets_fit(m: &[u32], z: words::Sizes) -> bool
     let mut left = z.yards;
     while left > 0 {
         let bits = m[yards + (y as usize)];
-        if !group_fits(
-            m,
-            bits,
-            words::MASKS_AT + stride * (y as usize),
-            z.cabinets,
-            z.places,
-        ) {
+        let first = words::MASKS_AT + stride * (y as usize);
+        if !group_fits(m, bits, first, z.cabinets, z.places) {
             return false;
         }
         y = y + 1;
@@ -80,13 +75,8 @@ pub fn masks_fit(m: &[u32], z: words::Sizes) -> bool
     requires { ⌜ Lent (now m) (sizesOf z) ⌝ }
     ensures { λ r. ⌜ r ≡ allMasks (now (m .entry)) (z .yards) (z .cabinets) (z .places) (yardsBody (sizesOf z)) ⌝ }
 {
-    if !group_fits(
-        m,
-        m[words::YARD_MASK_AT],
-        words::yards_start(z),
-        z.yards,
-        z.cabinets,
-    ) {
+    let yards = words::yards_start(z);
+    if !group_fits(m, m[words::YARD_MASK_AT], yards, z.yards, z.cabinets) {
         return false;
     }
     cabinets_fit(m, z)

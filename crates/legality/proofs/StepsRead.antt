@@ -38,7 +38,7 @@ module _ (m : List ℕ) where
   base = slotsBody (sizes m)
 
   abbrev pub laneTotal : ℕ
-  laneTotal = at m cabinetsAt * at m placesAt
+  laneTotal = laneCount (sizes m)
 
   -- ---- a walk of the check is the model's
 

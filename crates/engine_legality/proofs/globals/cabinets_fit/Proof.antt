@@ -49,18 +49,18 @@ mul-bits c = search needs
 shared-slice-read-bits : tie.Need-shared-slice-read-bits Inv-loop μ-loop
 shared-slice-read-bits c = search needs
 
-cast-group-fits : tie.Need-cast-group-fits Inv-loop μ-loop
-cast-group-fits c = search needs
+cast-first : tie.Need-cast-first Inv-loop μ-loop
+cast-first c = search needs
 
-mul-group-fits : tie.Need-mul-group-fits Inv-loop μ-loop
-mul-group-fits c =
+mul-first : tie.Need-mul-first Inv-loop μ-loop
+mul-first c =
     let at-loop : tie.At-loop Inv-loop μ-loop = search in
     let entry : tie.Start Inv-loop μ-loop = search in
     let within = group-within (entry .args .z .yards) (entry .args .z .cabinets) (at-loop .loop .y) (omega arith) in
     omega (arith, within)
 
-add-group-fits : tie.Need-add-group-fits Inv-loop μ-loop
-add-group-fits c =
+add-first : tie.Need-add-first Inv-loop μ-loop
+add-first c =
     let at-loop : tie.At-loop Inv-loop μ-loop = search in
     let entry : tie.Start Inv-loop μ-loop = search in
     let within = group-within (entry .args .z .yards) (entry .args .z .cabinets) (at-loop .loop .y) (omega arith) in
@@ -113,9 +113,9 @@ cabinets-fit-spec =
     add-bits
     mul-bits
     shared-slice-read-bits
-    cast-group-fits
-    mul-group-fits
-    add-group-fits
+    cast-first
+    mul-first
+    add-first
     group-fits-requires
     returns
     add-y

@@ -5,11 +5,11 @@ use borrow.Author.Needs.{needs}
 use Rattle.engine_legality.proofs.globals.masks_fit.Statement.{statement}
 use Rattle.engine_legality.proofs.globals.masks_fit.Tie as tie
 
-shared-slice-read-group-fits : tie.Need-shared-slice-read-group-fits
-shared-slice-read-group-fits c = search needs
-
 yards-start-requires : tie.Need-yards-start-requires
 yards-start-requires c κs = search needs
+
+shared-slice-read-group-fits : tie.Need-shared-slice-read-group-fits
+shared-slice-read-group-fits c = search needs
 
 group-fits-requires : tie.Need-group-fits-requires
 group-fits-requires c κs = search needs
@@ -27,8 +27,8 @@ pub masks-fit-spec : {M : Type 1} → statement M
 masks-fit-spec =
     tie.close
     (tie.spec
-    shared-slice-read-group-fits
     yards-start-requires
+    shared-slice-read-group-fits
     group-fits-requires
     returns
     cabinets-fit-requires
