@@ -1,45 +1,35 @@
--- The global words, the cabinets and the lanes: the check's three tests are the engine's part of legality. Both say the same record of facts, the check
--- cabinet by cabinet and legality sentence by sentence.
-use Prim.Native.Nat.{ℕ, zero, suc, _+_, _*_, _/_, _%_, _^_, _≤_, _<_}
-use mathlib.Core.Bool.{Bool, true, false, cond, _&&_}
+-- The global words, the masks and the lanes: the check's three tests are the engine's part of legality. Both say the same record of facts, the check
+-- group by group and legality sentence by sentence.
+use Prim.Native.Nat.{ℕ, _+_, _*_, _/_, _%_, _^_, _<_}
+use mathlib.Core.Bool.{Bool, true, false, _&&_}
 use mathlib.Core.Path.{_≡_, refl, ap, ap₂, sym, _∙_}
 use mathlib.Core.List.{List}
 use native.Mathlib.Omega.{arith}
-use native.Mathlib.Nat.{suc-mul, mul-le-mul-right, mul-add-mod-self-right, mul-add-div-right, mod-eq-of-lt, div-eq-of-lt, mul-comm, mul-assoc}
-use native.Mathlib.Nat.{mul-add, mod-lt, div-lt-iff-lt-mul, div-add-mod'}
-use lib.Dec.{ltb, eqb}
-use Rattle.model.specs.Layout.{cabinetsAt, placesAt, slotsAt, currentOffset, currentGenerationAt, largestGenerationAt, cabinetMaskAt, globalQueuesAt}
-use Rattle.model.specs.Layout.{globalGenerationAt, laneLength, laneAddress, lanesBody}
-use Rattle.model.specs.Memory.{at, flag, sizes, maskWord, state, readLane, readQueues}
+use native.Mathlib.Nat.{mul-assoc}
+use lib.Dec.{ltb}
+use Rattle.model.specs.State.{cabinetCount}
+use Rattle.model.specs.Lists.{all, from}
+use Rattle.model.specs.Layout.{yardsAt, cabinetsAt, placesAt, slotsAt, currentOffset, currentGenerationAt, largestGenerationAt, yardMaskAt, globalQueuesAt}
+use Rattle.model.specs.Layout.{globalGenerationAt, masksAt, laneLength, laneAddress, lanesBody, yardsBody}
+use Rattle.model.specs.Memory.{at, flag, sizes, maskWord, yardWord, state, readLane, readQueues}
 use Rattle.model.specs.Legal.{laneNumbers, flagsInRange, masksInRange, generationAtRest, generationsAtRest, offLanes, lookupsInSections, snapshotsPending}
-use Rattle.model.specs.Legal.{cabinetBits, largestFits, globalGenerationFits, periodRuns, largestAgrees, laneGenerations, globalGeneration}
+use Rattle.model.specs.Legal.{bitFits, bitsFit, largestFits, globalGenerationFits, periodRuns, largestAgrees, laneGenerations, globalGeneration}
 use Rattle.laws.specs.Tests.{_&_, Every, iff-eq, every-true, every-intro, and-true, and-intro, all-below, all-below-intro, all-map-below}
 use Rattle.laws.specs.Tests.{all-map-intro, every-all}
 use Rattle.words.specs.declared.Sizes.{Sizes}
 use Rattle.words.specs.Lent.{sizesOf, sizesIn}
-use Rattle.engine_legality.specs.LaneSentences.{laneRests, emptyFirst, laneFits, cabinetLanes, allLanes, cabinetFits, allCabinets, globalFits}
-use Rattle.engine_legality.specs.LaneSentences.{globalWordsFit}
+use Rattle.engine_legality.specs.LaneSentences.{laneRests, emptyFirst, laneFits, cabinetLanes, allLanes, maskFits, groupFits, allCabinets}
+use Rattle.engine_legality.specs.LaneSentences.{allMasks, globalFits, globalWordsFit}
 use Rattle.engine_legality.specs.WordSentences.{engineLegal}
+use Rattle.engine_legality.proofs.LaneLoops.{member-number, groups-each, each-groups}
 use Rattle.engine_legality.proofs.LaneTests.{laneSentences, empty-queue, laneTest, lane-said, said-lane}
 
--- ---- the lanes, cabinet by cabinet
-
--- place p of cabinet c, of P places each
-module _ (c p P C : ℕ) (hp : p < P) (hc : c < C) where
-  place-lt : c * P + p < C * P
-  place-lt = let q : suc c * P ≤ C * P = mul-le-mul-right P hc in omega (arith, suc-mul c P)
-
-  place-mod : (c * P + p) % P ≡ p
-  place-mod = mul-add-mod-self-right c P p ∙ mod-eq-of-lt hp
-
-  place-div : (c * P + p) / P ≡ c
-  place-div = mul-add-div-right (omega arith) c p ∙ ap (λ (x : ℕ). c + x) (div-eq-of-lt hp) ∙ omega arith
-
--- where the lane at place p of cabinet c begins
-place-address : (P c p i : ℕ) → i ≡ c * P + p → laneLength * P * c + laneLength * p ≡ laneLength * i
-place-address P c p i e = omega (arith, mul-assoc laneLength P c, mul-comm P c, mul-add laneLength (c * P) p)
+-- ---- the lanes cabinet by cabinet, and the cabinets yard by yard
 
 module _ (m : List ℕ) where
+  abbrev Y : ℕ
+  Y = at m yardsAt
+
   abbrev C : ℕ
   C = at m cabinetsAt
 
@@ -49,54 +39,95 @@ module _ (m : List ℕ) where
   abbrev S : ℕ
   S = at m slotsAt
 
-  lanes-each : allLanes m S C P (lanesBody (sizes m)) ≡ true → (i : ℕ) → i < C * P → laneTest m i ≡ true
-  unfolding allLanes cabinetLanes
-  lanes-each h i b =
-      let q : 0 < P = positive P b in
-      let d : i / P * P + i % P ≡ i = div-add-mod' i P in
-      let hc : i / P < C = div-lt-iff-lt-mul q .1 b in
-      let hp : i % P < P = mod-lt i q in
+  -- the lane at place p of cabinet c
+  abbrev placeTest : ℕ → ℕ → Bool
+  placeTest c p = laneFits m S (lanesBody (sizes m) + laneLength * P * c + laneLength * p) (flag p (maskWord m c))
+
+  place-test : (i : ℕ) → placeTest (i / P) (i % P) ≡ laneTest m i
+  place-test i =
       let a : lanesBody (sizes m) + laneLength * P * (i / P) + laneLength * (i % P) ≡ laneAddress (sizes m) i =
-      omega (arith, place-address P (i / P) (i % P) i (sym d)) in
-      ap (λ (x : ℕ). laneFits m S x (flag (i % P) (maskWord m (i / P)))) (sym a)
-      ∙ all-below _ P (i % P) (all-below _ C (i / P) h hc) hp
-    where
-      positive : (P : ℕ) → i < C * P → 0 < P
-      positive zero b = omega arith
-      positive (suc P) b = omega arith
+      omega (arith, mul-assoc laneLength P (i / P), member-number P i) in
+      ap (λ (x : ℕ). laneFits m S x (flag (i % P) (maskWord m (i / P)))) a
 
-  each-lanes : ((i : ℕ) → i < C * P → laneTest m i ≡ true) → allLanes m S C P (lanesBody (sizes m)) ≡ true
+  lanes-each : allLanes m S (Y * C) P (lanesBody (sizes m)) ≡ true → (i : ℕ) → i < Y * C * P → laneTest m i ≡ true
   unfolding allLanes cabinetLanes
-  each-lanes h =
-      all-below-intro _ C (λ c hc. all-below-intro _ P (λ p hp.
-      let i = c * P + p in
-      let a : lanesBody (sizes m) + laneLength * P * c + laneLength * p ≡ laneAddress (sizes m) i = omega (arith, place-address P c p (c * P + p) refl) in
-      ap (λ (x : ℕ). laneFits m S x (flag p (maskWord m c))) a
-      ∙ ap₂ (λ (x y : ℕ). laneFits m S (laneAddress (sizes m) i) (flag x (maskWord m y))) (sym (place-mod c p P C hp hc)) (sym (place-div c p P C hp hc))
-      ∙ h i (place-lt c p P C hp hc)))
+  lanes-each h i b = sym (place-test i) ∙ groups-each placeTest (Y * C) P h i b
 
--- ---- the cabinets
+  each-lanes : ((i : ℕ) → i < Y * C * P → laneTest m i ≡ true) → allLanes m S (Y * C) P (lanesBody (sizes m)) ≡ true
+  unfolding allLanes cabinetLanes
+  each-lanes h = each-groups placeTest (Y * C) P (λ i b. place-test i ∙ h i b)
 
-cabinet-split : (P mask : ℕ) (bit : Bool) → cabinetFits P mask bit ≡ true
-    → (ltb mask (2 ^ P) ≡ true) × (cond bit (ltb 0 mask) (eqb mask 0) ≡ true)
-unfolding cabinetFits
-cabinet-split P mask bit h = and-true _ _ h
+  -- the tests of yard y and of cabinet c of yard y; the bit and the test of cabinet c of all
+  abbrev yardTest : ℕ → Bool
+  yardTest y = maskFits C (yardWord m y) (flag y (at m yardMaskAt))
 
-cabinets-each : (m : List ℕ) (C P c : ℕ) → allCabinets m C P ≡ true → c < C → cabinetFits P (maskWord m c) (flag c (at m cabinetMaskAt)) ≡ true
-unfolding allCabinets
-cabinets-each m C P c h = all-below (λ (c : ℕ). cabinetFits P (maskWord m c) (flag c (at m cabinetMaskAt))) C c h
+  abbrev memberTest : ℕ → ℕ → Bool
+  memberTest y c = maskFits P (at m (masksAt + C * y + c)) (flag c (yardWord m y))
+
+  abbrev cabinetSet : ℕ → Bool
+  cabinetSet c = flag (c % C) (yardWord m (c / C))
+
+  abbrev cabinetTest : ℕ → Bool
+  cabinetTest c = maskFits P (maskWord m c) (cabinetSet c)
+
+  member-test : (c : ℕ) → memberTest (c / C) (c % C) ≡ cabinetTest c
+  member-test c =
+      let a : masksAt + C * (c / C) + c % C ≡ masksAt + c = omega (arith, member-number C c) in
+      ap (λ (x : ℕ). maskFits P (at m x) (cabinetSet c)) a
+
+  yards-each : groupFits m (at m yardMaskAt) (yardsBody (sizes m)) Y C ≡ true → (y : ℕ) → y < Y → yardTest y ≡ true
+  unfolding groupFits
+  yards-each h y b = all-below yardTest Y y h b
+
+  each-yards : ((y : ℕ) → y < Y → yardTest y ≡ true) → groupFits m (at m yardMaskAt) (yardsBody (sizes m)) Y C ≡ true
+  unfolding groupFits
+  each-yards h = all-below-intro yardTest Y h
+
+  cabinets-each : allCabinets m Y C P (yardsBody (sizes m)) ≡ true → (c : ℕ) → c < Y * C → cabinetTest c ≡ true
+  unfolding allCabinets groupFits
+  cabinets-each h c b = sym (member-test c) ∙ groups-each memberTest Y C h c b
+
+  each-cabinets : ((c : ℕ) → c < Y * C → cabinetTest c ≡ true) → allCabinets m Y C P (yardsBody (sizes m)) ≡ true
+  unfolding allCabinets groupFits
+  each-cabinets h = each-groups memberTest Y C (λ c b. member-test c ∙ h c b)
+
+-- the yards are one group, from a on; then the cabinets decide
+module _ (m : List ℕ) (Y C P a b : ℕ) (e : a ≡ b) (r : Bool) (q : r ≡ groupFits m (at m yardMaskAt) a Y C) where
+  yards-read : r ≡ groupFits m (at m yardMaskAt) b Y C
+  yards-read = q ∙ ap (λ (x : ℕ). groupFits m (at m yardMaskAt) x Y C) e
+
+  pub masks-yards : r ≡ false → false ≡ allMasks m Y C P b
+  unfolding allMasks
+  masks-yards h = ap (λ (x : Bool). x && allCabinets m Y C P b) (sym h ∙ yards-read)
+
+  pub masks-cabinets : r ≡ true → (s : Bool) → s ≡ allCabinets m Y C P b → s ≡ allMasks m Y C P b
+  unfolding allMasks
+  masks-cabinets h s k = k ∙ ap (λ (x : Bool). x && allCabinets m Y C P b) (sym h ∙ yards-read)
+
+-- a mask's two tests
+mask-split : (W mask : ℕ) (bit : Bool) → maskFits W mask bit ≡ true → (ltb mask (2 ^ W) ≡ true) × (bitFits bit mask ≡ true)
+unfolding maskFits
+mask-split W mask bit h = and-true _ _ h
 
 -- ---- what the engine's sentences say
 
 pub record EngineSaid (m : List ℕ) : Type 0 where
-  pub lanes : (i : ℕ) → i < C m * P m → Every (laneSentences m i)
-  pub mask : ltb (at m cabinetMaskAt) (2 ^ C m) ≡ true
-  pub cabinets : (c : ℕ) → c < C m → cabinetFits (P m) (maskWord m c) (flag c (at m cabinetMaskAt)) ≡ true
+  pub lanes : (i : ℕ) → i < Y m * C m * P m → Every (laneSentences m i)
+  pub mask : ltb (at m yardMaskAt) (2 ^ Y m) ≡ true
+  pub yards : (y : ℕ) → y < Y m → yardTest m y ≡ true
+  pub cabinets : (c : ℕ) → c < Y m * C m → cabinetTest m c ≡ true
   pub rest : generationAtRest (readQueues m globalGenerationAt globalQueuesAt) ≡ true
   pub largest : largestFits (at m currentGenerationAt) (at m largestGenerationAt) (periodRuns m) ≡ true
   pub generation : globalGenerationFits (at m currentGenerationAt) (at m largestGenerationAt) (readQueues m globalGenerationAt globalQueuesAt) ≡ true
 
 module _ (m : List ℕ) where
+  -- a yard's bit against its cabinet mask, and a cabinet's against its lane mask
+  abbrev yardFits : ℕ → Bool
+  yardFits y = bitFits (flag y (at m yardMaskAt)) (yardWord m y)
+
+  abbrev cabinetFits : ℕ → Bool
+  cabinetFits c = bitFits (cabinetSet m c) (maskWord m c)
+
   -- in the model's sentences
   engine-said : engineLegal m ≡ true → EngineSaid m
   unfolding
@@ -107,16 +138,18 @@ module _ (m : List ℕ) where
       offLanes
       lookupsInSections
       snapshotsPending
-      cabinetBits
+      bitsFit
       largestAgrees
       laneGenerations
       globalGeneration
       state
-      cabinetFits
+      maskFits
   engine-said h =
       let (flagged, (masked, (linked, (coded, (words, (rested, rest₆)))))) = every-true _ h in
       let (off, (sections, (held, (bits, (largest, (aged, (global, _))))))) = rest₆ in
       let masks = and-true _ _ masked in
+      let masks₁ = and-true _ _ (masks .0) in
+      let set = and-true (all yardFits (from 0 (Y m))) (all cabinetFits (from 0 (Y m * C m))) bits in
       let rests = and-true _ _ rested in
       record {
         lanes = λ i b.
@@ -130,8 +163,9 @@ module _ (m : List ℕ) where
             & all-map-below _ (readLane m) _ i (rests .1) b
             & all-map-below _ (readLane m) _ i aged b
             & tt;
-        mask = masks .0;
-        cabinets = λ c b. and-intro _ _ (all-below _ _ c (masks .1) b) (all-below _ _ c bits b);
+        mask = masks₁ .0;
+        yards = λ y b. and-intro _ _ (all-below _ _ y (masks₁ .1) b) (all-below yardFits _ y (set .0) b);
+        cabinets = λ c b. and-intro _ _ (all-below _ _ c (masks .1) b) (all-below cabinetFits _ c (set .1) b);
         rest = rests .0;
         largest = largest;
         generation = global;
@@ -146,17 +180,17 @@ module _ (m : List ℕ) where
       offLanes
       lookupsInSections
       snapshotsPending
-      cabinetBits
+      bitsFit
       largestAgrees
       laneGenerations
       globalGeneration
       state
   said-engine s =
       let l = s .lanes in
-      let masked = all-below-intro _ _ (λ c b. cabinet-split _ _ _ (s .cabinets c b) .0) in
+      let yards = all-below-intro _ _ (λ y b. mask-split _ _ _ (s .yards y b) .0) in
       every-intro _ (
       all-below-intro _ _ (λ i b. l i b .0)
-      & and-intro _ _ (s .mask) masked
+      & and-intro _ _ (and-intro _ _ (s .mask) yards) (all-below-intro _ _ (λ c b. mask-split _ _ _ (s .cabinets c b) .0))
       & all-below-intro _ _ (λ i b. l i b .1 .0)
       & all-below-intro _ _ (λ i b. l i b .1 .1 .0)
       & (every-all (laneNumbers m) (laneRests m) ∙ all-below-intro _ _ (λ i b. l i b .1 .1 .1 .0))
@@ -164,7 +198,7 @@ module _ (m : List ℕ) where
       & all-map-intro _ (readLane m) _ (λ i b. l i b .1 .1 .1 .1 .0)
       & all-map-intro _ (readLane m) _ (λ i b. l i b .1 .1 .1 .1 .1 .0)
       & all-map-intro _ (readLane m) _ (λ i b. l i b .1 .1 .1 .1 .1 .1 .0)
-      & all-below-intro _ _ (λ c b. cabinet-split _ _ _ (s .cabinets c b) .1)
+      & and-intro _ _ (all-below-intro _ _ (λ y b. mask-split _ _ _ (s .yards y b) .1)) (all-below-intro _ _ (λ c b. mask-split _ _ _ (s .cabinets c b) .1))
       & s .largest
       & all-map-intro _ (readLane m) _ (λ i b. l i b .1 .1 .1 .1 .1 .1 .1 .1 .0)
       & s .generation
@@ -180,36 +214,37 @@ module _ (m : List ℕ) where
       && globalGenerationFits (at m currentGenerationAt) (at m largestGenerationAt) (readQueues m globalGenerationAt globalQueuesAt))
   global-eq = ap global (sym (empty-queue m (globalQueuesAt + currentOffset) _ refl))
 
-  -- the tests of the lanes, of the cabinets and lanes, and of all
+  -- the tests of the lanes, of the masks and lanes, and of all
   abbrev lanesTest : Bool
-  lanesTest = allLanes m (S m) (C m) (P m) (lanesBody (sizes m))
+  lanesTest = allLanes m (S m) (Y m * C m) (P m) (lanesBody (sizes m))
 
-  abbrev cabinetsTest : Bool
-  cabinetsTest = allCabinets m (C m) (P m) && lanesTest
+  abbrev masksTest : Bool
+  masksTest = allMasks m (Y m) (C m) (P m) (yardsBody (sizes m)) && lanesTest
 
   abbrev tests : Bool
-  tests = globalWordsFit m (C m) (S m) && cabinetsTest
+  tests = globalWordsFit m (Y m) (S m) && masksTest
 
   said-tests : EngineSaid m → tests ≡ true
-  unfolding globalWordsFit allCabinets
+  unfolding globalWordsFit allMasks
   said-tests s =
       let words = and-intro _ _ (and-intro _ _ (s .mask) (s .largest)) (global-eq ∙ and-intro _ _ (s .rest) (s .generation)) in
-      and-intro _ _
-      words
-      (and-intro _ _ (all-below-intro _ _ (s .cabinets)) (each-lanes m (λ i b. said-lane m i (s .lanes i b))))
+      let masks = and-intro _ _ (each-yards m (s .yards)) (each-cabinets m (s .cabinets)) in
+      and-intro _ _ words (and-intro _ _ masks (each-lanes m (λ i b. said-lane m i (s .lanes i b))))
 
   tests-said : tests ≡ true → EngineSaid m
-  unfolding globalWordsFit
+  unfolding globalWordsFit allMasks
   tests-said h =
       let t = and-true _ _ h in
       let u = and-true _ _ (t .1) in
+      let k = and-true _ _ (u .0) in
       let g = and-true _ _ (t .0) in
       let g₁ = and-true _ _ (g .0) in
       let q = and-true _ _ (sym global-eq ∙ g .1) in
       record {
         lanes = λ i b. lane-said m i (lanes-each m (u .1) i b);
         mask = g₁ .0;
-        cabinets = λ c b. cabinets-each m _ _ c (u .0) b;
+        yards = yards-each m (k .0);
+        cabinets = cabinets-each m (k .1);
         rest = q .0;
         largest = g₁ .1;
         generation = q .1;
@@ -220,24 +255,24 @@ module _ (m : List ℕ) where
 
   -- ---- the ways out of the check, by the sizes that were read
 
-  module _ (z : Sizes) (ez : z ≡ sizesIn m) (r : Bool) (q : r ≡ globalWordsFit m (z .cabinets) (z .slots)) where
-    global-read : r ≡ globalWordsFit m (C m) (S m)
-    global-read = q ∙ ap (λ (x : Sizes). globalWordsFit m (x .cabinets) (x .slots)) ez
+  module _ (z : Sizes) (ez : z ≡ sizesIn m) (r : Bool) (q : r ≡ globalWordsFit m (z .yards) (z .slots)) where
+    global-read : r ≡ globalWordsFit m (Y m) (S m)
+    global-read = q ∙ ap (λ (x : Sizes). globalWordsFit m (x .yards) (x .slots)) ez
 
     pub engine-global : r ≡ false → false ≡ engineLegal m
-    engine-global e = ap (λ (b : Bool). b && cabinetsTest) (sym e ∙ global-read) ∙ engine-eq
+    engine-global e = ap (λ (b : Bool). b && masksTest) (sym e ∙ global-read) ∙ engine-eq
 
-    module _ (e : r ≡ true) (r₂ : Bool) (q₂ : r₂ ≡ allCabinets m (z .cabinets) (z .places)) where
-      cabinets-read : r₂ ≡ allCabinets m (C m) (P m)
-      cabinets-read = q₂ ∙ ap (λ (x : Sizes). allCabinets m (x .cabinets) (x .places)) ez
+    module _ (e : r ≡ true) (r₂ : Bool) (q₂ : r₂ ≡ allMasks m (z .yards) (z .cabinets) (z .places) (yardsBody (sizesOf z))) where
+      masks-read : r₂ ≡ allMasks m (Y m) (C m) (P m) (yardsBody (sizes m))
+      masks-read = q₂ ∙ ap (λ (x : Sizes). allMasks m (x .yards) (x .cabinets) (x .places) (yardsBody (sizesOf x))) ez
 
-      onward : (b : Bool) → (b && lanesTest) ≡ cabinetsTest → (b && lanesTest) ≡ engineLegal m
+      onward : (b : Bool) → (b && lanesTest) ≡ masksTest → (b && lanesTest) ≡ engineLegal m
       onward b h = ap₂ _&&_ (sym e ∙ global-read) h ∙ engine-eq
 
-      pub engine-cabinets : r₂ ≡ false → false ≡ engineLegal m
-      engine-cabinets h = onward false (ap (λ (b : Bool). b && lanesTest) (sym h ∙ cabinets-read))
+      pub engine-masks : r₂ ≡ false → false ≡ engineLegal m
+      engine-masks h = onward false (ap (λ (b : Bool). b && lanesTest) (sym h ∙ masks-read))
 
-      pub engine-lanes : r₂ ≡ true → (r₃ : Bool) → r₃ ≡ allLanes m (z .slots) (z .cabinets) (z .places) (lanesBody (sizesOf z)) → r₃ ≡ engineLegal m
+      pub engine-lanes : r₂ ≡ true → (r₃ : Bool) → r₃ ≡ allLanes m (z .slots) (cabinetCount (sizesOf z)) (z .places) (lanesBody (sizesOf z)) → r₃ ≡ engineLegal m
       engine-lanes h r₃ q₃ =
-          q₃ ∙ ap (λ (x : Sizes). allLanes m (x .slots) (x .cabinets) (x .places) (lanesBody (sizesOf x))) ez
-          ∙ onward true (ap (λ (b : Bool). b && lanesTest) (sym h ∙ cabinets-read))
+          q₃ ∙ ap (λ (x : Sizes). allLanes m (x .slots) (cabinetCount (sizesOf x)) (x .places) (lanesBody (sizesOf x))) ez
+          ∙ onward true (ap (λ (b : Bool). b && lanesTest) (sym h ∙ masks-read))

@@ -1,17 +1,17 @@
--- One lane's part of legality's sentences, for a lane whose words begin at b in a memory m of S slots, pending or not; then the cabinets and the global
+-- One lane's part of legality's sentences, for a lane whose words begin at b in a memory m of S slots, pending or not; then masks by groups, and the global
 -- words. An empty queue is one whose first is no slot's number.
 use Prim.Native.Nat.{ℕ, _+_, _*_, _^_}
-use mathlib.Core.Bool.{Bool, true, not, cond, _&&_, _||_}
+use mathlib.Core.Bool.{Bool, true, not, _&&_, _||_}
 use mathlib.Core.List.{List, [], _∷_}
 use lib.Dec.{leb, ltb, eqb}
 use Rattle.model.specs.Word.{none, up, down, later}
 use Rattle.model.specs.Lists.{all, every, from}
-use Rattle.model.specs.Layout.{currentGenerationAt, largestGenerationAt, cabinetMaskAt, globalQueuesAt, globalGenerationAt, onlineBit, readingBit}
+use Rattle.model.specs.Layout.{currentGenerationAt, largestGenerationAt, yardMaskAt, globalQueuesAt, globalGenerationAt, masksAt, onlineBit, readingBit}
 use Rattle.model.specs.Layout.{lookupBit, snapshotBit, flagCount}
 use Rattle.model.specs.Layout.{countsWidth, flagsAt, snapshotAt, generationAt, queuesAt, currentOffset, doneOffset, lastOffset, lookupAt, positionAt, laneLength}
 use Rattle.model.specs.Rules.{wrongCode}
 use Rattle.model.specs.Memory.{at, wide, laneWord, maskWord, flag}
-use Rattle.model.specs.Legal.{implies, largestFits, periodRuns}
+use Rattle.model.specs.Legal.{implies, bitFits, largestFits, periodRuns}
 use Rattle.words.specs.Links.{slotOrNone}
 
 module _ (m : List ℕ) (S a : ℕ) where
@@ -111,25 +111,35 @@ module _ (m : List ℕ) (S b : ℕ) (pending : Bool) where
 unfoldable pub cabinetLanes : List ℕ → ℕ → ℕ → ℕ → ℕ → Bool
 cabinetLanes m S P b mask = all (λ (p : ℕ). laneFits m S (b + laneLength * p) (flag p mask)) (from 0 P)
 
--- the lanes of C cabinets, the first lane at b
+-- the lanes of N cabinets, the first lane at b
 unfoldable pub allLanes : List ℕ → ℕ → ℕ → ℕ → ℕ → Bool
-allLanes m S C P b = all (λ (c : ℕ). cabinetLanes m S P (b + laneLength * P * c) (maskWord m c)) (from 0 C)
+allLanes m S N P b = all (λ (c : ℕ). cabinetLanes m S P (b + laneLength * P * c) (maskWord m c)) (from 0 N)
 
--- ---- cabinets
+-- ---- masks
 
--- a cabinet's lane mask is in range, and the cabinet's bit is set exactly when it is not 0
-unfoldable pub cabinetFits : ℕ → ℕ → Bool → Bool
-cabinetFits P mask bit = ltb mask (2 ^ P) && cond bit (ltb 0 mask) (eqb mask 0)
+-- a mask of W bits is in range, and its bit of the mask above is set exactly when it is not 0
+unfoldable pub maskFits : ℕ → ℕ → Bool → Bool
+maskFits W mask bit = ltb mask (2 ^ W) && bitFits bit mask
 
-unfoldable pub allCabinets : List ℕ → ℕ → ℕ → Bool
-allCabinets m C P = all (λ (c : ℕ). cabinetFits P (maskWord m c) (flag c (at m cabinetMaskAt))) (from 0 C)
+-- a group of N masks of W bits each, the first at a: their bits are those of the mask above
+unfoldable pub groupFits : List ℕ → ℕ → ℕ → ℕ → ℕ → Bool
+groupFits m bits a N W = all (λ (p : ℕ). maskFits W (at m (a + p)) (flag p bits)) (from 0 N)
+
+module _ (m : List ℕ) (Y C P b : ℕ) where
+  -- the cabinets of Y yards, a group a yard, whose masks begin at b
+  unfoldable pub allCabinets : Bool
+  allCabinets = all (λ (y : ℕ). groupFits m (at m (b + y)) (masksAt + C * y) C P) (from 0 Y)
+
+  -- the yards, one group, and the cabinets
+  unfoldable pub allMasks : Bool
+  allMasks = groupFits m (at m yardMaskAt) b Y C && allCabinets
 
 -- ---- global words
 
--- the global words, for C cabinets
+-- the global words, for Y yards
 unfoldable pub globalWordsFit : List ℕ → ℕ → ℕ → Bool
-globalWordsFit m C S =
-    ltb (at m cabinetMaskAt) (2 ^ C)
+globalWordsFit m Y S =
+    ltb (at m yardMaskAt) (2 ^ Y)
     && largestFits (at m currentGenerationAt) (at m largestGenerationAt) (periodRuns m)
     && globalFits
     (at m globalGenerationAt)

@@ -3,6 +3,7 @@ ghost use mathlib.Core.Path.{_≡_};
 ghost use Prim.Native.Nat.{_+_, _*_, _≤_};
 ghost use lib.ListN.{length};
 ghost use Rattle.model.specs.Layout.{maxPlaces, masksAt, laneLength, lanesBody};
+ghost use Rattle.model.specs.State.{cabinetCount};
 ghost use Rattle.words.specs.Lent.{sizesOf, Lent};
 ghost use Rattle.engine_legality.specs.LaneSentences.{laneInRange, lookupInRange, snapshotBlank, wordsAtRest, laneAtRest, noneQueuedAt, laneAgrees, laneFits};
 ghost use Rattle.engine_legality.specs.LaneSentences.{cabinetLanes, allLanes};
@@ -103,7 +104,7 @@ fn lane_fits(m: &[u32], b: usize, slots: u32, pending: bool) -> bool
 {
     let current = m[words::CURRENT_GENERATION_AT];
     let largest = m[words::LARGEST_GENERATION_AT];
-    let runs = !(m[words::CABINET_MASK_AT] == 0);
+    let runs = !(m[words::YARD_MASK_AT] == 0);
     let empty = slots <= m[b + CURRENT_FIRST];
     lane_in_range(m, b, slots)
         & lookup_in_range(m, b)
@@ -137,15 +138,16 @@ fn cabinet_lanes(m: &[u32], b: usize, places: u32, mask: u32, slots: u32) -> boo
     true
 }
 
-// The lanes of all cabinets.
+// The lanes of all cabinets of all yards.
 pub fn lanes_fit(m: &[u32], z: words::Sizes) -> bool
     requires { ⌜ Lent (now m) (sizesOf z) ⌝ }
-    ensures { λ r. ⌜ r ≡ allLanes (now (m .entry)) (z .slots) (z .cabinets) (z .places) (lanesBody (sizesOf z)) ⌝ }
+    ensures { λ r. ⌜ r ≡ allLanes (now (m .entry)) (z .slots) (cabinetCount (sizesOf z)) (z .places) (lanesBody (sizesOf z)) ⌝ }
 {
-    let b = words::MASKS_AT + (z.cabinets as usize);
+    let cabinets = words::cabinet_count(z);
+    let b = words::MASKS_AT + (cabinets as usize);
     let stride = words::LANE_LENGTH * (z.places as usize);
     let mut c: u32 = 0;
-    let mut left = z.cabinets;
+    let mut left = cabinets;
     while left > 0 {
         let mask = m[words::MASKS_AT + (c as usize)];
         if !cabinet_lanes(m, b + stride * (c as usize), z.places, mask, z.slots) {

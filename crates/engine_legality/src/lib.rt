@@ -1,4 +1,4 @@
-// The legality check's part that looks at no slot: the contents, the global words, the cabinets and the
+// The legality check's part that looks at no slot: the contents, the global words, the masks and the
 // lanes. It follows no link, for these sentences speak of words at known places.
 pub mod contents;
 mod generations;
@@ -11,7 +11,7 @@ ghost use Rattle.model.specs.Memory.{sizes};
 ghost use Rattle.words.specs.Lent.{Lent};
 ghost use Rattle.engine_legality.specs.WordSentences.{engineLegal};
 
-// The sentences about the global words, the cabinets and the lanes.
+// The sentences about the global words, the masks and the lanes.
 pub fn engine_fits(m: &[u32]) -> bool
     requires { ⌜ Lent (now m) (sizes (now m)) ⌝ }
     ensures { λ r. ⌜ r ≡ engineLegal (now (m .entry)) ⌝ }
@@ -20,7 +20,7 @@ pub fn engine_fits(m: &[u32]) -> bool
     if !globals::global_words_fit(m, z) {
         return false;
     }
-    if !globals::cabinets_fit(m, z) {
+    if !globals::masks_fit(m, z) {
         return false;
     }
     lanes::lanes_fit(m, z)

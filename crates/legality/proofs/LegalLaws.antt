@@ -1,4 +1,4 @@
--- Legality from its parts: its sentences are those about the global words, the cabinets and the lanes, and those about the slots.
+-- Legality from its parts: its sentences are those about the global words, the masks and the lanes, and those about the slots.
 use Prim.Native.Nat.{ℕ}
 use mathlib.Core.Bool.{Bool, true, false, cond, _&&_}
 use mathlib.Core.Path.{_≡_, ap, sym, _∙_}

@@ -11,8 +11,8 @@ use lib.Dec.{eqb}
 use borrow.Author.Tests.{le-leb, lt-leb}
 use Rattle.model.specs.Word.{none}
 use Rattle.model.specs.Lists.{all, from, count, last, concat, concatMap}
-use Rattle.model.specs.State.{Lane}
-use Rattle.model.specs.Layout.{cabinetsAt, placesAt, slotsAt, chainCount, headsAt, freeAt, globalQueuesAt, globalGenerationAt, generationAt, queuesAt}
+use Rattle.model.specs.State.{laneCount, Lane}
+use Rattle.model.specs.Layout.{slotsAt, chainCount, headsAt, freeAt, globalQueuesAt, globalGenerationAt, generationAt, queuesAt}
 use Rattle.model.specs.Layout.{queueWidth, currentOffset, doneOffset, lastOffset, lengthOffset, chainLinkAt, queueLinkAt, slotLength, laneLength}
 use Rattle.model.specs.Layout.{slotsBody, slotAddress, laneAddress, lanesBody}
 use Rattle.model.specs.Engine.{laneAt, freshLane}
@@ -38,7 +38,7 @@ module _ (m : List ℕ) where
   base = slotsBody (sizes m)
 
   abbrev pub laneTotal : ℕ
-  laneTotal = at m cabinetsAt * at m placesAt
+  laneTotal = laneCount (sizes m)
 
   -- ---- a walk of the check is the model's
 

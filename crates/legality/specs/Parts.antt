@@ -5,6 +5,7 @@ use mathlib.Core.Bool.{Bool, true, false, not}
 use mathlib.Core.List.{List, [], _∷_, _++_}
 use lib.ListN.{length, getD}
 use Rattle.model.specs.Lists.{all, every, from}
+use Rattle.model.specs.State.{laneCount}
 use Rattle.model.specs.Layout.{maxSlots, chainCount, headsAt, laneLength, slotLength, queueWidth, freeAt, globalQueuesAt, depositAt, materialAt}
 use Rattle.model.specs.Layout.{chainLinkAt, queueLinkAt, lanesBody, slotsBody, slotAddress}
 use Rattle.model.specs.Rules.{wrongProduct}
@@ -20,7 +21,7 @@ use Rattle.engine_legality.specs.WordSentences.{engineLegal}
 pub record Table (m : List ℕ) (base lane n : ℕ) : Type 0 where
   pub slots : base ≡ slotsBody (sizes m)
   pub lanes : lane ≡ lanesBody (sizes m)
-  pub count : n ≡ sizes m .cabinets * sizes m .places
+  pub count : n ≡ laneCount (sizes m)
   pub few : sizes m .slots ≤ maxSlots
   pub total : base + slotLength * sizes m .slots ≤ length m
   pub engine : engineLegal m ≡ true

@@ -1,6 +1,6 @@
 -- A law for each way out; the lanes lie within the total.
 use borrow.Author.Tests.{not-true, not-false}
-use Rattle.engine_legality.proofs.EngineLaws.{engine-global, engine-cabinets, engine-lanes}
+use Rattle.engine_legality.proofs.EngineLaws.{engine-global, engine-masks, engine-lanes}
 use Rattle.words.proofs.LentLaws.{lent-read}
 use borrow.Author.Needs.{needs}
 use Rattle.engine_legality.proofs.engine_fits.Statement.{statement}
@@ -15,11 +15,11 @@ global-words-fit-requires c κs = search (needs, lent-read)
 returns : tie.Need-returns
 returns c = search (needs, engine-global, not-true)
 
-cabinets-fit-requires : tie.Need-cabinets-fit-requires
-cabinets-fit-requires c κs = search (needs, lent-read)
+masks-fit-requires : tie.Need-masks-fit-requires
+masks-fit-requires c κs = search (needs, lent-read)
 
 returns-2 : tie.Need-returns-2
-returns-2 c = search (needs, engine-cabinets, not-false, not-true)
+returns-2 c = search (needs, engine-masks, not-false, not-true)
 
 lanes-fit-requires : tie.Need-lanes-fit-requires
 lanes-fit-requires c κs = search (needs, lent-read)
@@ -34,7 +34,7 @@ engine-fits-spec =
     read-sizes-requires
     global-words-fit-requires
     returns
-    cabinets-fit-requires
+    masks-fit-requires
     returns-2
     lanes-fit-requires
     returns-3)

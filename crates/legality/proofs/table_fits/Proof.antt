@@ -15,7 +15,7 @@ index-requires : tie.Need-index-requires
 index-requires c κs = search needs
 
 lane-address-requires : tie.Need-lane-address-requires
-lane-address-requires c κs = search needs
+lane-address-requires c κs = search (needs, read-few)
 
 slots-start-requires : tie.Need-slots-start-requires
 slots-start-requires c κs = search (needs, read-few)

@@ -1,56 +1,87 @@
--- The loop's invariant: the cabinets from c on decide. The measure: the cabinets left. A turn takes the first of them, with its bit of the cabinet mask.
-use Prim.Native.Nat.{ℕ, _+_}
-use mathlib.Core.Path.{_≡_, refl, ap, _∙_}
+-- The loop's invariant: the yards from y on decide. The measure: the yards left.
+use Prim.Native.Nat.{ℕ, _+_, _*_}
+use mathlib.Core.Path.{_≡_, ap}
 use native.Mathlib.Omega.{arith}
 use borrow.Author.Tests.{not-true, not-false}
 use Rattle.model.specs.Lists.{all, from}
-use Rattle.model.specs.Layout.{cabinetMaskAt}
-use Rattle.model.specs.Memory.{at, flag, maskWord}
-use Rattle.engine_legality.specs.LaneSentences.{cabinetFits, allCabinets}
-use Rattle.laws.specs.Loops.{all-end}
-use Rattle.engine_legality.proofs.LaneLoops.{cabinets-fails, cabinets-on}
+use Rattle.model.specs.Layout.{masksAt, yardsBody}
+use Rattle.model.specs.Memory.{at}
+use Rattle.engine_legality.specs.LaneSentences.{groupFits, allCabinets}
+use Rattle.words.specs.Lent.{sizesOf}
+use Rattle.laws.specs.Loops.{all-end, all-fails, all-on}
+use Rattle.engine_legality.proofs.LaneLoops.{group-within}
 use borrow.Author.Needs.{needs}
 use Rattle.engine_legality.proofs.globals.cabinets_fit.Statement.{statement}
 use Rattle.engine_legality.proofs.globals.cabinets_fit.Tie as tie
 
 abbrev Inv-loop : tie.InvT-loop
-Inv-loop m z bits c₀ left₀ c left =
-    (c + left ≡ z .cabinets) × (bits ≡ at m cabinetMaskAt)
-    × (all (λ (c : ℕ). cabinetFits (z .places) (maskWord m c) (flag c (at m cabinetMaskAt))) (from c left) ≡ allCabinets m (z .cabinets) (z .places))
+Inv-loop m z yards stride y₀ left₀ y left =
+    (y + left ≡ z .yards)
+    × (all (λ (y : ℕ). groupFits m (at m (yards + y)) (masksAt + z .cabinets * y) (z .cabinets) (z .places)) (from y left)
+    ≡ allCabinets m (z .yards) (z .cabinets) (z .places) (yardsBody (sizesOf z)))
 
 abbrev μ-loop : tie.MeasureT-loop
-μ-loop m z bits c₀ left₀ c left = left
+μ-loop m z yards stride y₀ left₀ y left = left
+
+yards-start-requires : tie.Need-yards-start-requires Inv-loop μ-loop
+yards-start-requires c κs = search needs
+
+cast-stride : tie.Need-cast-stride Inv-loop μ-loop
+cast-stride c = search needs
+
+loop-holds : tie.Need-loop-holds Inv-loop μ-loop
+unfolding allCabinets
+loop-holds c =
+    let at-yards-start : tie.After-yards-start Inv-loop μ-loop = search in
+    let entry : tie.Start Inv-loop μ-loop = search in
+    let z = entry .args .z in
+    (omega arith, ap (allCabinets (entry .args .m .now) (z .yards) (z .cabinets) (z .places)) (at-yards-start .yards-start .ensures))
+
+cast-bits : tie.Need-cast-bits Inv-loop μ-loop
+cast-bits c = search needs
+
+add-bits : tie.Need-add-bits Inv-loop μ-loop
+add-bits c = search needs
+
+mul-bits : tie.Need-mul-bits Inv-loop μ-loop
+mul-bits c = search needs
 
 shared-slice-read-bits : tie.Need-shared-slice-read-bits Inv-loop μ-loop
 shared-slice-read-bits c = search needs
 
-loop-holds : tie.Need-loop-holds Inv-loop μ-loop
-unfolding allCabinets
-loop-holds c = (omega arith, refl, refl)
+cast-first : tie.Need-cast-first Inv-loop μ-loop
+cast-first c = search needs
 
-test-requires : tie.Need-test-requires Inv-loop μ-loop
-test-requires c κs = search needs
+mul-first : tie.Need-mul-first Inv-loop μ-loop
+mul-first c =
+    let at-loop : tie.At-loop Inv-loop μ-loop = search in
+    let entry : tie.Start Inv-loop μ-loop = search in
+    let within = group-within (entry .args .z .yards) (entry .args .z .cabinets) (at-loop .loop .y) (omega arith) in
+    omega (arith, within)
 
-cast-cabinet-fits : tie.Need-cast-cabinet-fits Inv-loop μ-loop
-cast-cabinet-fits c = search needs
+add-first : tie.Need-add-first Inv-loop μ-loop
+add-first c =
+    let at-loop : tie.At-loop Inv-loop μ-loop = search in
+    let entry : tie.Start Inv-loop μ-loop = search in
+    let within = group-within (entry .args .z .yards) (entry .args .z .cabinets) (at-loop .loop .y) (omega arith) in
+    omega (arith, within)
 
-add-cabinet-fits : tie.Need-add-cabinet-fits Inv-loop μ-loop
-add-cabinet-fits c = search needs
-
-mul-cabinet-fits : tie.Need-mul-cabinet-fits Inv-loop μ-loop
-mul-cabinet-fits c = search needs
-
-shared-slice-read-cabinet-fits : tie.Need-shared-slice-read-cabinet-fits Inv-loop μ-loop
-shared-slice-read-cabinet-fits c = search needs
-
-cabinet-fits-requires : tie.Need-cabinet-fits-requires Inv-loop μ-loop
-cabinet-fits-requires c κs = search needs
+group-fits-requires : tie.Need-group-fits-requires Inv-loop μ-loop
+group-fits-requires c κs =
+    let at-loop : tie.At-loop Inv-loop μ-loop = search in
+    let entry : tie.Start Inv-loop μ-loop = search in
+    let within = group-within (entry .args .z .yards) (entry .args .z .cabinets) (at-loop .loop .y) (omega arith) in
+    omega (arith, within)
 
 returns : tie.Need-returns Inv-loop μ-loop
-returns c = search (needs, cabinets-fails, not-true)
+returns c =
+    let at-group-fits : tie.After-group-fits Inv-loop μ-loop = search in
+    let at-loop-test : tie.In-loop Inv-loop μ-loop = search in
+    let at-loop : tie.At-loop Inv-loop μ-loop = search in
+    all-fails _ _ _ _ (at-loop .loop .inv .1) (at-loop-test .loop-test .taken) _ (at-group-fits .group-fits .ensures) (not-true _ (c .if1 .taken))
 
-add-c : tie.Need-add-c Inv-loop μ-loop
-add-c c = search needs
+add-y : tie.Need-add-y Inv-loop μ-loop
+add-y c = search needs
 
 sub-left : tie.Need-sub-left Inv-loop μ-loop
 sub-left c = search needs
@@ -60,15 +91,11 @@ loop-less c = search needs
 
 loop-again : tie.Need-loop-again Inv-loop μ-loop
 loop-again c =
-    let at-cabinet-fits : tie.After-cabinet-fits Inv-loop μ-loop = search in
-    let at-test : tie.After-test Inv-loop μ-loop = search in
+    let at-group-fits : tie.After-group-fits Inv-loop μ-loop = search in
     let at-loop-test : tie.In-loop Inv-loop μ-loop = search in
     let at-loop : tie.At-loop Inv-loop μ-loop = search in
-    let entry : tie.Start Inv-loop μ-loop = search in
-    let i = at-loop .loop .inv in
-    let t = at-test .test .ensures ∙ ap (flag (at-loop .loop .c)) (i .1) in
-    let on = cabinets-on (entry .args .m .now) _ _ _ _ _ (i .2) (at-loop-test .loop-test .taken) _ t _ (at-cabinet-fits .cabinet-fits .ensures) in
-    (omega arith, i .1, on (not-false _ (c .if1 .left)))
+    let on = all-on _ _ _ _ (at-loop .loop .inv .1) (at-loop-test .loop-test .taken) _ (at-group-fits .group-fits .ensures) in
+    (omega arith, on (not-false _ (c .if1 .left)))
 
 returns-2 : tie.Need-returns-2 Inv-loop μ-loop
 returns-2 c = search (needs, all-end)
@@ -79,16 +106,19 @@ cabinets-fit-spec =
     (tie.spec
     Inv-loop
     μ-loop
-    shared-slice-read-bits
+    yards-start-requires
+    cast-stride
     loop-holds
-    test-requires
-    cast-cabinet-fits
-    add-cabinet-fits
-    mul-cabinet-fits
-    shared-slice-read-cabinet-fits
-    cabinet-fits-requires
+    cast-bits
+    add-bits
+    mul-bits
+    shared-slice-read-bits
+    cast-first
+    mul-first
+    add-first
+    group-fits-requires
     returns
-    add-c
+    add-y
     sub-left
     loop-less
     loop-again

@@ -1,27 +1,31 @@
 -- The loop's invariant: the cabinets from c on decide. The measure: the cabinets left.
 use Prim.Native.Nat.{ℕ, _+_, _*_}
-use mathlib.Core.Path.{_≡_, refl}
+use mathlib.Core.Path.{_≡_, refl, ap}
 use native.Mathlib.Omega.{arith}
 use borrow.Author.Tests.{not-true, not-false}
 use Rattle.model.specs.Lists.{all, from}
-use Rattle.model.specs.Layout.{laneLength, lanesBody}
+use Rattle.model.specs.State.{cabinetCount}
+use Rattle.model.specs.Layout.{masksAt, laneLength, lanesBody}
 use Rattle.model.specs.Memory.{maskWord}
 use Rattle.engine_legality.specs.LaneSentences.{cabinetLanes, allLanes}
 use Rattle.words.specs.Lent.{sizesOf}
 use Rattle.laws.specs.Loops.{all-end, all-fails, all-on}
-use Rattle.engine_legality.proofs.LaneLoops.{stride-within, lanes-most}
+use Rattle.engine_legality.proofs.LaneLoops.{lanes-within}
 use borrow.Author.Needs.{needs}
 use Rattle.engine_legality.proofs.lanes.lanes_fit.Statement.{statement}
 use Rattle.engine_legality.proofs.lanes.lanes_fit.Tie as tie
 
 abbrev Inv-loop : tie.InvT-loop
-Inv-loop m z b stride c₀ left₀ c left =
-    (c + left ≡ z .cabinets) × (stride ≡ laneLength * z .places)
-    × (all (λ (c : ℕ). cabinetLanes m (z .slots) (z .places) (lanesBody (sizesOf z) + laneLength * z .places * c) (maskWord m c)) (from c left)
-    ≡ allLanes m (z .slots) (z .cabinets) (z .places) (lanesBody (sizesOf z)))
+Inv-loop m z cabinets b stride c₀ left₀ c left =
+    (c + left ≡ cabinetCount (sizesOf z)) × (stride ≡ laneLength * z .places)
+    × (all (λ (c : ℕ). cabinetLanes m (z .slots) (z .places) (b + laneLength * z .places * c) (maskWord m c)) (from c left)
+    ≡ allLanes m (z .slots) (cabinetCount (sizesOf z)) (z .places) (lanesBody (sizesOf z)))
 
 abbrev μ-loop : tie.MeasureT-loop
-μ-loop m z b stride c₀ left₀ c left = left
+μ-loop m z cabinets b stride c₀ left₀ c left = left
+
+cabinet-count-requires : tie.Need-cabinet-count-requires Inv-loop μ-loop
+cabinet-count-requires c κs = search needs
 
 cast-b : tie.Need-cast-b Inv-loop μ-loop
 cast-b c = search needs
@@ -37,7 +41,12 @@ mul-stride c = search needs
 
 loop-holds : tie.Need-loop-holds Inv-loop μ-loop
 unfolding allLanes
-loop-holds c = (omega arith, refl, refl)
+loop-holds c =
+    let at-cabinet-count : tie.After-cabinet-count Inv-loop μ-loop = search in
+    let entry : tie.Start Inv-loop μ-loop = search in
+    let z = entry .args .z in
+    let whole = ap (λ (n : ℕ). allLanes (entry .args .m .now) (z .slots) n (z .places) (masksAt + n)) (at-cabinet-count .cabinet-count .ensures) in
+    (omega arith, refl, whole)
 
 cast-mask : tie.Need-cast-mask Inv-loop μ-loop
 cast-mask c = search needs
@@ -58,22 +67,22 @@ mul-cabinet-lanes : tie.Need-mul-cabinet-lanes Inv-loop μ-loop
 mul-cabinet-lanes c =
     let at-loop : tie.At-loop Inv-loop μ-loop = search in
     let entry : tie.Start Inv-loop μ-loop = search in
-    let within = stride-within (entry .args .z .cabinets) (entry .args .z .places) (at-loop .loop .c) (omega arith) in
-    omega (arith, within, lanes-most (entry .args .z .cabinets) (entry .args .z .places) (omega arith) (omega arith))
+    let within = lanes-within (cabinetCount (sizesOf (entry .args .z))) (entry .args .z .places) (at-loop .loop .c) (omega arith) in
+    omega (arith, within)
 
 add-cabinet-lanes : tie.Need-add-cabinet-lanes Inv-loop μ-loop
 add-cabinet-lanes c =
     let at-loop : tie.At-loop Inv-loop μ-loop = search in
     let entry : tie.Start Inv-loop μ-loop = search in
-    let within = stride-within (entry .args .z .cabinets) (entry .args .z .places) (at-loop .loop .c) (omega arith) in
-    omega (arith, within, lanes-most (entry .args .z .cabinets) (entry .args .z .places) (omega arith) (omega arith))
+    let within = lanes-within (cabinetCount (sizesOf (entry .args .z))) (entry .args .z .places) (at-loop .loop .c) (omega arith) in
+    omega (arith, within)
 
 cabinet-lanes-requires : tie.Need-cabinet-lanes-requires Inv-loop μ-loop
 cabinet-lanes-requires c κs =
     let at-loop : tie.At-loop Inv-loop μ-loop = search in
     let entry : tie.Start Inv-loop μ-loop = search in
-    let within = stride-within (entry .args .z .cabinets) (entry .args .z .places) (at-loop .loop .c) (omega arith) in
-    omega (arith, within, lanes-most (entry .args .z .cabinets) (entry .args .z .places) (omega arith) (omega arith))
+    let within = lanes-within (cabinetCount (sizesOf (entry .args .z))) (entry .args .z .places) (at-loop .loop .c) (omega arith) in
+    omega (arith, within)
 
 returns : tie.Need-returns Inv-loop μ-loop
 returns c =
@@ -109,6 +118,7 @@ lanes-fit-spec =
     (tie.spec
     Inv-loop
     μ-loop
+    cabinet-count-requires
     cast-b
     add-b
     cast-stride
