@@ -3,9 +3,6 @@
  * one pipe to this process, which lends the memory and makes the calls in the order in
  * which they arrive, one after another. That order is all the agreement there is: no one
  * holds a lock, and a lane's lookup is interleaved step by step with the office's changes.
- * The hall opens on a memory of version 2, on which the C version of version 2 makes the calls.
- * After a third of its time the memory is carried, between two calls and with the hall in full
- * service, and from there on the library makes them: no lane and no office sees a difference.
  * Usage: hall [SECONDS [SEED]]
  *
  * To embed the library in the program of a lane computer, take the function serve: it is
@@ -23,13 +20,10 @@
 #include <time.h>
 #include <unistd.h>
 
-#include "reference_v2.h"
-
 enum { GRACE_SECONDS = 60, CLOSING_ROUNDS = 10 };
 
-static uint32_t old[OLD_WORDS]; /* version 2's, up to the carry */
+
 static uint32_t memory[PT_WORDS(CABINETS, LANES_OF_A_CABINET, SLOTS)];
-static bool carried;
 static uint32_t answer[PT_ANSWER_WORDS];
 static int requests[2];		  /* one pipe for all */
 static int responses[CLIENTS][2]; /* one for each */
@@ -55,23 +49,12 @@ static double now(void)
 /* Makes a call on the lent memory; returns the status. */
 static uint32_t make(const struct call *call)
 {
-	uint32_t status = carried ?
-		call_make(&tested, memory, sizeof memory / sizeof memory[0], answer, PT_ANSWER_WORDS, call) :
-		call_make(&version_2, old, OLD_WORDS, answer, PT_ANSWER_WORDS, call);
+	uint32_t status = call_make(&tested, memory, sizeof memory / sizeof memory[0], answer,
+			PT_ANSWER_WORDS, call);
 
-	history_note(call, answer, carried);
+	history_note(call, answer);
 	calls++;
 	return status;
-}
-
-/* The hall goes on in the second memory. */
-static void carry(void)
-{
-	if (tested.carry(old, OLD_WORDS, memory, sizeof memory / sizeof memory[0], answer, PT_ANSWER_WORDS) != PT_OK) {
-		fprintf(stderr, "hall: the carry is refused with %" PRIu32 "\n", answer[0]);
-		exit(1);
-	}
-	carried = true;
 }
 
 static void respond(uint32_t client, bool closing)
@@ -84,8 +67,8 @@ static void respond(uint32_t client, bool closing)
 		stop("hall: write");
 }
 
-/* Serves until each client has closed its side; at @moment the memory is carried, and after @deadline they are told to. */
-static void serve(double moment, double deadline)
+/* Serves until each client has closed its side; after @deadline they are told to. */
+static void serve(double deadline)
 {
 	struct request request;
 	ssize_t got;
@@ -93,8 +76,6 @@ static void serve(double moment, double deadline)
 	while ((got = read(requests[0], &request, sizeof request)) > 0) {
 		if (got != (ssize_t)sizeof request || request.client >= CLIENTS)
 			stop("hall: a request came in pieces");
-		if (!carried && now() >= moment)
-			carry();
 		make(&request.call);
 		respond(request.client, now() >= deadline);
 	}
@@ -192,7 +173,7 @@ static bool open_hall(double seconds, uint64_t seed)
 	start_clients(seed);
 	signal(SIGALRM, too_late);
 	alarm((unsigned)seconds + GRACE_SECONDS);
-	serve(begun + seconds / 3, begun + seconds);
+	serve(begun + seconds);
 	taken = now() - begun;
 	failed = count_failed();
 	printf("hall: %d lanes and an office, %d x %d x %d: %" PRIu64

@@ -20,8 +20,7 @@ enum {
 	OFFICE = LANES, /* the office's number as a client */
 	CLIENTS,
 	SLOTS = 160,
-	PRODUCTS = 120,
-	OLD_WORDS = 92 + CABINETS + 22 * LANES + 6 * SLOTS /* of the table in version 2 */
+	PRODUCTS = 120
 };
 
 /*
@@ -65,8 +64,7 @@ void office_serve(struct client *client);
 
 /* ---- history.c: the calls in their order, and the ledger's verdict on them */
 
-/* A call and its answer; @carried: on the second memory, by the library. */
-void history_note(const struct call *call, const uint32_t *answer, bool carried);
+void history_note(const struct call *call, const uint32_t *answer);
 
 /* Prints what happened; returns whether there was no fault. */
 bool history_judge(void);
