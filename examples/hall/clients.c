@@ -198,7 +198,7 @@ static uint32_t change(struct client *office, enum call_name name, uint64_t code
 	uint32_t status;
 
 	do
-		status = ask(office, name, draw(office, LANES), code, deposit, material);
+		status = ask(office, name, draw(office, office->lanes), code, deposit, material);
 	while (status == PT_OFFLINE);
 	return status;
 }

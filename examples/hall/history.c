@@ -27,12 +27,11 @@ struct event {
 	uint32_t answer[PT_ANSWER_WORDS];
 };
 
-enum { WORDS = PT_WORDS(CABINETS, LANES_OF_A_CABINET, SLOTS) };
-
 static struct event *events;
 static size_t length, room;
 static struct ledger ledger;
-static uint32_t memory[WORDS], before[WORDS]; /* the C version's, and as it was before the call */
+static size_t words;
+static uint32_t memory[MOST_WORDS], before[MOST_WORDS]; /* the C version's, and as it was before the call */
 
 void history_note(const struct call *call, const uint32_t *answer)
 {
@@ -95,8 +94,8 @@ static const char *judge_event(const struct event *event)
 {
 	uint32_t answer[PT_ANSWER_WORDS];
 
-	memcpy(before, memory, sizeof before);
-	call_make(&reference, memory, WORDS, answer, PT_ANSWER_WORDS, &event->call);
+	memcpy(before, memory, words * sizeof before[0]);
+	call_make(&reference, memory, words, answer, PT_ANSWER_WORDS, &event->call);
 	if (memcmp(answer, event->answer, sizeof answer) != 0)
 		return "the C version answers otherwise";
 	return ledger_judge(&ledger, &event->call, event->answer, before, memory);
@@ -126,12 +125,13 @@ static bool all_back(const struct tally *tally)
 		tally->moved[CALL_CLOCK] + tally->moved[CALL_OFF] == tally->accepted[CALL_HAND_BACK];
 }
 
-bool history_judge(void)
+bool history_judge(const struct site *site)
 {
 	struct tally tally = { .refused = 0 };
 	uint32_t generation = 1;
 	const char *fault = NULL;
 
+	words = site_words(site);
 	ledger_reset(&ledger);
 	for (size_t n = 0; n < length && fault == NULL; n++) {
 		tally.taken_back += takes_back(&events[n]) ? 1 : 0;
