@@ -231,14 +231,14 @@ static void print_tree(void)
 	CHECK(ref_add(LENT, 0, CODE, 0, 0) == PT_OK);
 	CHECK(ref_delete(LENT, 0, CODE) == PT_OK);
 	CHECK(ref_clock(LENT, 0) == PT_OK);
-	print_moment("A grace period begins: the bits of all online lanes, of their cabinets and their yards are set.");
+	print_moment("A grace period begins: the bits of all online lanes, of their cabinets and of their yards are set.");
 	clear(first, sizeof first / sizeof first[0]);
 	pass(OF_YARD_0);
-	print_moment("Clocks have cleared most lanes' bits. Of yard 0 lane 4 alone is pending; it has passed.");
+	print_moment("Clocks clear lanes' bits: of yard 0 lane 4 alone is pending now, and it has passed.");
 	CHECK(ref_clock(LENT, OF_YARD_0) == PT_OK);
-	print_moment("Lane 4's clock: its cabinet's last bit goes, so the cabinet's goes, and so the yard's.");
+	print_moment("Lane 4's clock clears upward: its cabinet's last bit goes, so the cabinet's goes, and so the yard's.");
 	clear(then, sizeof then / sizeof then[0]);
-	print_moment("Lanes 8, 11 and then 9 have followed: the yard mask is 0, and the grace period ends.");
+	print_moment("The last clock ends the grace period: lanes 8, 11 and then 9 have followed, and the yard mask is 0.");
 }
 
 int main(int arguments, char **argument)
