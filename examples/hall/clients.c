@@ -1,5 +1,5 @@
 /*
- * clients.c - a lane and the office of the hall, each a process of its own. They know
+ * clients.c - a lane and an office of the hall, each a process of its own. They know
  * nothing of the memory: they ask for calls and get five words back. The labels of products
  * they write and read themselves, which takes no memory. No one holds a lock.
  * Between two steps of a lane's lookup any number of other calls may come.
@@ -186,7 +186,7 @@ void lane_serve(struct client *lane)
 	}
 }
 
-/* ---- the office */
+/* ---- an office */
 
 enum { TEN = 10 };
 

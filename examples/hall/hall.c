@@ -1,8 +1,8 @@
 /*
- * hall.c - the lanes of a site and its office. Each is a process; they send their calls over
+ * hall.c - the lanes of a site and an office in each yard. Each is a process; they send their calls over
  * one pipe to this process, which lends the memory and makes the calls in the order in
  * which they arrive, one after another. That order is all the agreement there is: no one
- * holds a lock, and a lane's lookup is interleaved step by step with the office's changes.
+ * holds a lock, and a lane's lookup is interleaved step by step with the offices' changes.
  * Usage: hall [full] [SECONDS [SEED]]   full: eight yards of eight cabinets of eight lanes
  *
  * To embed the library in the program of a lane computer, take the function serve: it is
@@ -116,10 +116,10 @@ static void become_client(uint32_t number, uint64_t seed)
 	close(requests[0]);
 	for (uint32_t n = 0; n <= number; n++)
 		close(responses[n][1]);
-	if (number == client.lanes)
-		office_serve(&client);
-	else
+	if (number < client.lanes)
 		lane_serve(&client);
+	else
+		office_serve(&client);
 	exit(0);
 }
 
@@ -127,9 +127,9 @@ static void become_client(uint32_t number, uint64_t seed)
 static void too_many(const char *what, uint32_t client)
 {
 	perror(what);
-	fprintf(stderr, "hall: %" PRIu32 " lanes and an office are as many processes, each with a pipe; number %" PRIu32
+	fprintf(stderr, "hall: %" PRIu32 " lanes and %" PRIu32 " offices are as many processes, each with a pipe; number %" PRIu32
 		" is one too many here (ulimit -u, ulimit -n)\n",
-		site_lanes(site), client + 1);
+		site_lanes(site), site->yards, client + 1);
 	end_clients();
 	exit(1);
 }
@@ -207,9 +207,9 @@ static bool open_hall(double seconds, uint64_t seed)
 	serve(begun + seconds);
 	taken = now() - begun;
 	failed = count_failed();
-	printf("hall: %" PRIu32 " lanes and an office, %" PRIu32 " x %" PRIu32 " x %" PRIu32 " x %" PRIu32 ": %" PRIu64
+	printf("hall: %" PRIu32 " lanes and %" PRIu32 " offices, %" PRIu32 " x %" PRIu32 " x %" PRIu32 " x %" PRIu32 ": %" PRIu64
 		" calls in %.1f s, %.0f a second\n",
-		site_lanes(site), site->yards, site->cabinets, site->lanes, site->slots, calls, taken, (double)calls / taken);
+		site_lanes(site), site->yards, site->yards, site->cabinets, site->lanes, site->slots, calls, taken, (double)calls / taken);
 	if (failed > 0)
 		printf("hall: %" PRIu32 " of %" PRIu32 " processes failed\n", failed, site_clients(site));
 	return failed == 0;

@@ -1,6 +1,6 @@
 /*
  * hall.h - what the programs of the hall share: a site's sizes, the products, and how a
- * lane or the office asks the process that lends the memory for a call.
+ * lane or an office asks the process that lends the memory for a call.
  */
 #ifndef HALL_H
 #define HALL_H
@@ -24,13 +24,13 @@ struct site {
 /* The most that a site has. */
 enum {
 	MOST_LANES = PT_MAX_YARDS * PT_MAX_CABINETS * PT_MAX_LANES,
-	MOST_CLIENTS = MOST_LANES + 1, /* the office is one */
+	MOST_CLIENTS = MOST_LANES + PT_MAX_YARDS, /* each yard has an office */
 	MOST_WORDS = PT_WORDS(PT_MAX_YARDS, PT_MAX_CABINETS, PT_MAX_LANES, PT_MAX_SLOTS)
 };
 
 enum { PRODUCTS = 120 };
 
-/* The lanes of all cabinets; the number is the office's as a client. */
+/* The lanes of all cabinets; as clients they come first, and the offices after them. */
 static inline uint32_t site_lanes(const struct site *site)
 {
 	return site->yards * site->cabinets * site->lanes;
@@ -38,7 +38,7 @@ static inline uint32_t site_lanes(const struct site *site)
 
 static inline uint32_t site_clients(const struct site *site)
 {
-	return site_lanes(site) + 1;
+	return site_lanes(site) + site->yards;
 }
 
 static inline size_t site_words(const struct site *site)
@@ -81,7 +81,7 @@ struct client {
 	uint32_t answer[PT_ANSWER_WORDS];
 };
 
-/* ---- clients.c: what a lane and the office do until the hall closes */
+/* ---- clients.c: what a lane and an office do until the hall closes */
 
 void lane_serve(struct client *client);
 void office_serve(struct client *client);

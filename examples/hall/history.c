@@ -6,7 +6,7 @@
  * before the sections that were open at its removal had ended. A lookup that was dropped,
  * since the customer took the bottle back, had no answer and held nothing up. Every other one
  * was answered by step n + 1 of its lane, n being the records on the chain when it started,
- * whatever the office and the other lanes did meanwhile; some took as many. After every call
+ * whatever the offices and the other lanes did meanwhile; some took as many. After every call
  * the fourth numbers of all clocks, which a display may add up, and the slots that offs
  * brought to the global done queue are the slots in done queues and those handed back.
  *
