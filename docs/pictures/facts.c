@@ -10,6 +10,7 @@
 
 #include "calls.h"
 #include "line.h"
+#include "reference.h"
 #include "table.h"
 #include "lent.h"
 
