@@ -34,13 +34,16 @@ static uint32_t pick(uint32_t below)
 /* A table of random sizes after random calls; its total. */
 static uint32_t build(void)
 {
-	const struct list list = {
-		1 + pick(MOST_OF_A_SIZE), 1 + pick(MOST_OF_A_SIZE), 1 + pick(MOST_OF_A_SIZE),
-		1 + pick(pick(8) == 0 ? MANY_SLOTS : FEW_SLOTS), 16, 0, 1
+	const struct sizes sizes = {
+		.yards = 1 + pick(MOST_OF_A_SIZE),
+		.cabinets = 1 + pick(MOST_OF_A_SIZE),
+		.lanes = 1 + pick(MOST_OF_A_SIZE),
+		.slots = 1 + pick(pick(8) == 0 ? MANY_SLOTS : FEW_SLOTS)
 	};
-	struct call call = { CALL_SETUP, { list.yards, list.cabinets, list.lanes, list.slots } };
+	const struct list list = { .sizes = sizes, .codes = 16, .generation = 1 };
+	struct call call = { CALL_SETUP, { sizes.yards, sizes.cabinets, sizes.lanes, sizes.slots } };
 	uint32_t answer[PT_ANSWER_WORDS];
-	uint32_t total = (uint32_t)PT_WORDS(list.yards, list.cabinets, list.lanes, list.slots);
+	uint32_t total = layout_of(sizes).total;
 
 	memset(memory, 0, sizeof(memory));
 	for (int n = 0; n < CALLS_OF_A_TABLE; n++) {
