@@ -178,9 +178,9 @@ static void test_not_legal(void)
 	LENT_PLAY(&lent, steps);
 	/* A table that was legal, lent one word short. */
 	lent_expect(&lent, "setup 1 1 2 3", "0 175 0 0 0");
-	lent.words = 170;
+	lent.words = 174;
 	LENT_PLAY(&lent, steps);
-	lent.words = 171;
+	lent.words = 175;
 	lent_expect(&lent, "begin 0", "0 0 0 0 0");
 }
 
@@ -658,7 +658,7 @@ static void test_count_words(uint32_t kind)
 
 	lent_start(&lent);
 	lent_expect(&lent, "setup 1 1 2 2", "0 169 0 0 0");
-	lane = lent.memory + 93 + 30;
+	lane = lent.memory + 96 + 30;
 	lane[1 + 2 * kind] = 4294967295u;
 	lane[2 + 2 * kind] = 6;
 	CHECK(lent_make(&lent, &pass) == 0 && lane[1 + 2 * kind] == 0 && lane[2 + 2 * kind] == 7);
@@ -1007,33 +1007,33 @@ static void test_lengths_of_both(void)
 
 	lent_start(&lent);
 	LENT_PLAY(&lent, waiting);
-	check_queue(79, 3, 7, 5);  /* free */
-	check_empty(82);	   /* global next, current and done */
-	check_queue(85, 1, 1, 1);
+	check_queue(82, 3, 7, 5);  /* free */
+	check_empty(85);	   /* global next, current and done */
+	check_queue(88, 1, 1, 1);
+	check_empty(91);
+	check_queue(114, 0, 0, 1); /* lane 0's */
+	check_empty(117);
+	check_empty(120);
+	check_empty(144);	   /* lane 1's */
+	check_queue(147, 2, 2, 1);
+	check_empty(150);
+	LENT_PLAY(&lent, done);
+	check_empty(85);
 	check_empty(88);
-	check_queue(111, 0, 0, 1); /* lane 0's */
+	check_queue(91, 1, 1, 1);
 	check_empty(114);
 	check_empty(117);
-	check_empty(141);	   /* lane 1's */
-	check_queue(144, 2, 2, 1);
-	check_empty(147);
-	LENT_PLAY(&lent, done);
-	check_empty(82);
-	check_empty(85);
-	check_queue(88, 1, 1, 1);
-	check_empty(111);
-	check_empty(114);
-	check_queue(117, 0, 0, 1);
-	check_empty(141);
+	check_queue(120, 0, 0, 1);
 	check_empty(144);
-	check_queue(147, 2, 2, 1);
-	for (uint32_t address = 171; address <= 177; address += 3) /* lane 2's, which is off */
+	check_empty(147);
+	check_queue(150, 2, 2, 1);
+	for (uint32_t address = 174; address <= 180; address += 3) /* lane 2's, which is off */
 		check_empty(address);
 	LENT_PLAY(&lent, reclaimed);
-	check_queue(79, 3, 2, 8);
-	check_empty(88);
-	check_empty(117);
-	check_empty(147);
+	check_queue(82, 3, 2, 8);
+	check_empty(91);
+	check_empty(120);
+	check_empty(150);
 }
 
 /* A clock says what it moved, and not what is done; the queue has the sum, in the order. */
@@ -1054,11 +1054,11 @@ static void test_lengths_joined(void)
 
 	lent_start(&lent);
 	LENT_PLAY(&lent, steps);
-	check_queue(79, 3, 7, 5);
-	check_queue(117, 0, 2, 3);
+	check_queue(82, 3, 7, 5);
+	check_queue(120, 0, 2, 3);
 	LENT_PLAY(&lent, reclaimed);
-	check_queue(79, 3, 2, 8);
-	check_empty(117);
+	check_queue(82, 3, 2, 8);
+	check_empty(120);
 }
 
 /* An off joins three queues to the global next one, and one to the global done one. */
@@ -1078,10 +1078,10 @@ static void test_lengths_off(void)
 
 	lent_start(&lent);
 	LENT_PLAY(&lent, steps);
-	check_queue(82, 1, 3, 3);
-	check_queue(85, 0, 0, 1);
-	check_empty(88);
-	CHECK(lent.memory[91] == 1); /* the generation of the global current queue */
+	check_queue(85, 1, 3, 3);
+	check_queue(88, 0, 0, 1);
+	check_empty(91);
+	CHECK(lent.memory[94] == 1); /* the generation of the global current queue */
 }
 
 /* The last lane awaited goes off: slots come to the global done queue, and are not answered. */
@@ -1096,8 +1096,8 @@ static void test_lengths_off_ends(void)
 
 	lent_start(&lent);
 	LENT_PLAY(&lent, steps);
-	check_empty(85);
-	check_queue(88, 0, 0, 1);
+	check_empty(88);
+	check_queue(91, 0, 0, 1);
 	lent_expect(&lent, "clock 0", "0 2 1 0 0");
 	lent_expect(&lent, "back 0", "0 0 0 0 0");
 }
@@ -1167,9 +1167,9 @@ static void test_words_past_total(void)
 	};
 
 	for (uint32_t fill = 0; fill < 3; fill++)
-		for (size_t words = 171; words < 176; words++) {
+		for (size_t words = 175; words < 180; words++) {
 			lent_start(&lent);
-			for (size_t n = 171; n < LENT_WORDS; n++)
+			for (size_t n = 175; n < LENT_WORDS; n++)
 				lent.memory[n] = fill == 0 ? 0 : fill == 1 ? 1 : PT_NONE;
 			lent.words = words;
 			LENT_PLAY(&lent, steps);
