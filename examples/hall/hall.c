@@ -1,9 +1,11 @@
 /*
- * hall.c - the lanes of a site and an office in each yard. Each is a process; they send their calls over
- * one pipe to this process, which lends the memory and makes the calls in the order in
- * which they arrive, one after another. That order is all the agreement there is: no one
- * holds a lock, and a lane's lookup is interleaved step by step with the offices' changes.
- * Usage: hall [full] [SECONDS [SEED]]   full: eight yards of eight cabinets of eight lanes
+ * hall.c - the lanes of a site and an office in each yard. Each is a process; they send
+ * their calls over one pipe to this process, which lends the memory and makes the calls in
+ * the order in which they arrive, one after another. That order is all the agreement there
+ * is: no one holds a lock, and a lane's lookup is interleaved step by step with the offices'
+ * changes. The site has two yards and 64 lanes, or as many as a table can have: eight yards
+ * of eight cabinets of eight lanes, 512.
+ * Usage: hall [full] [SECONDS [SEED]]
  *
  * To embed the library in the program of a lane computer, take the function serve: it is
  * the only place that makes calls on the memory, and the memory and the answer are its own.
@@ -23,7 +25,7 @@
 
 enum { SECONDS = 5, GRACE_SECONDS = 60, CLOSING_ROUNDS = 10 };
 
-/* Two yards, of which every machine has the processes, and the most that a table has. */
+/* Two yards, for which any machine has the processes, and the most that a table can have. */
 static const struct site two_yards = { .yards = 2, .cabinets = 4, .lanes = 8, .slots = 160 };
 static const struct site full = {
 	.yards = PT_MAX_YARDS, .cabinets = PT_MAX_CABINETS, .lanes = PT_MAX_LANES, .slots = PT_MAX_SLOTS
