@@ -11,11 +11,13 @@
 #include <string.h>
 
 #include "draw.h"
+#include "layout.h"
 #include "reference.h"
 
 extern bool pt_legal(const uint32_t *memory, size_t words);
 
-enum { WORDS = 1200, TRIES = 1000000, CALLS_OF_A_TABLE = 400, LONGEST = 200 };
+enum { MOST_OF_A_SIZE = 3, FEW_SLOTS = 12, MANY_SLOTS = 100, TOTAL = PT_WORDS(MOST_OF_A_SIZE, MOST_OF_A_SIZE, MOST_OF_A_SIZE, MANY_SLOTS), PAST = 2 };
+enum { WORDS = TOTAL + PAST, TRIES = 1000000, CALLS_OF_A_TABLE = 400, LONGEST = 200 };
 
 static uint32_t memory[WORDS];
 static uint32_t damaged[WORDS];
@@ -32,10 +34,16 @@ static uint32_t pick(uint32_t below)
 /* A table of random sizes after random calls; its total. */
 static uint32_t build(void)
 {
-	const struct list list = { 1 + pick(4), 1 + pick(4), 1 + pick(pick(8) == 0 ? 100 : 12), 16, 0, 1 };
-	struct call call = { CALL_SETUP, { list.cabinets, list.lanes, list.slots } };
+	const struct sizes sizes = {
+		.yards = 1 + pick(MOST_OF_A_SIZE),
+		.cabinets = 1 + pick(MOST_OF_A_SIZE),
+		.lanes = 1 + pick(MOST_OF_A_SIZE),
+		.slots = 1 + pick(pick(8) == 0 ? MANY_SLOTS : FEW_SLOTS)
+	};
+	const struct list list = { .sizes = sizes, .codes = 16, .generation = 1 };
+	struct call call = { CALL_SETUP, { sizes.yards, sizes.cabinets, sizes.lanes, sizes.slots } };
 	uint32_t answer[PT_ANSWER_WORDS];
-	uint32_t total = (uint32_t)PT_WORDS(list.cabinets, list.lanes, list.slots);
+	uint32_t total = layout_of(sizes).total;
 
 	memset(memory, 0, sizeof(memory));
 	for (int n = 0; n < CALLS_OF_A_TABLE; n++) {
@@ -92,14 +100,14 @@ int main(void)
 			total = build();
 		memcpy(damaged, memory, sizeof(memory));
 		if (n % 10 == 9) { /* words of no meaning behind good contents */
-			for (words = 12; words < total; words++)
+			for (words = CONTENTS_WORDS; words < total; words++)
 				if (pick(2) == 0)
 					damage_at((uint32_t)words, total);
 		} else if (n % 10 != 0) {
 			while (changes-- > 0)
 				damage_at(pick(total), total);
 		}
-		compare(n % 97 == 0 ? total - pick(3) : total + pick(3));
+		compare(n % 97 == 0 ? total - pick(PAST + 1) : total + pick(PAST + 1));
 	}
 	for (n = 0; n < 50; n++)
 		for (words = 0; words <= LONGEST; words++) {
@@ -107,7 +115,7 @@ int main(void)
 				total = build();
 			memcpy(damaged, memory, sizeof(memory));
 			if (n % 2 == 1)
-				damage_at(pick(16), total);
+				damage_at(pick(CONTENTS_WORDS + PAST), total);
 			compare(words);
 		}
 	printf("damage: %lu memories, %lu of them legal, all decided alike\n", compared, legal_count);

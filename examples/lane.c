@@ -12,13 +12,13 @@
 
 #include "product_table.h"
 
-enum { CABINETS = 1, LANES = 2, SLOTS = 16 };
+enum { YARDS = 1, CABINETS = 1, LANES = 2, SLOTS = 16 };
 
 #define CODE  UINT64_C(4006381333931)
 #define LABEL "4006381333931" /* what stands on the bottle */
 
 /* The memory is yours: the library keeps nothing between calls. */
-static uint32_t memory[PT_WORDS(CABINETS, LANES, SLOTS)];
+static uint32_t memory[PT_WORDS(YARDS, CABINETS, LANES, SLOTS)];
 static uint32_t answer[PT_ANSWER_WORDS];
 
 #define LENT memory, sizeof memory / sizeof memory[0], answer, PT_ANSWER_WORDS
@@ -78,7 +78,7 @@ static void pass_and_clock(uint32_t lane)
 int main(void)
 {
 	say("The table is set up, once, and the office enters a product by lane 0.");
-	expect("setup: the words that it takes", pt_setup(LENT, CABINETS, LANES, SLOTS), PT_OK);
+	expect("setup: the words that it takes", pt_setup(LENT, YARDS, CABINETS, LANES, SLOTS), PT_OK);
 	expect("add: the slot", pt_add(LENT, 0, CODE, 25, PT_MAX_MATERIAL), PT_OK);
 
 	say("Lane 1 reads. What it finds stays as it is until its section ends.");

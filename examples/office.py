@@ -81,10 +81,10 @@ class ProductTable:
     """A table in a memory of this script. `table("add", lane, label, deposit, material)` makes a call: where it takes a
     code, the text of a label is read, or a number is taken."""
 
-    def __init__(self, library, cabinets, lanes, slots):
+    def __init__(self, library, yards, cabinets, lanes, slots):
         self.library = library
         self.memory = (ctypes.c_uint32 * PLENTY)()
-        total = self("setup", cabinets, lanes, slots)[0]
+        total = self("setup", yards, cabinets, lanes, slots)[0]
         self.memory = (ctypes.c_uint32 * total)(*self.memory[:total])
 
     def __call__(self, call, *arguments):
@@ -158,7 +158,7 @@ LABELS = [label for label, _, _ in PRODUCTS]
 
 def main(path):
     library = Library(path)
-    table = ProductTable(library, cabinets=1, lanes=LANES, slots=8)
+    table = ProductTable(library, yards=1, cabinets=1, lanes=LANES, slots=8)
 
     print("The office enters its products by their labels; a mistake is refused by name, and changes nothing.")
     for product in PRODUCTS:

@@ -1,60 +1,63 @@
 /*
  * product_table.h - a product table in lent memory, reclaimed by grace periods.
  *
- * A hall counts returned bottles on lanes, and lanes stand in cabinets. The table
- * keeps one record (code, deposit, material) in a slot, on the chain of its code. A
- * lane looks a code up one step a call inside a read-side section, while records
- * are added, replaced and deleted. The slot of a record that was replaced or
- * deleted is retired: it leaves its chain at once, and waits in a queue until a
- * grace period that began after its removal has ended, that is, until each online
- * lane has reported a quiescent state. Then pt_hand_back() reclaims it. Grace
+ * A hall counts returned bottles on lanes; lanes stand in cabinets, and cabinets in
+ * yards. The table keeps one record (code, deposit, material) in a slot, on the chain
+ * of its code. A lane looks a code up one step a call inside a read-side section,
+ * while records are added, replaced and deleted. The slot of a record that was
+ * replaced or deleted is retired: it leaves its chain at once, and waits in a queue
+ * until a grace period that began after its removal has ended, that is, until each
+ * online lane has reported a quiescent state. Then pt_hand_back() reclaims it. Grace
  * periods are numbered by generation, and pt_clock() drives them.
  *
  * Memory. All state lies in 32-bit words that the caller lends to each call;
- * nothing is allocated and no pointer is kept. A table of C cabinets, M lanes per
- * cabinet and S slots takes PT_WORDS(C, M, S) words, the total: 8,164 at full size.
- * More may be lent; words past the total are neither read nor written. "none" is
- * PT_NONE. In this order, without gaps:
- *   contents  12 words: version PT_VERSION, C, M, S, first word and length of each
- *             body below;
+ * nothing is allocated and no pointer is kept. A table of Y yards, C cabinets per
+ * yard, M lanes per cabinet and S slots takes PT_WORDS(Y, C, M, S) words, the total:
+ * 8,168 for one yard at full size, and 21,671 for eight. More may be lent; words past
+ * the total are neither read nor written. "none" is PT_NONE. In this order, without
+ * gaps:
+ *   contents  15 words: version PT_VERSION, C, M, S, first word and length of each of
+ *             the five bodies below, Y;
  *   global    80 words: current generation, largest generation requested, mask of
- *             pending cabinets, 64 chain heads, first, last and length of the free,
+ *             pending yards, 64 chain heads, first, last and length of the free,
  *             next, current and done queues, generation of the current queue;
- *   cabinets  1 word each: mask of pending lanes, bit p for place p;
+ *   cabinets  1 word each, those of a yard together: mask of pending lanes, bit p for
+ *             place p;
  *   lanes     30 words each: flags (bit 0 online, 1 in a read-side section, 2 lookup
  *             running, 3 snapshot held), 4 quiescent counts and 4 snapshot counts (low
  *             word, high word each), generation of the current queue, first, last and
  *             length of the next, current and done queues, code of the lookup (low word,
  *             high word), position;
  *   slots     6 words each: code (low word, high word), deposit, material, chain
- *             link, queue link.
- * The number of a lane is cabinet * M + place. An empty queue has first and last none
- * and length 0.
+ *             link, queue link;
+ *   yards     1 word each: mask of pending cabinets, bit c for cabinet c of the yard.
+ * Yards, the cabinets of a yard and the places of a cabinet are counted from 0. The
+ * number of a lane is (yard * C + cabinet) * M + place, below Y * C * M, which is at most
+ * 512; its record stands at that number in the lanes, and its cabinet's word at
+ * yard * C + cabinet in the cabinets. A yard's bit stands while one of its cabinets'
+ * bits stands, and a cabinet's while one of its lanes' does: a grace period runs while
+ * the mask of pending yards is not 0. An empty queue has first and last none and
+ * length 0.
  *
- * Version. A table of version 2 has counts of 32 bits, one of version 1 has no lengths
- * either. A table of any other version is refused with PT_NOT_LEGAL, 3, by every call on
- * it but pt_setup(), and stays as it was. To move on from version 2 in service, with
- * sections open, lookups halfway and a grace period running, pt_carry() writes the table
- * into a second memory. To move on from version 1, set up a fresh table, in PT_WORDS
- * words, which are more than before, and let the office enter its records again.
+ * Version. A table of another version is refused with PT_NOT_LEGAL, 3, by every call on
+ * it but pt_setup(), and stays as it was. To move on from an earlier version, set up a
+ * fresh table, in PT_WORDS words, and let the office enter its records again.
  *
  * Words. A word is a uint32_t of the machine, in its own byte order; the low word of a
- * code or of a count comes first on every machine. No word is a pointer: between two calls a memory
- * may be copied, sent or kept in a file, and the copy goes on from there. For a machine
- * of the other byte order the four bytes of each word are swapped.
+ * code or of a count comes first on every machine. No word is a pointer: between two
+ * calls a memory may be copied, sent or kept in a file, and the copy goes on from there.
+ * For a machine of the other byte order the four bytes of each word are swapped.
  *
  * Legal. A memory is legal when its contents agree with its sizes and its length,
  * every word is in range or at its rest value, each slot stands in exactly one chain
  * or queue, each length is the number of slots in its queue, and flags, masks and
- * generations agree with each other. pt_setup() makes a legal memory of any words, as
- * pt_carry() does, and every call keeps it legal. A damaged memory is refused by all other calls on it, and
+ * generations agree with each other. pt_setup() makes a legal memory of any words, and
+ * every call keeps it legal. A damaged memory is refused by all other calls on it, and
  * never followed out of its bounds.
  *
  * Sections. What pt_begin(), pt_step() and pt_hand_back() promise about sections,
  * pt_step() about the number of steps and pt_clock() about the sum of its numbers holds
- * as long as nothing but these calls has written the memory since its set-up; of a
- * carried memory that is the set-up of the old one, and what was made on the old one
- * before the carry counts. Legality
+ * as long as nothing but these calls has written the memory since its set-up. Legality
  * alone does not give it: other writes can make a legal memory in which a slot that an
  * open section still reads is done, or in which the links that retired slots kept lead
  * a lookup round and round.
@@ -82,7 +85,7 @@
  * code into a text. A text is bytes with a length: there is no closing NUL, none is
  * read and none is written. Both take no memory.
  *
- * What the caller owes: @memory, @old, @text and @answer do not overlap; each points to as
+ * What the caller owes: @memory, @text and @answer do not overlap; each points to as
  * many words or bytes as its length says, words aligned as a uint32_t; a length of 0 is
  * allowed, with any pointer that C allows for it. Calls on one memory are made one
  * after another: there are no locks here, and no memory barriers. Nothing but a wrong
@@ -129,7 +132,6 @@ extern "C" {
 #define PT_NOTHING_DONE   16u /* hand_back: both done queues are empty */
 #define PT_WRONG_DIGIT    17u /* add, replace: the code's check digit is wrong */
 #define PT_WRONG_LABEL    18u /* label_read: no label; label_write: the text is too short */
-#define PT_SHORT_SECOND   19u /* carry: the second memory is below the total */
 #define PT_SHORT_ANSWER   4294967295u /* fewer than five answer words were lent */
 
 /* No slot, no lane: the rest value of links, ends of queues and positions. */
@@ -153,7 +155,8 @@ extern "C" {
 #define PT_CHAINS         64u
 
 /* Limits; each is the largest value allowed. */
-#define PT_MAX_CABINETS   8u
+#define PT_MAX_YARDS      8u
+#define PT_MAX_CABINETS   8u /* in each yard */
 #define PT_MAX_LANES      8u /* in each cabinet */
 #define PT_MAX_SLOTS      1024u
 #define PT_MAX_CODE       UINT64_C(99999999999999)
@@ -166,14 +169,13 @@ extern "C" {
 #define PT_LABEL_13       13u
 #define PT_LABEL_14       14u
 
-/* The version of the memory, its first word, and that of the memory that pt_carry() takes. */
-#define PT_VERSION        3u
-#define PT_OLD_VERSION    2u
+/* The version of the memory, its first word. */
+#define PT_VERSION        4u
 
 /* The total: how many words a table of these sizes takes. */
-#define PT_WORDS(cabinets, lanes, slots) \
-	((size_t)92 + (size_t)(cabinets) + \
-	 (size_t)30 * (size_t)(cabinets) * (size_t)(lanes) + \
+#define PT_WORDS(yards, cabinets, lanes, slots) \
+	((size_t)95 + (size_t)(yards) + (size_t)(yards) * (size_t)(cabinets) + \
+	 (size_t)30 * (size_t)(yards) * (size_t)(cabinets) * (size_t)(lanes) + \
 	 (size_t)6 * (size_t)(slots))
 
 /*
@@ -182,12 +184,13 @@ extern "C" {
  * @words: the length of @memory, in words.
  * @answer: the words that take the answer.
  * @answer_words: the length of @answer, in words.
- * @cabinets: the number of cabinets, from 1 to PT_MAX_CABINETS.
+ * @yards: the number of yards, from 1 to PT_MAX_YARDS.
+ * @cabinets: the number of cabinets in each yard, from 1 to PT_MAX_CABINETS.
  * @lanes: the number of lanes in each cabinet, from 1 to PT_MAX_LANES.
  * @slots: the number of slots, from 1 to PT_MAX_SLOTS.
  *
  * Return PT_OK, and the answer PT_OK, total, 0, 0, 0 with the total
- * PT_WORDS(@cabinets, @lanes, @slots), or a refusal, tested in this order:
+ * PT_WORDS(@yards, @cabinets, @lanes, @slots), or a refusal, tested in this order:
  *   PT_SHORT_ANSWER: @answer_words is below PT_ANSWER_WORDS;
  *   PT_BAD_SIZE: a size is out of range;
  *   PT_SHORT_MEMORY: @words is below the total.
@@ -199,7 +202,7 @@ extern "C" {
 extern
 uint32_t pt_setup(uint32_t *memory, size_t words,
 		uint32_t *answer, size_t answer_words,
-		uint32_t cabinets, uint32_t lanes, uint32_t slots);
+		uint32_t yards, uint32_t cabinets, uint32_t lanes, uint32_t slots);
 
 /*
  * pt_add - enter a record for a code that has none.
@@ -547,42 +550,6 @@ uint32_t pt_hand_back(uint32_t *memory, size_t words,
  */
 extern
 uint32_t pt_awaited(uint32_t *memory, size_t words,
-		uint32_t *answer, size_t answer_words);
-
-/*
- * pt_carry - carry a table of version 2 into a second memory, in service.
- * @old: the memory of the table of version 2; it is only read.
- * @old_words: the length of @old, in words.
- * @memory: the second memory; what its words hold does not matter.
- * @words: the length of @memory, in words.
- * @answer: the words that take the answer.
- * @answer_words: the length of @answer, in words.
- *
- * Return PT_OK, and the answer PT_OK, total, 0, 0, 0 with the total
- * PT_WORDS(cabinets, lanes, slots) of the table's sizes, or a refusal, tested in this
- * order:
- *   PT_SHORT_ANSWER: @answer_words is below PT_ANSWER_WORDS;
- *   PT_NOT_LEGAL: @old is not legal as a memory of version PT_OLD_VERSION;
- *   PT_SHORT_SECOND: @words is below the total.
- * On success the first total words of @memory are written: the same table in version
- * PT_VERSION, with the sections that are open, the lookups where they stand, the grace
- * period that runs, snapshots and every queue. Counts and snapshots are as they were,
- * with high word 0, and none is mended. Words of @memory past the total stay, and so do
- * all words of @old. A refusal changes no word.
- *
- * When to carry. Between any two calls on the old memory: nothing has to end before.
- * From there on the hall makes its calls on @memory, which answers each of them, but
- * pt_setup(), as the old memory would have, until a count would have wrapped at 32 bits.
- * What was promised of the calls before the carry is kept by those after it: a slot that
- * an open section still reads is not reclaimed, a lookup has its answer by the step
- * that was promised when it started, and the sum that pt_clock() tells of goes on. What
- * @memory was before is over, as after pt_setup(). The old memory is left as it was; no
- * other call takes it, and once the carry has returned PT_OK it may be given back. The
- * two must not both be kept in service: each would free slots that the other reads.
- */
-extern
-uint32_t pt_carry(const uint32_t *old, size_t old_words,
-		uint32_t *memory, size_t words,
 		uint32_t *answer, size_t answer_words);
 
 /*

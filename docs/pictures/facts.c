@@ -1,6 +1,7 @@
 /*
  * facts.c - what the drawings show, as lines for the program make: the words of a memory
- * from layout.h, and the states of the C version after each call of a listing.
+ * from layout.h, the states of the C version after each call of a listing, and its masks at
+ * some moments of a grace period.
  * Usage: facts LISTING
  */
 #include <inttypes.h>
@@ -9,6 +10,7 @@
 
 #include "calls.h"
 #include "line.h"
+#include "reference.h"
 #include "table.h"
 #include "lent.h"
 
@@ -20,14 +22,15 @@ struct field {
 };
 
 static const struct field fields[] = {
-	{ "contents", CONTENTS_VERSION, 1, "version, 3" },
-	{ "contents", CONTENTS_CABINETS, 1, "cabinets C, 1 to 8" },
-	{ "contents", CONTENTS_LANES, 1, "lanes of each M, 1 to 8" },
+	{ "contents", CONTENTS_VERSION, 1, "version, 4" },
+	{ "contents", CONTENTS_CABINETS, 1, "cabinets of each yard C, 1 to 8" },
+	{ "contents", CONTENTS_LANES, 1, "lanes of each cabinet M, 1 to 8" },
 	{ "contents", CONTENTS_SLOTS, 1, "slots S, 1 to 1,024" },
 	{ "contents", CONTENTS_BODIES, 2 * BODIES, "first word and length of each body" },
+	{ "contents", CONTENTS_YARDS, CONTENTS_WORDS - CONTENTS_YARDS, "yards Y, 1 to 8" },
 	{ "global", GLOBAL_CURRENT_GENERATION, 1, "current generation" },
 	{ "global", GLOBAL_LARGEST_GENERATION, 1, "largest generation requested" },
-	{ "global", GLOBAL_PENDING, 1, "mask of pending cabinets" },
+	{ "global", GLOBAL_PENDING, 1, "mask of pending yards" },
 	{ "global", GLOBAL_CHAINS, CHAINS, "chain heads" },
 	{ "global", GLOBAL_FREE, QUEUE_WORDS, "free queue: first, last, length" },
 	{ "global", GLOBAL_NEXT, QUEUE_WORDS, "next queue: first, last, length" },
@@ -49,14 +52,21 @@ static const struct field fields[] = {
 	{ "slot", SLOT_MATERIAL, 1, "material" },
 	{ "slot", SLOT_CHAIN_LINK, 1, "chain link" },
 	{ "slot", SLOT_QUEUE_LINK, SLOT_WORDS - SLOT_QUEUE_LINK, "queue link" },
+	{ "yard", YARD_PENDING, YARD_WORDS, "mask of pending cabinets" },
 };
 
-static void print_layout(uint32_t cabinets, uint32_t lanes, uint32_t slots)
+static void print_sizes(const char *what, struct sizes sizes)
 {
-	static const char *const names[BODIES] = { "global", "cabinets", "lanes", "slots" };
-	struct layout layout = layout_of(cabinets, lanes, slots);
+	printf("%s %" PRIu32 " %" PRIu32 " %" PRIu32 " %" PRIu32 "\n", what, sizes.yards, sizes.cabinets, sizes.lanes,
+		sizes.slots);
+}
 
-	printf("sizes %" PRIu32 " %" PRIu32 " %" PRIu32 "\n", cabinets, lanes, slots);
+static void print_layout(struct sizes sizes)
+{
+	static const char *const names[BODIES] = { "global", "cabinets", "lanes", "slots", "yards" };
+	struct layout layout = layout_of(sizes);
+
+	print_sizes("sizes", sizes);
 	printf("body contents 0 %d\n", CONTENTS_WORDS);
 	for (int body = 0; body < BODIES; body++)
 		printf("body %s %" PRIu32 " %" PRIu32 "\n", names[body], layout.first[body],
@@ -121,12 +131,12 @@ static void print_state(const uint32_t *memory)
 
 	table_read(&t, memory);
 	printf("engine %" PRIu32 " %" PRIu32 " %d\n", t.current, t.largest,
-		t.pending_cabinets != 0);
+		t.pending_yards != 0);
 	for (uint32_t l = 0; l < table_lanes(&t); l++)
 		printf("lane %" PRIu32 " %d %d %d %d %d\n", l, (t.lane[l].flags & FLAG_ONLINE) != 0,
 			(t.lane[l].flags & FLAG_READING) != 0, (t.lane[l].flags & FLAG_LOOKUP) != 0,
 			(t.lane[l].flags & FLAG_SNAPSHOT) != 0, table_pending(&t, l));
-	for (uint32_t s = 0; s < t.slots; s++)
+	for (uint32_t s = 0; s < t.sizes.slots; s++)
 		print_slot(&t, s);
 }
 
@@ -150,13 +160,96 @@ static void print_listing(FILE *listing)
 	}
 }
 
+/* ---- the masks of a grace period */
+
+/* The table whose masks are drawn. */
+enum { YARDS = 2, CABINETS = 2, LANES = 3, SLOTS = 4 };
+static const struct sizes drawn = { YARDS, CABINETS, LANES, SLOTS };
+static uint32_t memory[PT_WORDS(YARDS, CABINETS, LANES, SLOTS)];
+static uint32_t answer[PT_ANSWER_WORDS];
+
+#define LENT memory, sizeof memory / sizeof memory[0], answer, PT_ANSWER_WORDS
+
+/* Where the masks of each level stand: the first word of each. */
+static void print_levels(void)
+{
+	struct layout layout = layout_of(drawn);
+
+	print_sizes("site", drawn);
+	printf("level yards %" PRIu32 "\n", layout.first[BODY_GLOBAL] + GLOBAL_PENDING);
+	printf("level cabinets %" PRIu32 "\n", layout.first[BODY_YARDS] + YARD_PENDING);
+	printf("level lanes %" PRIu32 "\n", layout.first[BODY_CABINETS] + CABINET_PENDING);
+}
+
+static void print_masks(const char *level, const uint32_t *masks, uint32_t count)
+{
+	printf("masks %s", level);
+	for (uint32_t n = 0; n < count; n++)
+		printf(" %" PRIu32, masks[n]);
+	printf("\n");
+}
+
+/* The masks now, which lanes are online, and what is said of the moment. */
+static void print_moment(const char *text)
+{
+	struct table t;
+
+	table_read(&t, memory);
+	printf("moment %s\n", text);
+	print_masks("yards", &t.pending_yards, 1);
+	print_masks("cabinets", t.pending_cabinets, drawn.yards);
+	print_masks("lanes", t.pending_lanes, sizes_cabinets(drawn));
+	printf("online");
+	for (uint32_t l = 0; l < table_lanes(&t); l++)
+		printf(" %d", (t.lane[l].flags & FLAG_ONLINE) != 0);
+	printf("\n");
+}
+
+/* The lane has its snapshot and passes; its next clock clears its bit. */
+static void pass(uint32_t lane)
+{
+	CHECK(ref_clock(LENT, lane) == PT_OK);
+	CHECK(ref_pass(LENT, lane, PT_IDLE) == PT_OK);
+}
+
+static void clear(const uint32_t *lanes, size_t count)
+{
+	for (size_t n = 0; n < count; n++) {
+		pass(lanes[n]);
+		CHECK(ref_clock(LENT, lanes[n]) == PT_OK);
+	}
+}
+
+/* A period that begins, a clock that clears three levels, and the one that ends the period. */
+static void print_tree(void)
+{
+	enum { CODE = 17, OFFLINE = 7, OF_YARD_0 = 4 };
+	static const uint32_t first[] = { 0, 1, 2, 3, 5, 6, 10 }, then[] = { 8, 11, 9 };
+
+	print_levels();
+	CHECK(ref_setup(LENT, drawn.yards, drawn.cabinets, drawn.lanes, drawn.slots) == PT_OK);
+	CHECK(ref_off(LENT, OFFLINE) == PT_OK);
+	CHECK(ref_add(LENT, 0, CODE, 0, 0) == PT_OK);
+	CHECK(ref_delete(LENT, 0, CODE) == PT_OK);
+	CHECK(ref_clock(LENT, 0) == PT_OK);
+	print_moment("A grace period begins: the bits of all online lanes, of their cabinets and of their yards are set.");
+	clear(first, sizeof first / sizeof first[0]);
+	pass(OF_YARD_0);
+	print_moment("Clocks clear lanes' bits: of yard 0 lane 4 alone is pending now, and it has passed.");
+	CHECK(ref_clock(LENT, OF_YARD_0) == PT_OK);
+	print_moment("Lane 4's clock clears upward: its cabinet's last bit goes, so the cabinet's goes, and so the yard's.");
+	clear(then, sizeof then / sizeof then[0]);
+	print_moment("The last clock ends the grace period: lanes 8, 11 and then 9 have followed, and the yard mask is 0.");
+}
+
 int main(int arguments, char **argument)
 {
 	FILE *listing = arguments == 2 ? fopen(argument[1], "r") : NULL;
 
 	CHECK(listing != NULL);
-	print_layout(PT_MAX_CABINETS, PT_MAX_LANES, PT_MAX_SLOTS);
+	print_layout((struct sizes){ PT_MAX_YARDS, PT_MAX_CABINETS, PT_MAX_LANES, PT_MAX_SLOTS });
 	print_listing(listing);
+	print_tree();
 	fclose(listing);
 	return 0;
 }

@@ -1,5 +1,5 @@
 /*
- * clients.c - a lane and the office of the hall, each a process of its own. They know
+ * clients.c - a lane and an office of the hall, each a process of its own. They know
  * nothing of the memory: they ask for calls and get five words back. The labels of products
  * they write and read themselves, which takes no memory. No one holds a lock.
  * Between two steps of a lane's lookup any number of other calls may come.
@@ -186,7 +186,7 @@ void lane_serve(struct client *lane)
 	}
 }
 
-/* ---- the office */
+/* ---- an office */
 
 enum { TEN = 10 };
 
@@ -198,7 +198,7 @@ static uint32_t change(struct client *office, enum call_name name, uint64_t code
 	uint32_t status;
 
 	do
-		status = ask(office, name, draw(office, LANES), code, deposit, material);
+		status = ask(office, name, draw(office, office->lanes), code, deposit, material);
 	while (status == PT_OFFLINE);
 	return status;
 }

@@ -1,6 +1,6 @@
 /*
- * hall.h - what the programs of the hall share: the sizes, the products, and how a lane
- * or the office asks the process that lends the memory for a call.
+ * hall.h - what the programs of the hall share: a site's sizes, the products, and how a
+ * lane or an office asks the process that lends the memory for a call.
  */
 #ifndef HALL_H
 #define HALL_H
@@ -13,16 +13,38 @@
 #include "codes.h"
 #include "product_table.h"
 
-enum {
-	CABINETS = 8,
-	LANES_OF_A_CABINET = 8,
-	LANES = CABINETS * LANES_OF_A_CABINET,
-	OFFICE = LANES, /* the office's number as a client */
-	CLIENTS,
-	SLOTS = 160,
-	PRODUCTS = 120,
-	OLD_WORDS = 92 + CABINETS + 22 * LANES + 6 * SLOTS /* of the table in version 2 */
+/* A site, by the sizes that set-up takes. */
+struct site {
+	uint32_t yards;
+	uint32_t cabinets; /* of a yard */
+	uint32_t lanes;    /* of a cabinet */
+	uint32_t slots;
 };
+
+/* The most that a site has. */
+enum {
+	MOST_LANES = PT_MAX_YARDS * PT_MAX_CABINETS * PT_MAX_LANES,
+	MOST_CLIENTS = MOST_LANES + PT_MAX_YARDS, /* each yard has an office */
+	MOST_WORDS = PT_WORDS(PT_MAX_YARDS, PT_MAX_CABINETS, PT_MAX_LANES, PT_MAX_SLOTS)
+};
+
+enum { PRODUCTS = 120 };
+
+/* The lanes of all cabinets; as clients they come first, and the offices after them. */
+static inline uint32_t site_lanes(const struct site *site)
+{
+	return site->yards * site->cabinets * site->lanes;
+}
+
+static inline uint32_t site_clients(const struct site *site)
+{
+	return site_lanes(site) + site->yards;
+}
+
+static inline size_t site_words(const struct site *site)
+{
+	return PT_WORDS(site->yards, site->cabinets, site->lanes, site->slots);
+}
 
 /*
  * Codes of eight chains, with right check digits, so that a lookup takes several steps. A
@@ -51,6 +73,7 @@ struct response {
 /* A client's side. */
 struct client {
 	uint32_t number;
+	uint32_t lanes; /* of the site */
 	int requests;  /* one pipe of all clients: its order is the order of the calls */
 	int responses; /* its own pipe */
 	uint64_t random;
@@ -58,17 +81,16 @@ struct client {
 	uint32_t answer[PT_ANSWER_WORDS];
 };
 
-/* ---- clients.c: what a lane and the office do until the hall closes */
+/* ---- clients.c: what a lane and an office do until the hall closes */
 
 void lane_serve(struct client *client);
 void office_serve(struct client *client);
 
 /* ---- history.c: the calls in their order, and the ledger's verdict on them */
 
-/* A call and its answer; @carried: on the second memory, by the library. */
-void history_note(const struct call *call, const uint32_t *answer, bool carried);
+void history_note(const struct call *call, const uint32_t *answer);
 
 /* Prints what happened; returns whether there was no fault. */
-bool history_judge(void);
+bool history_judge(const struct site *site);
 
 #endif /* HALL_H */

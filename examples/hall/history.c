@@ -6,11 +6,9 @@
  * before the sections that were open at its removal had ended. A lookup that was dropped,
  * since the customer took the bottle back, had no answer and held nothing up. Every other one
  * was answered by step n + 1 of its lane, n being the records on the chain when it started,
- * whatever the office and the other lanes did meanwhile; some took as many. After every call
+ * whatever the offices and the other lanes did meanwhile; some took as many. After every call
  * the fourth numbers of all clocks, which a display may add up, and the slots that offs
- * brought to the global done queue are the slots in done queues and those handed back. All of
- * this holds across the carry: the ledger is fed the calls of version 2, which the C version of
- * version 2 makes once more, and then those on the carried memory.
+ * brought to the global done queue are the slots in done queues and those handed back.
  *
  * A lane maker needs nothing of this file.
  */
@@ -23,24 +21,19 @@
 
 #include "ledger.h"
 #include "reference.h"
-#include "reference_v2.h"
 
 struct event {
 	struct call call;
-	bool carried;
 	uint32_t answer[PT_ANSWER_WORDS];
 };
-
-enum { WORDS = PT_WORDS(CABINETS, LANES_OF_A_CABINET, SLOTS) };
 
 static struct event *events;
 static size_t length, room;
 static struct ledger ledger;
-static uint32_t memory[WORDS], before[WORDS]; /* the C version's, of version 2 up to the carry, and as it was before the call */
+static size_t words;
+static uint32_t memory[MOST_WORDS], before[MOST_WORDS]; /* the C version's, and as it was before the call */
 
-_Static_assert((int)OLD_WORDS <= (int)WORDS, "version 2 takes fewer words");
-
-void history_note(const struct call *call, const uint32_t *answer, bool carried)
+void history_note(const struct call *call, const uint32_t *answer)
 {
 	if (length == room) {
 		room = room == 0 ? 65536 : 2 * room;
@@ -51,7 +44,6 @@ void history_note(const struct call *call, const uint32_t *answer, bool carried)
 		}
 	}
 	events[length].call = *call;
-	events[length].carried = carried;
 	memcpy(events[length].answer, answer, sizeof events[length].answer);
 	length++;
 }
@@ -62,8 +54,6 @@ struct tally {
 	uint64_t attained; /* lookups that step n + 1 answered, and none before it */
 	uint64_t moved[CALLS]; /* slots that clocks and offs brought to done queues */
 	uint64_t added[3]; /* by labels of 8, 13 and 14 digits */
-	uint64_t old; /* calls of version 2 */
-	uint64_t reading, looking; /* sections and lookups that were carried */
 };
 
 /* The first codes whose labels have 13 and 14 digits. */
@@ -99,28 +89,13 @@ static bool takes_back(const struct event *event)
 		ledger.lane[event->call.argument[0]].lookup;
 }
 
-/* The memory of version 2 becomes one of version 3, by the C version; the fault of that, or NULL. */
-static const char *judge_carry(struct tally *tally)
-{
-	uint32_t answer[PT_ANSWER_WORDS];
-
-	memcpy(before, memory, sizeof before);
-	if (ref_carry(before, OLD_WORDS, memory, WORDS, answer, PT_ANSWER_WORDS) != PT_OK)
-		return "the C version refuses the carry";
-	for (uint32_t l = 0; l < LANES; l++) {
-		tally->reading += ledger.lane[l].reading;
-		tally->looking += ledger.lane[l].lookup > 0 ? 1 : 0;
-	}
-	return ledger_carried(&ledger, memory);
-}
-
 /* The fault of one call, on the C version's memory, or NULL. */
 static const char *judge_event(const struct event *event)
 {
 	uint32_t answer[PT_ANSWER_WORDS];
 
-	memcpy(before, memory, sizeof before);
-	call_make(event->carried ? &reference : &version_2, memory, WORDS, answer, PT_ANSWER_WORDS, &event->call);
+	memcpy(before, memory, words * sizeof before[0]);
+	call_make(&reference, memory, words, answer, PT_ANSWER_WORDS, &event->call);
 	if (memcmp(answer, event->answer, sizeof answer) != 0)
 		return "the C version answers otherwise";
 	return ledger_judge(&ledger, &event->call, event->answer, before, memory);
@@ -139,8 +114,6 @@ static void print_tally(const struct tally *tally)
 	printf("hall: slots that came to done queues: %" PRIu64 " by clocks, as they say, and %" PRIu64
 		" by offs; handed back: %" PRIu64 "\n",
 		tally->moved[CALL_CLOCK], tally->moved[CALL_OFF], tally->accepted[CALL_HAND_BACK]);
-	printf("hall: carried after %" PRIu64 " calls of version 2, with %" PRIu64 " open sections and %" PRIu64 " lookups halfway\n",
-		tally->old, tally->reading, tally->looking);
 	printf("hall: added by labels of 8, 13 and 14 digits %" PRIu64 ", %" PRIu64 ", %" PRIu64 "\n",
 		tally->added[0], tally->added[1], tally->added[2]);
 }
@@ -152,21 +125,18 @@ static bool all_back(const struct tally *tally)
 		tally->moved[CALL_CLOCK] + tally->moved[CALL_OFF] == tally->accepted[CALL_HAND_BACK];
 }
 
-bool history_judge(void)
+bool history_judge(const struct site *site)
 {
 	struct tally tally = { .refused = 0 };
 	uint32_t generation = 1;
 	const char *fault = NULL;
 
+	words = site_words(site);
 	ledger_reset(&ledger);
 	for (size_t n = 0; n < length && fault == NULL; n++) {
 		tally.taken_back += takes_back(&events[n]) ? 1 : 0;
 		tally.attained += ledger_attains(&ledger, &events[n].call, events[n].answer) ? 1 : 0;
-		tally.old += events[n].carried ? 0 : 1;
-		if (events[n].carried && !events[n - 1].carried)
-			fault = judge_carry(&tally);
-		if (fault == NULL)
-			fault = judge_event(&events[n]);
+		fault = judge_event(&events[n]);
 		tally_event(&tally, &events[n], &generation);
 		if (fault != NULL)
 			printf( "hall: FAULT in call %zu, %s of lane %" PRIu64 ": %s\n", n,
@@ -183,11 +153,8 @@ bool history_judge(void)
 		printf("hall: NO bottle was taken back\n");
 	if (tally.attained == 0)
 		printf("hall: NO lookup took n + 1 steps\n");
-	if (tally.old == 0 || tally.old == length || tally.reading == 0)
-		printf("hall: NOT carried in service\n");
 	if (!all_back(&tally))
 		printf("hall: NOT as many slots were handed back as came to done queues\n");
 	free(events);
-	return fault == NULL && tally.taken_back > 0 && tally.attained > 0 && tally.reading > 0 && tally.old < length &&
-		all_back(&tally);
+	return fault == NULL && tally.taken_back > 0 && tally.attained > 0 && all_back(&tally);
 }

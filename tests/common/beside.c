@@ -10,13 +10,11 @@
 #include <sys/mman.h>
 
 #include "layout.h"
-#include "reference_v2.h"
 #include "table.h"
-#include "table_v2.h"
 
 enum {
 	OUTSIDE = 16, /* words beside what is lent that are looked at after each call */
-	EDGE_WORDS = 16384, /* of a stretch between two forbidden pages */
+	EDGE_WORDS = 32768, /* of a stretch between two forbidden pages */
 	LENT_PAST = 8 /* words past the total that a set-up leaves lent */
 };
 
@@ -77,10 +75,6 @@ void beside_start(struct beside *beside, const struct interface *tried,
 	beside->difference = SAME;
 	lend_all(beside);
 	fill(beside->memory, BESIDE_WORDS);
-	fill(beside->old, BESIDE_WORDS);
-	beside->old_words = BESIDE_WORDS;
-	beside->old_fed = false;
-	beside->in_step = false;
 }
 
 /* Makes the call by the judge, on the memory between calls. */
@@ -118,7 +112,7 @@ static enum difference make_tried(struct beside *beside)
 /* Whether the ledger has room for the table that a set-up makes. */
 static bool has_room(const struct call *setup)
 {
-	return setup->argument[0] * setup->argument[1] <= LEDGER_LANES && setup->argument[2] <= LEDGER_SLOTS;
+	return sizes_lanes(call_sizes(setup)) <= LEDGER_LANES && call_sizes(setup).slots <= LEDGER_SLOTS;
 }
 
 /* Demand 3, the figure of lookups and what comes to done queues, on tables that the ledger has room for. */
@@ -152,37 +146,6 @@ static void accept_words(struct beside *beside, const struct left *left)
 	keep_words(beside);
 }
 
-/* Whether the pass, which is accepted, finds its count of version 2 at the last number. */
-static bool wraps_before(const struct beside *beside)
-{
-	const uint32_t *old = beside->going;
-	uint32_t lanes = v2_layout_of(old[V2_CONTENTS_CABINETS], old[V2_CONTENTS_LANES],
-			old[V2_CONTENTS_SLOTS]).first[V2_BODY_LANES];
-
-	return beside->call.name == CALL_PASS && old[lanes + V2_LANE_WORDS * beside->call.argument[0] +
-		V2_LANE_COUNTS + beside->call.argument[1]] == PT_NONE;
-}
-
-/* After a carry: the call on the copy of the old memory, by version 2, and whether it is answered alike. */
-static enum difference in_step(struct beside *beside, const struct left *left)
-{
-	uint32_t answer[PT_ANSWER_WORDS];
-	bool wraps;
-
-	if (beside->call.name == CALL_SETUP) {
-		beside->in_step = beside->in_step && left->status != PT_OK;
-		return SAME;
-	}
-	/* lent short: the call is refused for that, or does nothing */
-	if (!beside->in_step || left->status == PT_SHORT_ANSWER || beside->words < total_of(beside->memory))
-		return SAME;
-	beside->stepped = true;
-	wraps = left->status == PT_OK && wraps_before(beside);
-	call_make(&version_2, beside->going, BESIDE_WORDS, answer, PT_ANSWER_WORDS, &beside->call);
-	beside->in_step = !wraps;
-	return memcmp(answer, left->answer, sizeof answer) == 0 ? SAME : DIFFERS_IN_STEP;
-}
-
 enum difference beside_call(struct beside *beside, const struct call *call)
 {
 	const struct left *left = beside->tried != NULL ? &beside->left : &beside->expected;
@@ -191,7 +154,6 @@ enum difference beside_call(struct beside *beside, const struct call *call)
 	beside->call = *call;
 	beside->attained = false;
 	beside->moved = 0;
-	beside->stepped = false;
 	memcpy(beside->before, beside->memory, beside->words * sizeof beside->before[0]);
 	if (beside->judge != NULL)
 		make_expected(beside);
@@ -205,125 +167,10 @@ enum difference beside_call(struct beside *beside, const struct call *call)
 		memcpy(beside->memory, left->memory, left->words * sizeof beside->memory[0]);
 	if (difference == SAME)
 		difference = judged(beside, left);
-	if (difference == SAME)
-		difference = in_step(beside, left);
 	if (difference == SAME && left->status == PT_OK && beside->call.name == CALL_SETUP)
 		accept_words(beside, left);
 	else if (difference == SAME && left->status == PT_OK)
 		keep_words(beside);
-	beside->difference = difference;
-	return difference;
-}
-
-/* ---- the old memory */
-
-/* A call by the C version of version 2, with the ledger of demand 3. */
-static enum difference old_call(struct beside *beside, const struct call *call)
-{
-	uint32_t status;
-
-	memcpy(beside->old_before, beside->old, beside->old_words * sizeof beside->old[0]);
-	status = call_make(&version_2, beside->old, beside->old_words, beside->old_answer, PT_ANSWER_WORDS, call);
-	if (status == PT_OK && call->name == CALL_SETUP) {
-		beside->old_fed = has_room(call);
-		if (beside->old_words > beside->old_answer[1] + LENT_PAST)
-			beside->old_words = beside->old_answer[1] + LENT_PAST;
-	}
-	if (!beside->old_fed || status == PT_NOT_LEGAL) /* lent short: none of the list */
-		return SAME;
-	beside->fault = ledger_judge(&beside->old_ledger, call, beside->old_answer, beside->old_before, beside->old);
-	return beside->fault == NULL ? SAME : DIFFERS_LEDGER;
-}
-
-static enum difference old_step(struct beside *beside, const struct step *step)
-{
-	switch (step->kind) {
-	case STEP_POKE:
-		beside->old_fed = false;
-		if (step->number < BESIDE_WORDS)
-			beside->old[step->number] = step->value;
-		return SAME;
-	case STEP_LEND:
-		beside->old_words = step->number < BESIDE_WORDS ? step->number : BESIDE_WORDS;
-		return SAME;
-	default:
-		beside->difference = old_call(beside, &step->call);
-		return beside->difference;
-	}
-}
-
-/* ---- the carry */
-
-/* By the implementation that is tried, on three stretches at the edge of a page. */
-static enum difference carry_tried(struct beside *beside)
-{
-	static uint32_t *stretch[3];
-	struct left *left = &beside->left;
-	bool at_start = beside->at_start;
-	uint32_t *old;
-
-	for (int n = 0; n < 3; n++)
-		if (stretch[n] == NULL)
-			stretch[n] = guarded();
-	left->words = beside->words;
-	left->answer_words = beside->answer_words;
-	old = lend(stretch[0], beside->old_words, at_start);
-	left->memory = lend(stretch[1], left->words, at_start);
-	left->answer = lend(stretch[2], left->answer_words, at_start);
-	memcpy(old, beside->old, beside->old_words * sizeof *old);
-	memcpy(left->memory, beside->before, left->words * sizeof *left->memory);
-	fill(left->answer, left->answer_words);
-	left->status = beside->tried->carry(old, beside->old_words, left->memory, left->words, left->answer,
-			left->answer_words);
-	if (memcmp(old, beside->old, beside->old_words * sizeof *old) != 0)
-		return DIFFERS_OLD;
-	return outside_kept(old, beside->old_words, at_start) && outside_kept(left->memory, left->words, at_start) &&
-		outside_kept(left->answer, left->answer_words, at_start) ? SAME : DIFFERS_OUTSIDE;
-}
-
-static void carry_expected(struct beside *beside)
-{
-	fill(beside->expected_answer, BESIDE_ANSWER);
-	beside->expected = (struct left){ beside->memory, beside->words, beside->expected_answer,
-		beside->answer_words, 0 };
-	beside->expected.status = beside->judge->carry(beside->old, beside->old_words, beside->memory, beside->words,
-			beside->expected_answer, beside->answer_words);
-}
-
-/* The list of the second memory is over; that of the old one goes on, and its ledger finds what it is owed. */
-static enum difference carry_over(struct beside *beside, const struct left *left)
-{
-	beside->fed = beside->old_fed;
-	if (beside->fed) {
-		beside->ledger = beside->old_ledger;
-		beside->fault = ledger_carried(&beside->ledger, beside->memory);
-		if (beside->fault != NULL)
-			return DIFFERS_LEDGER;
-	}
-	memcpy(beside->going, beside->old, sizeof beside->going);
-	beside->in_step = true;
-	accept_words(beside, left);
-	return SAME;
-}
-
-static enum difference beside_carry(struct beside *beside)
-{
-	const struct left *left = beside->tried != NULL ? &beside->left : &beside->expected;
-	enum difference difference = SAME;
-
-	memcpy(beside->before, beside->memory, beside->words * sizeof beside->before[0]);
-	if (beside->judge != NULL)
-		carry_expected(beside);
-	if (beside->tried != NULL)
-		difference = carry_tried(beside);
-	if (difference == SAME && beside->judge != NULL && beside->tried != NULL)
-		difference = alike(&beside->expected, &beside->left);
-	if (difference == SAME)
-		difference = owed(beside->before, left);
-	if (beside->judge == NULL)
-		memcpy(beside->memory, left->memory, left->words * sizeof beside->memory[0]);
-	if (difference == SAME && left->status == PT_OK)
-		difference = carry_over(beside, left);
 	beside->difference = difference;
 	return difference;
 }
@@ -415,22 +262,12 @@ static enum difference beside_label(struct beside *beside, const struct step *st
 
 enum difference beside_step(struct beside *beside, const struct step *step)
 {
-	if (step->old)
-		return old_step(beside, step);
 	switch (step->kind) {
-	case STEP_CARRY:
-		return beside_carry(beside);
-	case STEP_HOLD:
-		memcpy(beside->old, beside->memory, sizeof beside->old);
-		beside->old_words = beside->words;
-		beside->old_fed = false;
-		return SAME;
 	case STEP_READ:
 	case STEP_WRITE:
 		return beside_label(beside, step);
 	case STEP_POKE:
 		beside->fed = false;
-		beside->in_step = false;
 		if (step->number < BESIDE_WORDS)
 			beside->memory[step->number] = step->value;
 		return SAME;

@@ -6,13 +6,6 @@
  *
  * What is lent ends, or begins, where a page lies that may be neither read nor written.
  * A label function's text is lent so too; it goes by its answer and the bytes of the text.
- *
- * The old memory, of version 2, is made by the C version of version 2 alone, with a ledger of
- * its own. A carry is compared as a call is, and leaves the old memory as it was; if it is
- * accepted, the old memory's ledger goes on with the second one, and the ledger that was
- * there is over. From there on each call is made on a copy of the old memory too, by version
- * 2, and is answered alike, until a set-up, a word that is poked, or a pass that finds its
- * count there at the last number.
  */
 #ifndef COMMON_BESIDE_H
 #define COMMON_BESIDE_H
@@ -26,7 +19,7 @@
 
 enum {
 	BESIDE_PAST = 16, /* words past the total of the largest table */
-	BESIDE_WORDS = PT_WORDS(PT_MAX_CABINETS, PT_MAX_LANES, PT_MAX_SLOTS) + BESIDE_PAST,
+	BESIDE_WORDS = PT_WORDS(PT_MAX_YARDS, PT_MAX_CABINETS, PT_MAX_LANES, PT_MAX_SLOTS) + BESIDE_PAST,
 	BESIDE_ANSWER = PT_ANSWER_WORDS + 3
 };
 
@@ -43,15 +36,6 @@ struct beside {
 	struct ledger ledger;
 	bool fed; /* the ledger knows all that happened since the set-up */
 
-	/* The old memory, of version 2, and the answer of its last call. */
-	uint32_t old[BESIDE_WORDS], old_before[BESIDE_WORDS];
-	uint32_t old_answer[PT_ANSWER_WORDS];
-	size_t old_words;
-	struct ledger old_ledger;
-	bool old_fed;
-	uint32_t going[BESIDE_WORDS]; /* the copy that goes on after a carry */
-	bool in_step;		      /* it does */
-
 	/* The last call. */
 	struct call call;
 	uint32_t expected_answer[BESIDE_ANSWER];
@@ -61,10 +45,9 @@ struct beside {
 	const char *fault; /* of the ledger */
 	bool attained; /* it was step n + 1 of its lookup, and answered it */
 	uint32_t moved; /* slots that it brought to done queues, by the ledger */
-	bool stepped; /* it was made on the copy of the old memory too */
 };
 
-/* Memories of no meaning, all of them lent. */
+/* A memory of no meaning, all of it lent. */
 void beside_start(struct beside *beside, const struct interface *tried,
 		const struct interface *judge);
 

@@ -9,7 +9,6 @@ const struct interface reference = {
 #define ARGUMENT(n, KIND)
 #define CALL(NAME, name, command, weight, arguments, causes) .name = ref_##name,
 #include "calls.def"
-	.carry = ref_carry,
 	.label_read = ref_label_read,
 	.label_write = ref_label_write,
 };
@@ -24,7 +23,6 @@ const struct interface tested = {
 #define ARGUMENT(n, KIND)
 #define CALL(NAME, name, command, weight, arguments, causes) .name = TESTED(name),
 #include "calls.def"
-	.carry = TESTED(carry),
 	.label_read = TESTED(label_read),
 	.label_write = TESTED(label_write),
 };
@@ -58,6 +56,17 @@ uint64_t call_argument(const struct call *call, enum kind kind, uint64_t none)
 		if (call_forms[call->name].kind[n] == kind)
 			return call->argument[n];
 	return none;
+}
+
+struct sizes call_sizes(const struct call *setup)
+{
+	return (struct sizes){ (uint32_t)setup->argument[0], (uint32_t)setup->argument[1],
+		(uint32_t)setup->argument[2], (uint32_t)setup->argument[3] };
+}
+
+struct call call_setup(struct sizes sizes)
+{
+	return (struct call){ CALL_SETUP, { sizes.yards, sizes.cabinets, sizes.lanes, sizes.slots } };
 }
 
 uint32_t call_make(const struct interface *interface, CALL_LENT, const struct call *call)

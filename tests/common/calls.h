@@ -9,6 +9,7 @@
 #include <stddef.h>
 #include <stdint.h>
 
+#include "layout.h"
 #include "product_table.h"
 
 enum call_name {
@@ -21,6 +22,7 @@ enum call_name {
 /* What an argument is. Codes have 64 bits, all others 32. */
 enum kind {
 	KIND_NONE, /* after the last argument */
+	KIND_YARDS,
 	KIND_CABINETS,
 	KIND_LANES,
 	KIND_SLOTS,
@@ -31,8 +33,8 @@ enum kind {
 	KIND_KIND
 };
 
-typedef uint32_t argument_CABINETS, argument_LANES, argument_SLOTS, argument_LANE,
-	argument_DEPOSIT, argument_MATERIAL, argument_KIND;
+typedef uint32_t argument_YARDS, argument_CABINETS, argument_LANES, argument_SLOTS,
+	argument_LANE, argument_DEPOSIT, argument_MATERIAL, argument_KIND;
 typedef uint64_t argument_CODE;
 
 /* LAST_CAUSE: of the calls; a label's own cause comes after it. */
@@ -64,6 +66,10 @@ bool call_argument_fits(enum call_name name, uint32_t n, uint64_t value);
 /* The call's argument of that kind, or @none where it takes none. */
 uint64_t call_argument(const struct call *call, enum kind kind, uint64_t none);
 
+/* The sizes that a set-up names, and the set-up of a table of some sizes. */
+struct sizes call_sizes(const struct call *setup);
+struct call call_setup(struct sizes sizes);
+
 /* What the call functions of every kind take first. */
 #define CALL_LENT uint32_t *memory, size_t words, uint32_t *answer, size_t answer_words
 
@@ -71,15 +77,11 @@ uint64_t call_argument(const struct call *call, enum kind kind, uint64_t none);
 #define LABEL_READ_LENT const uint8_t *text, size_t bytes, uint32_t *answer, size_t answer_words
 #define LABEL_WRITE_LENT uint8_t *text, size_t bytes, uint32_t *answer, size_t answer_words
 
-/* What the carry takes: an old memory, which is only read, and a second one. */
-#define CARRY_LENT const uint32_t *old, size_t old_words, CALL_LENT
-
-/* The calls of one implementation, its carry and its label functions. */
+/* The calls of one implementation, and its label functions. */
 struct interface {
 #define ARGUMENT(n, KIND) , argument_##KIND
 #define CALL(NAME, name, command, weight, arguments, causes) uint32_t (*name)(CALL_LENT arguments);
 #include "calls.def"
-	uint32_t (*carry)(CARRY_LENT);
 	uint32_t (*label_read)(LABEL_READ_LENT);
 	uint32_t (*label_write)(LABEL_WRITE_LENT, uint64_t code);
 };

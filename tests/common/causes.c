@@ -92,13 +92,11 @@ static bool applies(const struct asked *asked, uint32_t cause)
 
 static uint32_t setup_causes(size_t words, const struct call *call)
 {
-	uint32_t sizes[3];
+	struct sizes sizes = call_sizes(call);
 
-	for (int n = 0; n < 3; n++)
-		sizes[n] = (uint32_t)call->argument[n];
-	if (!sizes_in_range(sizes[0], sizes[1], sizes[2]))
+	if (!sizes_in_range(sizes))
 		return 1u << PT_BAD_SIZE | (words == 0 ? 1u << PT_SHORT_MEMORY : 0u);
-	return words < layout_of(sizes[0], sizes[1], sizes[2]).total ? 1u << PT_SHORT_MEMORY : 0u;
+	return words < layout_of(sizes).total ? 1u << PT_SHORT_MEMORY : 0u;
 }
 
 uint32_t causes_of(const uint32_t *memory, size_t words, const struct call *call)
@@ -112,7 +110,7 @@ uint32_t causes_of(const uint32_t *memory, size_t words, const struct call *call
 		return setup_causes(words, call);
 	if (!table_read_legal(&table, memory, words)) {
 		causes |= 1u << PT_NOT_LEGAL;
-		causes |= asked.lane >= PT_MAX_CABINETS * PT_MAX_LANES ? 1u << PT_NO_LANE : 0u;
+		causes |= asked.lane >= TABLE_LANES ? 1u << PT_NO_LANE : 0u;
 		return causes | (out_of_range(call) ? 1u << PT_OUT_OF_RANGE : 0u);
 	}
 	for (const uint32_t *cause = call_forms[call->name].cause; *cause != PT_OK; cause++)

@@ -24,16 +24,11 @@ const char *const difference_texts[DIFFERENCES] = {
 	[DIFFERS_NOT_LEGAL] = "an accepted call left a memory that is not legal",
 	[DIFFERS_LEDGER] = "the ledger of demand 3 finds fault",
 	[DIFFERS_TEXT] = "other bytes of the text",
-	[DIFFERS_OLD] = "a word of the old memory changed",
-	[DIFFERS_IN_STEP] = "after a carry, another answer than that of the old memory",
 };
 
 size_t total_of(const uint32_t *memory)
 {
-	if (!sizes_in_range(memory[CONTENTS_CABINETS], memory[CONTENTS_LANES], memory[CONTENTS_SLOTS]))
-		return 0;
-	return layout_of(memory[CONTENTS_CABINETS], memory[CONTENTS_LANES],
-			memory[CONTENTS_SLOTS]).total;
+	return sizes_in_range(sizes_of(memory)) ? layout_of(sizes_of(memory)).total : 0;
 }
 
 /* Whether @count words from @from on are @value, all of them. */

@@ -21,8 +21,6 @@ enum difference {
 	DIFFERS_NOT_LEGAL,   /* an accepted call left a memory that is not legal */
 	DIFFERS_LEDGER,	     /* the ledger of demand 3 finds fault */
 	DIFFERS_TEXT,	     /* another byte of a label's text */
-	DIFFERS_OLD,	     /* a word of the old memory of a carry */
-	DIFFERS_IN_STEP,     /* after a carry, from the old memory's answer */
 	DIFFERENCES
 };
 

@@ -12,7 +12,14 @@
 #include "reference.h"
 
 /* The sizes of the tables that are damaged. */
-enum { DAMAGES_CABINETS = 2, DAMAGES_LANES = 2, DAMAGES_SLOTS = 16 };
+enum {
+	DAMAGES_YARDS = 3,
+	DAMAGES_CABINETS = 2,
+	DAMAGES_LANES = 2,
+	DAMAGES_SLOTS = 16,
+	DAMAGES_ALL_CABINETS = DAMAGES_YARDS * DAMAGES_CABINETS,
+	DAMAGES_ALL_LANES = DAMAGES_ALL_CABINETS * DAMAGES_LANES
+};
 
 /* The calls that make the rich table, a set-up first; the set-up alone makes the fresh one. */
 extern const char *const rich_calls[];
@@ -20,7 +27,7 @@ extern const size_t rich_count;
 
 enum base { BASE_FRESH, BASE_RICH };
 
-enum { POKES = 8 };
+enum { POKES = 12 };
 
 /* Words that are changed; no poke has address 0 and value 0 but the unused ones. */
 struct damage {

@@ -6,24 +6,31 @@
 #include "causes.h"
 #include "codes.h"
 #include "layout.h"
-#include "layout_v2.h"
 
 const struct list draw_lists[] = {
-	{ 1, 1, 1, 2, 30000, 1 },
-	{ 1, 2, 2, 3, 30000, 4294967295u },
-	{ 1, 2, 3, 4, 30000, 4294967290u },
-	{ 2, 1, 2, 3, 30000, 1 },
-	{ 1, 4, 3, 3, 30000, 2147483647u },
-	{ 2, 2, 5, 6, 30000, 2147483640u },
-	{ 1, 3, 8, 9, 30000, 4294967290u },
-	{ 2, 4, 16, 14, 30000, 1 },
-	{ 3, 3, 12, 20, 30000, 4294967294u },
-	{ 8, 1, 20, 12, 30000, 1 },
-	{ 4, 4, 100, 60, 10000, 1 },
-	{ 8, 8, 1024, 400, 2000, 4294967295u },
+	{ { 1, 1, 1, 1 }, 2, 30000, 1 },
+	{ { 1, 1, 2, 2 }, 3, 30000, 4294967295u },
+	{ { 1, 1, 2, 3 }, 4, 30000, 4294967290u },
+	{ { 1, 2, 1, 2 }, 3, 30000, 1 },
+	{ { 1, 1, 4, 3 }, 3, 30000, 2147483647u },
+	{ { 1, 2, 2, 5 }, 6, 30000, 2147483640u },
+	{ { 1, 1, 3, 8 }, 9, 30000, 4294967290u },
+	{ { 1, 2, 4, 16 }, 14, 30000, 1 },
+	{ { 1, 3, 3, 12 }, 20, 30000, 4294967294u },
+	{ { 1, 8, 1, 20 }, 12, 30000, 1 },
+	{ { 1, 4, 4, 100 }, 60, 10000, 1 },
+	{ { 1, 8, 8, 1024 }, 400, 2000, 4294967295u },
+	{ { 2, 1, 1, 2 }, 3, 30000, 1 },
+	{ { 2, 2, 2, 6 }, 6, 30000, 4294967290u },
+	{ { 3, 1, 2, 5 }, 6, 30000, 2147483647u },
+	{ { 2, 3, 1, 8 }, 9, 30000, 1 },
+	{ { 8, 1, 1, 10 }, 8, 30000, 4294967295u },
+	{ { 3, 2, 3, 16 }, 14, 10000, 1 },
+	{ { 8, 8, 8, 1024 }, 400, 400, 1 },
 };
 
 const uint32_t draw_lists_count = sizeof draw_lists / sizeof draw_lists[0];
+const uint32_t draw_lists_of_one_yard = 12;
 
 uint32_t draw_below(uint64_t *seed, uint32_t below)
 {
@@ -66,10 +73,11 @@ static uint64_t draw_code(uint64_t *seed, const struct list *list)
 static uint64_t draw_argument(uint64_t *seed, const struct list *list, enum kind kind)
 {
 	switch (kind) {
-	case KIND_CABINETS: return list->cabinets;
-	case KIND_LANES: return draw_below(seed, 3) == 0 ? list->lanes : PT_MAX_LANES + 1;
-	case KIND_SLOTS: return list->slots;
-	case KIND_LANE: return in_range(seed, list->cabinets * list->lanes, 50, 3);
+	case KIND_YARDS: return draw_below(seed, 8) != 0 ? list->sizes.yards : draw_below(seed, 2) == 0 ? 0 : PT_MAX_YARDS + 1;
+	case KIND_CABINETS: return list->sizes.cabinets;
+	case KIND_LANES: return draw_below(seed, 3) == 0 ? list->sizes.lanes : PT_MAX_LANES + 1;
+	case KIND_SLOTS: return list->sizes.slots;
+	case KIND_LANE: return in_range(seed, sizes_lanes(list->sizes), 50, 3);
 	case KIND_CODE: return draw_code(seed, list);
 	case KIND_DEPOSIT: return in_range(seed, PT_MAX_DEPOSIT + 1, 60, 2);
 	case KIND_MATERIAL: return in_range(seed, PT_MAX_MATERIAL + 1, 60, 2);
@@ -140,7 +148,7 @@ static void gather_pass(struct gathered *gathered, uint32_t lane, enum call_name
 
 uint32_t draw_leaving(uint64_t *seed, const struct list *list, struct call calls[LEAVING_CALLS])
 {
-	uint32_t lanes = list->cabinets * list->lanes, first = draw_below(seed, lanes);
+	uint32_t lanes = sizes_lanes(list->sizes), first = draw_below(seed, lanes);
 	uint32_t last = (first + 1 + draw_below(seed, lanes - 1)) % lanes;
 	struct gathered gathered = { calls, 0 };
 
@@ -240,22 +248,27 @@ static void ahead_drawn(struct drawer *drawer, uint32_t count)
 	}
 }
 
+static void ahead_setup(struct drawer *drawer)
+{
+	struct call setup = call_setup(drawer->list->sizes);
+
+	ahead_call(drawer, &setup);
+}
+
 void drawer_start(struct drawer *drawer, const struct list *list, uint64_t seed, bool calls_only)
 {
 	drawer->seed = seed;
 	drawer->list = list;
 	drawer->calls_only = calls_only;
-	drawer->carries = !calls_only;
 	drawer->ahead = 0;
 	drawer->taken = 0;
-	ahead_call(drawer, &(struct call){ CALL_SETUP, { list->cabinets, list->lanes, list->slots } });
+	ahead_setup(drawer);
 	if (calls_only || list->generation == 1)
 		return;
 	ahead(drawer, STEP_POKE, CONTENTS_WORDS + GLOBAL_CURRENT_GENERATION, list->generation);
 	ahead(drawer, STEP_POKE, CONTENTS_WORDS + GLOBAL_LARGEST_GENERATION, list->generation - 1u);
 	for (uint32_t kind = 0; kind < KINDS; kind++) { /* lane 0's counts are about to carry, or to wrap */
-		uint32_t at = CONTENTS_WORDS + GLOBAL_WORDS + CABINET_WORDS * list->cabinets + LANE_COUNTS +
-			COUNT_WORDS * kind;
+		uint32_t at = layout_of(list->sizes).first[BODY_LANES] + LANE_COUNTS + COUNT_WORDS * kind;
 
 		ahead(drawer, STEP_POKE, at + COUNT_LOW, PT_NONE - draw_below(&drawer->seed, 3));
 		ahead(drawer, STEP_POKE, at + COUNT_HIGH, draw_below(&drawer->seed, 2) == 0 ? 0 : PT_NONE);
@@ -283,7 +296,7 @@ static void ahead_lanes(struct drawer *drawer)
 {
 	uint32_t staying = draw_below(&drawer->seed, 3);
 
-	for (uint32_t l = 0; l < drawer->list->cabinets * drawer->list->lanes; l++)
+	for (uint32_t l = 0; l < sizes_lanes(drawer->list->sizes); l++)
 		if (staying == 0 || draw_below(&drawer->seed, 4) != 0)
 			ahead_lane(drawer, l);
 }
@@ -307,7 +320,7 @@ static void ahead_taken_back(struct drawer *drawer, const uint32_t *memory, size
 	enum { STEPS = 4 }; /* more than the chains of small tables have */
 	static struct table table;
 	uint64_t code = draw_code(&drawer->seed, drawer->list);
-	uint32_t lanes = drawer->list->cabinets * drawer->list->lanes;
+	uint32_t lanes = sizes_lanes(drawer->list->sizes);
 	uint32_t lane = draw_below(&drawer->seed, lanes), other = draw_below(&drawer->seed, lanes), slot;
 
 	if (!table_read_legal(&table, memory, words))
@@ -327,10 +340,24 @@ static void ahead_taken_back(struct drawer *drawer, const uint32_t *memory, size
 	ahead_call(drawer, &(struct call){ CALL_STEP, { lane } });
 }
 
+/* The address of a word; one in four is a mask, of any of the three levels. */
+static uint32_t draw_address(uint64_t *seed, struct sizes sizes)
+{
+	struct layout layout = layout_of(sizes);
+
+	if (draw_below(seed, 4) != 0)
+		return draw_below(seed, layout.total);
+	switch (draw_below(seed, 3)) {
+	case 0: return layout.first[BODY_GLOBAL] + GLOBAL_PENDING;
+	case 1: return layout.first[BODY_YARDS] + draw_below(seed, layout.length[BODY_YARDS]);
+	default: return layout.first[BODY_CABINETS] + draw_below(seed, layout.length[BODY_CABINETS]);
+	}
+}
+
 static void ahead_damage(struct drawer *drawer, const uint32_t *memory, uint32_t total)
 {
 	for (uint32_t n = 1 + draw_below(&drawer->seed, 3); n > 0; n--) {
-		uint32_t at = draw_below(&drawer->seed, total);
+		uint32_t at = draw_address(&drawer->seed, drawer->list->sizes);
 
 		ahead(drawer, STEP_POKE, at, draw_word(&drawer->seed, memory, total, at));
 	}
@@ -348,14 +375,14 @@ static void ahead_older(struct drawer *drawer, const uint32_t *memory, size_t wo
 	static struct table table;
 	const struct list *list = drawer->list;
 	uint64_t right = draw_right_code(&drawer->seed, list), wrong = wrong_code(right);
-	uint32_t lane = draw_below(&drawer->seed, list->cabinets * list->lanes), slot, at;
+	uint32_t lane = draw_below(&drawer->seed, sizes_lanes(list->sizes)), slot, at;
 
 	if (!table_read_legal(&table, memory, words) || slot_of(&table, wrong) != PT_NONE)
 		return;
 	slot = slot_of(&table, right);
 	if (slot == PT_NONE)
 		return;
-	at = layout_of(table.cabinets, table.lanes, table.slots).first[BODY_SLOTS] + SLOT_WORDS * slot + SLOT_CODE;
+	at = layout_of(table.sizes).first[BODY_SLOTS] + SLOT_WORDS * slot + SLOT_CODE;
 	ahead(drawer, STEP_POKE, at + CODE_LOW, (uint32_t)wrong);
 	ahead(drawer, STEP_POKE, at + CODE_HIGH, (uint32_t)(wrong >> 32));
 	ahead_call(drawer, &(struct call){ CALL_ADD, { lane, wrong, 1, 1 } });
@@ -364,120 +391,15 @@ static void ahead_older(struct drawer *drawer, const uint32_t *memory, size_t wo
 		ahead_call(drawer, &(struct call){ CALL_DELETE, { lane, wrong } });
 }
 
-/* A call, the table's set-up or a carry, with fewer words lent than belong to it. */
+/* A call, or the table's set-up, with fewer words lent than belong to it. */
 static void ahead_short(struct drawer *drawer, enum step_kind kind, uint32_t below, size_t whole)
 {
-	const struct list *list = drawer->list;
-
 	ahead(drawer, kind, draw_below(&drawer->seed, below), 0);
 	if (draw_below(&drawer->seed, 4) == 0)
-		ahead_call(drawer, &(struct call){ CALL_SETUP, { list->cabinets, list->lanes, list->slots } });
-	else if (draw_below(&drawer->seed, 4) == 0)
-		ahead(drawer, STEP_CARRY, 0, 0); /* from an old memory as the last carry found it */
+		ahead_setup(drawer);
 	else
 		ahead_drawn(drawer, 1);
 	ahead(drawer, kind, (uint32_t)whole, 0);
-}
-
-/* ---- an old memory, and its carry */
-
-static void ahead_old(struct drawer *drawer, enum step_kind kind, uint32_t number, uint32_t value)
-{
-	ahead(drawer, kind, number, value);
-	drawer->step[drawer->ahead - 1].old = true;
-}
-
-static void ahead_old_call(struct drawer *drawer, const struct call *call)
-{
-	ahead_call(drawer, call);
-	drawer->step[drawer->ahead - 1].old = true;
-}
-
-static uint32_t old_lane(const struct list *list, uint32_t lane)
-{
-	return V2_CONTENTS_WORDS + V2_GLOBAL_WORDS + V2_CABINET_WORDS * list->cabinets + V2_LANE_WORDS * lane;
-}
-
-/* Counts of a lane are about to wrap. */
-static void ahead_old_counts(struct drawer *drawer)
-{
-	const struct list *list = drawer->list;
-	uint32_t at = old_lane(list, draw_below(&drawer->seed, list->cabinets * list->lanes));
-
-	for (uint32_t kind = 0; kind < V2_KINDS; kind++)
-		ahead_old(drawer, STEP_POKE, at + V2_LANE_COUNTS + kind, PT_NONE - draw_below(&drawer->seed, 2));
-}
-
-/* A snapshot count becomes another; of a lane that holds no snapshot that is not legal. */
-static void ahead_old_snapshot(struct drawer *drawer, uint32_t lane)
-{
-	ahead_old(drawer, STEP_POKE, old_lane(drawer->list, lane) + V2_LANE_SNAPSHOT + draw_below(&drawer->seed, V2_KINDS),
-		draw_below(&drawer->seed, 3) - 1u);
-}
-
-/* Drawn calls; then a lane reads, its lookup halfway, and another removes the record and has its clock: that one is returned. */
-static uint32_t ahead_old_calls(struct drawer *drawer)
-{
-	const struct list *list = drawer->list;
-	uint32_t lanes = list->cabinets * list->lanes, lane = draw_below(&drawer->seed, lanes);
-	uint64_t code = draw_right_code(&drawer->seed, list);
-
-	for (uint32_t calls = draw_below(&drawer->seed, 40); calls > 0; calls--) {
-		struct call call = draw_call(&drawer->seed, list);
-
-		if (call.name != CALL_SETUP)
-			ahead_old_call(drawer, &call);
-	}
-	ahead_old_call(drawer, &(struct call){ CALL_BEGIN, { lane } });
-	ahead_old_call(drawer, &(struct call){ CALL_START, { lane, code } });
-	ahead_old_call(drawer, &(struct call){ CALL_STEP, { lane } });
-	lane = draw_below(&drawer->seed, lanes);
-	ahead_old_call(drawer, &(struct call){ CALL_DELETE, { lane, code } });
-	ahead_old_call(drawer, &(struct call){ CALL_CLOCK, { lane } });
-	return lane;
-}
-
-/* Short of words, of another version, or damaged; the memory and the list go on as they were. */
-static void ahead_carry_refused(struct drawer *drawer, uint32_t total, size_t words)
-{
-	const struct list *list = drawer->list;
-	uint32_t old_total = total - (LANE_WORDS - V2_LANE_WORDS) * list->cabinets * list->lanes;
-
-	switch (draw_below(&drawer->seed, 4)) {
-	case 0:
-		ahead(drawer, STEP_LEND, draw_below(&drawer->seed, 4) == 0 ? total - 1 : draw_below(&drawer->seed, total), 0);
-		ahead(drawer, STEP_CARRY, 0, 0);
-		ahead(drawer, STEP_LEND, (uint32_t)words, 0);
-		break;
-	case 1:
-		ahead_old(drawer, STEP_LEND, draw_below(&drawer->seed, old_total), 0);
-		ahead(drawer, STEP_CARRY, 0, 0);
-		ahead_old(drawer, STEP_LEND, old_total, 0);
-		break;
-	case 2: /* a memory of this version */
-		ahead(drawer, STEP_HOLD, 0, 0);
-		break;
-	default: /* any word at all: mostly it is not legal then */
-		ahead_old(drawer, STEP_POKE, draw_below(&drawer->seed, old_total), draw_below(&drawer->seed, 20));
-	}
-}
-
-/* An old memory of the list's sizes from its set-up on; then it is carried, and the list goes on there. */
-static void ahead_carry(struct drawer *drawer, uint32_t total, size_t words)
-{
-	const struct list *list = drawer->list;
-	uint32_t lane;
-
-	ahead_old(drawer, STEP_LEND, (uint32_t)PT_WORDS(PT_MAX_CABINETS, PT_MAX_LANES, PT_MAX_SLOTS), 0);
-	ahead_old_call(drawer, &(struct call){ CALL_SETUP, { list->cabinets, list->lanes, list->slots } });
-	if (!drawer->calls_only && draw_below(&drawer->seed, 2) == 0)
-		ahead_old_counts(drawer);
-	lane = ahead_old_calls(drawer);
-	if (!drawer->calls_only && draw_below(&drawer->seed, 3) == 0)
-		ahead_old_snapshot(drawer, lane);
-	if (!drawer->calls_only && draw_below(&drawer->seed, 2) == 0)
-		ahead_carry_refused(drawer, total, words);
-	ahead(drawer, STEP_CARRY, 0, 0);
 }
 
 enum { LIKELY_TRIES = 6, LIKELY_SLOTS = 100 };
@@ -486,7 +408,7 @@ enum { LIKELY_TRIES = 6, LIKELY_SLOTS = 100 };
 static void ahead_likely(struct drawer *drawer, const uint32_t *memory, size_t words)
 {
 	struct call call = draw_call(&drawer->seed, drawer->list);
-	bool likely = drawer->list->slots <= LIKELY_SLOTS && draw_below(&drawer->seed, 2) == 0;
+	bool likely = drawer->list->sizes.slots <= LIKELY_SLOTS && draw_below(&drawer->seed, 2) == 0;
 
 	for (uint32_t n = 0; likely && n < LIKELY_TRIES && causes_of(memory, words, &call) != 0; n++)
 		call = draw_call(&drawer->seed, drawer->list);
@@ -496,8 +418,7 @@ static void ahead_likely(struct drawer *drawer, const uint32_t *memory, size_t w
 struct step drawer_next(struct drawer *drawer, const uint32_t *memory, size_t words)
 {
 	const struct list *list = drawer->list;
-	uint32_t total = (uint32_t)PT_WORDS(list->cabinets, list->lanes, list->slots);
-	uint32_t lanes = list->cabinets * list->lanes;
+	uint32_t total = layout_of(list->sizes).total, lanes = sizes_lanes(list->sizes);
 
 	if (drawer->taken == drawer->ahead) {
 		drawer->taken = drawer->ahead = 0;
@@ -511,8 +432,6 @@ struct step drawer_next(struct drawer *drawer, const uint32_t *memory, size_t wo
 			ahead_lanes(drawer);
 		if (lanes > 1 && draw_below(&drawer->seed, 40 + 20 * lanes) == 0)
 			ahead_leaving(drawer);
-		if (drawer->carries && draw_below(&drawer->seed, 60) == 0)
-			ahead_carry(drawer, total, words);
 		if (!drawer->calls_only && draw_below(&drawer->seed, 12) == 0)
 			ahead_damage(drawer, memory, total);
 		if (!drawer->calls_only && draw_below(&drawer->seed, 100) == 0)

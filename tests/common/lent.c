@@ -53,7 +53,7 @@ static void fault(const struct call *call, enum difference difference, const str
 	while (expected != NULL && n < LENT_WORDS && expected[n] == left->memory[n])
 		n++;
 	if (expected != NULL && n < LENT_WORDS) {
-		word_name(expected + CONTENTS_CABINETS, n, name);
+		word_name(sizes_of(expected), n, name);
 		fprintf(stderr, "%s: %" PRIu32 ", and not %" PRIu32 "\n", name, left->memory[n], expected[n]);
 	}
 	exit(1);
@@ -112,10 +112,7 @@ void lent_play(struct lent *lent, const struct lent_step *steps, size_t count)
 
 static uint32_t *record(uint32_t *memory, int body, uint32_t words, uint32_t n)
 {
-	struct layout layout = layout_of(memory[CONTENTS_CABINETS], memory[CONTENTS_LANES],
-			memory[CONTENTS_SLOTS]);
-
-	return memory + layout.first[body] + words * n;
+	return memory + layout_of(sizes_of(memory)).first[body] + words * n;
 }
 
 uint32_t *lent_global(uint32_t *memory)
@@ -136,6 +133,11 @@ uint32_t *lent_lane(uint32_t *memory, uint32_t n)
 uint32_t *lent_slot(uint32_t *memory, uint32_t n)
 {
 	return record(memory, BODY_SLOTS, SLOT_WORDS, n);
+}
+
+uint32_t *lent_yard(uint32_t *memory, uint32_t n)
+{
+	return record(memory, BODY_YARDS, YARD_WORDS, n);
 }
 
 uint64_t lent_count(const uint32_t *counts, uint32_t kind)

@@ -15,7 +15,8 @@
 #include "product_table.h"
 
 enum {
-	LENT_WORDS = 8400,
+	LENT_SPARE = 236, /* words past the total of the largest table */
+	LENT_WORDS = PT_WORDS(PT_MAX_YARDS, PT_MAX_CABINETS, PT_MAX_LANES, PT_MAX_SLOTS) + LENT_SPARE,
 	LENT_ANSWER = PT_ANSWER_WORDS + 3 /* three words more, which stay */
 };
 
@@ -61,6 +62,7 @@ uint32_t *lent_global(uint32_t *memory);
 uint32_t *lent_cabinet(uint32_t *memory, uint32_t n);
 uint32_t *lent_lane(uint32_t *memory, uint32_t n);
 uint32_t *lent_slot(uint32_t *memory, uint32_t n);
+uint32_t *lent_yard(uint32_t *memory, uint32_t n);
 
 /* The count of a kind among four, of which each takes two words, low word first. */
 uint64_t lent_count(const uint32_t *counts, uint32_t kind);

@@ -1,7 +1,8 @@
 /*
  * line.h - a line of a listing, read byte by byte, so that it may be of any length
  * (document 01, "A listing, and edges"): a command and its arguments in decimal
- * digits, parted by single spaces.
+ * digits, parted by single spaces. A set-up may name any number of yards here: that a listing
+ * keeps to one is the listing program's rule.
  */
 #ifndef COMMON_LINE_H
 #define COMMON_LINE_H

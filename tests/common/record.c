@@ -28,7 +28,7 @@ static void note_words(struct record *record, const struct beside *beside)
 		if (beside->memory[n] == beside->left.memory[n])
 			continue;
 		if (record->differing < RECORD_WORDS) {
-			word_name(beside->memory + CONTENTS_CABINETS, n, record->word[record->differing].name);
+			word_name(sizes_of(beside->memory), n, record->word[record->differing].name);
 			record->word[record->differing].address = n;
 			record->word[record->differing].expected = beside->memory[n];
 			record->word[record->differing].left = beside->left.memory[n];
@@ -69,11 +69,6 @@ enum difference record_step(struct record *record, struct beside *beside, const 
 	uint32_t at = record->steps.count;
 
 	steps_add(&record->steps, step);
-	if (step_is_old_call(step)) {
-		record->difference = beside_step(beside, step);
-		memcpy(record->answer[at], beside->old_answer, sizeof record->answer[at]);
-		return record->difference;
-	}
 	if (!step_is_made(step))
 		return beside_step(beside, step);
 	record->under_way = true;
@@ -156,14 +151,10 @@ static void print_texts(const struct record *record, const char *engine, const c
 }
 
 /* What stands beside a step that is no call. */
-static void remark(const struct step *step, const uint32_t sizes[3], char text[WORD_TEXT + 8])
+static void remark(const struct step *step, struct sizes sizes, char text[WORD_TEXT + 8])
 {
 	char name[WORD_TEXT];
 
-	if (step->old) {
-		snprintf(text, WORD_TEXT + 8, "(of the old memory)");
-		return;
-	}
 	switch (step->kind) {
 	case STEP_POKE:
 		word_name(sizes, step->number, name);
@@ -175,9 +166,6 @@ static void remark(const struct step *step, const uint32_t sizes[3], char text[W
 	case STEP_ANSWER:
 		snprintf(text, WORD_TEXT + 8, "(so many words of answer are lent)");
 		break;
-	case STEP_HOLD:
-		snprintf(text, WORD_TEXT + 8, "(the old memory is a copy of the memory)");
-		break;
 	default:
 		snprintf(text, WORD_TEXT + 8, "(the words of the last accepted call)");
 	}
@@ -186,7 +174,7 @@ static void remark(const struct step *step, const uint32_t sizes[3], char text[W
 /* All steps with what was answered, but for the last if the list ended there. */
 static void print_steps(const struct record *record, FILE *file)
 {
-	uint32_t sizes[3] = { 0, 0, 0 };
+	struct sizes sizes = { 0 };
 	char text[STEP_TEXT], answer[WORD_TEXT + 8];
 	bool ended = record->under_way || record->difference != SAME;
 
@@ -194,7 +182,7 @@ static void print_steps(const struct record *record, FILE *file)
 		const struct step *step = &record->steps.step[n];
 
 		step_text(step, text);
-		if (!step_is_made(step) && !step_is_old_call(step))
+		if (!step_is_made(step))
 			remark(step, sizes, answer);
 		else if (ended && n + 1 == record->steps.count)
 			snprintf(answer, sizeof answer, "<- here");
@@ -202,10 +190,8 @@ static void print_steps(const struct record *record, FILE *file)
 			snprintf(answer, sizeof answer, "returned %" PRIu32, PT_SHORT_ANSWER);
 		else
 			line_answer(record->answer[n], answer);
-		if (step->kind == STEP_CALL && !step->old && step->call.name == CALL_SETUP &&
-				record->answer[n][0] == PT_OK)
-			for (int size = 0; size < 3; size++)
-				sizes[size] = (uint32_t)step->call.argument[size];
+		if (step->kind == STEP_CALL && step->call.name == CALL_SETUP && record->answer[n][0] == PT_OK)
+			sizes = call_sizes(&step->call);
 		fprintf(file, "      %-32s %s\n", text, answer);
 	}
 }

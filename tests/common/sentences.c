@@ -10,9 +10,7 @@
 #include "causes.h"
 #include "codes.h"
 #include "reference.h"
-#include "reference_v2.h"
 #include "table.h"
-#include "table_v2.h"
 #include "words.h"
 
 /* The sentences of one call. */
@@ -40,6 +38,7 @@ static const enum sentence legal_sentences[LEGAL_SENTENCES] = {
 	[LEGAL_LOOKUP_IN_SECTION] = SENTENCE_LEGAL_LOOKUP_IN_SECTION,
 	[LEGAL_SNAPSHOT_PENDING] = SENTENCE_LEGAL_SNAPSHOT_PENDING,
 	[LEGAL_CABINET_BITS] = SENTENCE_LEGAL_CABINET_BITS,
+	[LEGAL_YARD_BITS] = SENTENCE_LEGAL_YARD_BITS,
 	[LEGAL_FREE_SLOTS] = SENTENCE_LEGAL_FREE_SLOTS,
 	[LEGAL_LARGEST] = SENTENCE_LEGAL_LARGEST,
 	[LEGAL_LANE_GENERATION] = SENTENCE_LEGAL_LANE_GENERATION,
@@ -71,8 +70,7 @@ static enum sentence cause_sentence(uint32_t cause)
 /* Whether the call's lane is the first number that is none. */
 static bool first_past(const struct beside *beside)
 {
-	return call_argument(&beside->call, KIND_LANE, 0) ==
-		beside->before[CONTENTS_CABINETS] * beside->before[CONTENTS_LANES];
+	return call_argument(&beside->call, KIND_LANE, 0) == sizes_lanes(sizes_of(beside->before));
 }
 
 static void refused_tries(struct tally *tally, struct tries *tries, const struct beside *beside)
@@ -88,11 +86,12 @@ static void refused_tries(struct tally *tally, struct tries *tries, const struct
 		enum legal_sentence broken = ref_broken(beside->before, beside->words);
 
 		tries->of[broken < LEGAL_SENTENCES ? legal_sentences[broken] : SENTENCE_LEGAL] = true;
-		tries->of[SENTENCE_VERSION_3] = beside->words > CONTENTS_VERSION &&
+		tries->of[SENTENCE_VERSION] = beside->words > CONTENTS_VERSION &&
 			beside->before[CONTENTS_VERSION] != LAYOUT_VERSION;
-		tries->of[SENTENCE_VERSION] = tries->of[SENTENCE_VERSION_3];
 	}
 	tally->refused[beside->call.name][cause]++;
+	tries->of[SENTENCE_PRODUCT] = cause == PT_NO_LANE;
+	tries->of[SENTENCE_YARD_SIZES] = cause == PT_BAD_SIZE;
 	if (cause == PT_NO_LANE && first_past(beside))
 		tally->placed[PLACED_PAST]++;
 	for (uint32_t other = 1; other <= LAST_CAUSE; other++)
@@ -124,8 +123,17 @@ static void owner_tries(struct tries *tries, const struct table *then, const str
 	tries->of[SENTENCE_ADVANCE] |= retired_differ(before, after);
 	tries->of[SENTENCE_LATER] |= before->current.first != PT_NONE;
 	tries->of[SENTENCE_STEP_2] |= begun;
-	tries->of[SENTENCE_TRAP_JOINED] |= begun && then->pending_cabinets != 0 &&
+	tries->of[SENTENCE_TRAP_JOINED] |= begun && then->pending_yards != 0 &&
 		after->generation == now->current + 1;
+}
+
+/* Whether a cabinet's bit is gone. */
+static bool cabinet_went(const struct table *then, const struct table *now)
+{
+	for (uint32_t y = 0; y < then->sizes.yards; y++)
+		if ((then->pending_cabinets[y] & ~now->pending_cabinets[y]) != 0)
+			return true;
+	return false;
 }
 
 static void period_tries(struct tries *tries, const struct table *then, const struct table *now,
@@ -135,10 +143,9 @@ static void period_tries(struct tries *tries, const struct table *then, const st
 
 	tries->of[SENTENCE_PERIOD_RUNS] = true;
 	tries->of[SENTENCE_END_PERIOD] = ended;
-	tries->of[SENTENCE_BEGIN_PERIOD] = now->pending_cabinets != 0 &&
-		(ended || then->pending_cabinets == 0);
-	tries->of[SENTENCE_CABINET_BIT_GOES] = ended ||
-		(then->pending_cabinets & ~now->pending_cabinets) != 0;
+	tries->of[SENTENCE_BEGIN_PERIOD] = now->pending_yards != 0 && (ended || then->pending_yards == 0);
+	tries->of[SENTENCE_CABINET_BIT_GOES] = ended || cabinet_went(then, now);
+	tries->of[SENTENCE_YARD_BITS] = ended || then->pending_yards != now->pending_yards;
 	tries->of[SENTENCE_TRAP_SNAPSHOT] = ended && then->lane[lane].flags & FLAG_SNAPSHOT;
 	owner_tries(tries, then, now, &then->lane[lane].retired, &now->lane[lane].retired);
 	owner_tries(tries, then, now, &then->global, &now->global);
@@ -240,7 +247,7 @@ static void table_tries(struct tries *tries, const struct table *then, const str
 static void lane_tries(struct tries *tries, const struct table *then, const struct table *now,
 		const struct call *call, uint32_t lane)
 {
-	tries->of[SENTENCE_LANE_NUMBER] = lane >= then->lanes;
+	tries->of[SENTENCE_LANE_NUMBER] = lane >= then->sizes.lanes;
 	switch (call->name) {
 	case CALL_PASS:
 		tries->of[SENTENCE_PASS] = true;
@@ -306,12 +313,15 @@ static void place_tries(struct tally *tally, struct tries *tries, const struct t
 	struct place at = table_place(then, lane);
 
 	tries->of[SENTENCE_SUBTRACTED] = at.cabinet > 0;
+	tries->of[SENTENCE_YARD_SUBTRACTED] = at.yard > 0;
 	tries->of[SENTENCE_PLACES_SAME] = true;
 	if (call->name != CALL_PASS && call->name != CALL_CLOCK && call->name != CALL_OFF)
 		return;
-	tally->placed[PLACED_IN_FIRST] += at.cabinet == 0 ? 1u : 0u;
-	tally->placed[PLACED_AT_START] += at.cabinet > 0 && at.place == 0 ? 1u : 0u;
+	tally->placed[PLACED_IN_FIRST] += at.yard == 0 && at.cabinet == 0 ? 1u : 0u;
+	tally->placed[PLACED_AT_START] += (at.yard > 0 || at.cabinet > 0) && at.place == 0 ? 1u : 0u;
 	tally->placed[PLACED_IN_EIGHTH] += at.cabinet == PT_MAX_CABINETS - 1 ? 1u : 0u;
+	tally->placed[PLACED_IN_OTHER_YARD] += at.yard > 0 ? 1u : 0u;
+	tally->placed[PLACED_IN_EIGHTH_YARD] += at.yard == PT_MAX_YARDS - 1 ? 1u : 0u;
 }
 
 /* What an accepted step tries that the ledger judges: it may go on, or answers in time. */
@@ -337,11 +347,12 @@ static void accepted_tries(struct tally *tally, struct tries *tries, const struc
 	tries->of[SENTENCE_NONE] = true;
 	for (int record = SENTENCE_CONTENTS; record <= SENTENCE_SLOTS; record++)
 		tries->of[record] = beside->tried != NULL;
+	tries->of[SENTENCE_YARDS] = beside->tried != NULL;
 	if (beside->call.name == CALL_SETUP) {
 		tries->of[SENTENCE_SET_UP] = true;
 		tries->of[SENTENCE_TOTAL] = true;
+		tries->of[SENTENCE_YARD_SIZES] = true;
 		tries->of[SENTENCE_VERSION] = beside->tried != NULL;
-		tries->of[SENTENCE_VERSION_3] = beside->tried != NULL;
 		tries->of[SENTENCE_LENGTHS] = beside->tried != NULL;
 		return;
 	}
@@ -396,7 +407,7 @@ static bool goes_by_place(const struct beside *beside, const struct layout *layo
 {
 	uint64_t own = layout->first[BODY_LANES] + LANE_WORDS * call_argument(&beside->call, KIND_LANE, 0);
 
-	if (n < layout->first[BODY_LANES])
+	if (n < layout->first[BODY_LANES] || n >= layout->first[BODY_YARDS])
 		return n >= layout->first[BODY_CABINETS] || n == layout->first[BODY_GLOBAL] + GLOBAL_PENDING;
 	if (n < own || n >= own + LANE_WORDS)
 		return n < layout->first[BODY_SLOTS];
@@ -442,9 +453,9 @@ static bool blame_records(struct tries *broken, const struct tries *tries, const
 		[BODY_CABINETS] = SENTENCE_CABINETS,
 		[BODY_LANES] = SENTENCE_LANES,
 		[BODY_SLOTS] = SENTENCE_SLOTS,
+		[BODY_YARDS] = SENTENCE_YARDS,
 	};
-	struct layout layout = layout_of(beside->memory[CONTENTS_CABINETS],
-			beside->memory[CONTENTS_LANES], beside->memory[CONTENTS_SLOTS]);
+	struct layout layout = layout_of(sizes_of(beside->memory));
 	bool others = false;
 
 	for (uint32_t n = 0; n < layout.total && n < beside->words; n++) {
@@ -455,7 +466,7 @@ static bool blame_records(struct tries *broken, const struct tries *tries, const
 		while (body >= 0 && n < layout.first[body])
 			body--;
 		broken->of[body < 0 ? SENTENCE_CONTENTS : records[body]] = true;
-		broken->of[SENTENCE_VERSION_3] |= n == CONTENTS_VERSION;
+		broken->of[SENTENCE_VERSION] |= n == CONTENTS_VERSION;
 		broken->of[SENTENCE_WIDE_COUNTS] |= body >= 0 && of_count(body, n - layout.first[body]);
 		if (body >= 0 && blame_lines(broken, tries, &layout, body, n))
 			continue;
@@ -463,6 +474,7 @@ static bool blame_records(struct tries *broken, const struct tries *tries, const
 		if (!goes_by_place(beside, &layout, n))
 			continue;
 		broken->of[SENTENCE_SUBTRACTED] |= tries->of[SENTENCE_SUBTRACTED];
+		broken->of[SENTENCE_YARD_SUBTRACTED] |= tries->of[SENTENCE_YARD_SUBTRACTED];
 		broken->of[SENTENCE_PLACES_SAME] |= tries->of[SENTENCE_PLACES_SAME];
 	}
 	return others;
@@ -474,7 +486,8 @@ static void blame_rules(struct tries *broken, const struct tries *tries, const s
 	uint32_t generation = beside->before[CONTENTS_WORDS + GLOBAL_CURRENT_GENERATION];
 
 	for (int n = 0; n < SENTENCES; n++)
-		if (n == SENTENCE_STEP_2 || n == SENTENCE_CURRENT_TO_NEXT || n == SENTENCE_LOOKUP_DROPPED || (n >= SENTENCE_TRAP_CHAINED && n <= SENTENCE_TRAP_SNAPSHOT) ||
+		if (n == SENTENCE_STEP_2 || n == SENTENCE_CURRENT_TO_NEXT || n == SENTENCE_LOOKUP_DROPPED ||
+				n == SENTENCE_YARD_BITS || n == SENTENCE_PERIOD_RUNS || (n >= SENTENCE_TRAP_CHAINED && n <= SENTENCE_TRAP_SNAPSHOT) ||
 				(n >= SENTENCE_CABINET_BIT_GOES && n <= SENTENCE_STEP_ENDS))
 			broken->of[n] |= tries->of[n];
 	/* The order of generations, where the plain order is another. */
@@ -495,6 +508,8 @@ static void blame_status(struct tries *broken, const struct tries *tries, const 
 
 	broken->of[SENTENCE_CODE_LIMIT] = tries->of[SENTENCE_CODE_LIMIT];
 	broken->of[SENTENCE_END_UNFINISHED] = tries->of[SENTENCE_END_UNFINISHED];
+	broken->of[SENTENCE_PRODUCT] = expected == PT_NO_LANE || status == PT_NO_LANE;
+	broken->of[SENTENCE_YARD_SIZES] = expected == PT_BAD_SIZE || status == PT_BAD_SIZE;
 	broken->of[SENTENCE_CAUSE_9] = expected == PT_IN_LOOKUP ||
 		(status == PT_IN_LOOKUP && tries->of[SENTENCE_CAUSE_9]);
 	if (expected == PT_SHORT_ANSWER || status == PT_SHORT_ANSWER) {
@@ -508,7 +523,7 @@ static void blame_status(struct tries *broken, const struct tries *tries, const 
 		blame_digits(broken, tries, expected);
 		for (int n = 0; n < LEGAL_SENTENCES; n++)
 			broken->of[legal_sentences[n]] |= tries->of[legal_sentences[n]];
-		broken->of[SENTENCE_VERSION_3] |= tries->of[SENTENCE_VERSION_3];
+		broken->of[SENTENCE_VERSION] |= tries->of[SENTENCE_VERSION];
 		broken->of[SENTENCE_CAUSE_FIRST] |= status != PT_OK && status <= LAST_CAUSE &&
 			tries->of[SENTENCE_CAUSE_FIRST];
 	}
@@ -557,7 +572,6 @@ static void blame(struct tries *broken, const struct tries *tries, const struct 
 			blame_rules(broken, tries, beside);
 		break;
 	case DIFFERS_NOT_LEGAL: broken->of[SENTENCE_LEGAL] = true; break;
-	case DIFFERS_IN_STEP: broken->of[SENTENCE_CARRIED_ON] = true; break;
 	default: blame_ledger(broken, ledger_fault_of(beside->fault)); break;
 	}
 }
@@ -577,96 +591,7 @@ void tally_call(struct tally *tally, const struct beside *beside)
 
 	call_tries(tally, &tries, beside);
 	blame(&broken, &tries, beside);
-	tries.of[SENTENCE_CARRIED_ON] = beside->stepped;
 	tally->attained += beside->attained ? 1 : 0;
-	tally->stepped += beside->stepped ? 1 : 0;
-	tally_add(tally, &tries, &broken);
-}
-
-/* ---- the carry */
-
-/* What the old memory, which is legal, has going on. */
-static void carried_found(struct tally *tally, const uint32_t *old, size_t words)
-{
-	static struct v2_table table;
-
-	if (!v2_table_read_legal(&table, old, words))
-		return;
-	tally->carried[CARRIED_PERIODS] += table.pending_cabinets != 0 ? 1u : 0u;
-	for (uint32_t l = 0; l < v2_table_lanes(&table); l++) {
-		const struct v2_lane *lane = &table.lane[l];
-
-		tally->carried[CARRIED_SECTIONS] += lane->flags & V2_FLAG_READING ? 1u : 0u;
-		tally->carried[CARRIED_LOOKUPS] += lane->flags & V2_FLAG_LOOKUP ? 1u : 0u;
-		tally->carried[CARRIED_SNAPSHOTS] += lane->flags & V2_FLAG_SNAPSHOT ? 1u : 0u;
-		for (int kind = 0; kind < V2_KINDS; kind++)
-			tally->carried[CARRIED_AT_WRAP] += lane->counts[kind] == PT_NONE ? 1u : 0u;
-	}
-}
-
-static void carry_tries(struct tries *tries, const struct beside *beside, uint32_t status)
-{
-	enum legal_sentence unlawful;
-
-	switch (status) {
-	case PT_SHORT_ANSWER: tries->of[SENTENCE_SHORT_ANSWER] = true; break;
-	case PT_SHORT_SECOND: tries->of[SENTENCE_CARRY_REFUSED] = true; break;
-	case PT_NOT_LEGAL:
-		unlawful = v2_broken(beside->old, beside->old_words);
-		tries->of[SENTENCE_CAUSE_NOT_LEGAL] = true;
-		if (unlawful < LEGAL_SENTENCES)
-			tries->of[legal_sentences[unlawful]] = true;
-		break;
-	default:
-		for (int n = SENTENCE_CARRIED; n <= SENTENCE_CARRIED_ALL; n++)
-			tries->of[n] = true;
-		tries->of[SENTENCE_VERSION_3] = true;
-		tries->of[SENTENCE_CARRY_ENDS] = ref_legal(beside->before, beside->words);
-		tries->of[SENTENCE_CARRIED_LIST] = beside->fed;
-	}
-}
-
-static void carry_blame(struct tries *broken, const struct tries *tries, const struct beside *beside)
-{
-	uint32_t status = beside->left.status;
-	uint32_t expected = beside->judge != NULL ? beside->expected.status : status;
-
-	switch (beside->difference) {
-	case SAME: break;
-	case DIFFERS_STATUS:
-		broken->of[SENTENCE_CARRY_REFUSED] = expected == PT_SHORT_SECOND || status == PT_SHORT_SECOND;
-		broken->of[SENTENCE_CARRIED] = expected == PT_OK;
-		for (int n = 0; n < SENTENCES; n++)
-			broken->of[n] |= expected != PT_OK && tries->of[n];
-		break;
-	case DIFFERS_REFUSED: broken->of[SENTENCE_CAUSE_RETURNED] = true; break;
-	case DIFFERS_PAST_TOTAL: broken->of[SENTENCE_PAST_TOTAL] = true; break;
-	case DIFFERS_OUTSIDE: broken->of[SENTENCE_CALLED] = true; break;
-	case DIFFERS_LEDGER:
-		blame_ledger(broken, ledger_fault_of(beside->fault));
-		broken->of[SENTENCE_CARRIED_LIST] = true;
-		break;
-	case DIFFERS_WORDS:
-		blame_records(broken, tries, beside);
-		broken->of[SENTENCE_CARRIED_STATE] = true;
-		broken->of[SENTENCE_CARRIED_ALL] = true;
-		break;
-	case DIFFERS_ANSWER: broken->of[SENTENCE_CARRIED_TOTAL] = true; break;
-	default: broken->of[SENTENCE_CARRIED] = true; break;
-	}
-}
-
-void tally_carry(struct tally *tally, const struct beside *beside)
-{
-	struct tries tries = { { false } }, broken = { { false } };
-	const struct left *left = beside->judge != NULL ? &beside->expected : &beside->left; /* by the ledger alone */
-
-	carry_tries(&tries, beside, left->status);
-	carry_blame(&broken, &tries, beside);
-	if (left->status <= PT_SHORT_SECOND)
-		tally->carries[left->status]++;
-	if (left->status == PT_OK)
-		carried_found(tally, beside->old, beside->old_words);
 	tally_add(tally, &tries, &broken);
 }
 
@@ -750,9 +675,10 @@ void print_dropped(const struct tally *tally)
 void print_placed(const struct tally *tally)
 {
 	printf("passes, clocks and offs: %" PRIu64 " in cabinet 0, %" PRIu64 " at the first place of another, %" PRIu64
-		" in the eighth; %" PRIu64 " calls of the first number that is no lane\n",
-		tally->placed[PLACED_IN_FIRST], tally->placed[PLACED_AT_START],
-		tally->placed[PLACED_IN_EIGHTH], tally->placed[PLACED_PAST]);
+		" in the eighth of a yard, %" PRIu64 " in another yard than 0, %" PRIu64 " in the eighth; %" PRIu64
+		" calls of the first number that is no lane\n",
+		tally->placed[PLACED_IN_FIRST], tally->placed[PLACED_AT_START], tally->placed[PLACED_IN_EIGHTH],
+		tally->placed[PLACED_IN_OTHER_YARD], tally->placed[PLACED_IN_EIGHTH_YARD], tally->placed[PLACED_PAST]);
 }
 
 void print_attained(const struct tally *tally)
@@ -766,16 +692,6 @@ void print_moved(const struct tally *tally)
 		" to both; by %" PRIu64 " offs\n",
 		tally->moved[MOVED_TO_LANE], tally->moved[MOVED_TO_HOUSE], tally->moved[MOVED_TO_BOTH],
 		tally->moved[MOVED_BY_OFF]);
-}
-
-void print_carried(const struct tally *tally)
-{
-	printf("carried: %" PRIu64 ", with %" PRIu64 " open sections, %" PRIu64 " lookups, %" PRIu64 " running periods, %" PRIu64
-		" snapshots, %" PRIu64 " counts at the wrap; 3: %" PRIu64 ", 19: %" PRIu64 "; calls after it in step with the old memory: %"
-		PRIu64 "\n",
-		tally->carries[PT_OK], tally->carried[CARRIED_SECTIONS], tally->carried[CARRIED_LOOKUPS],
-		tally->carried[CARRIED_PERIODS], tally->carried[CARRIED_SNAPSHOTS], tally->carried[CARRIED_AT_WRAP],
-		tally->carries[PT_NOT_LEGAL], tally->carries[PT_SHORT_SECOND], tally->stepped);
 }
 
 static void print_line(uint64_t tried, uint64_t broken, const char *text)

@@ -24,10 +24,12 @@ enum dropped { DROPPED_AT_HEAD, DROPPED_ON_CHAIN, DROPPED_OFF_CHAINS, DROPPED_AT
 
 /* Where a lane stood that passed, had its clock or went off; and calls refused that named no lane. */
 enum placed {
-	PLACED_IN_FIRST,  /* cabinet 0: nothing is subtracted */
-	PLACED_AT_START,  /* the first place of another cabinet: 0 is left */
-	PLACED_IN_EIGHTH, /* the eighth cabinet: the size is subtracted seven times */
-	PLACED_PAST,	  /* the first number that is no lane */
+	PLACED_IN_FIRST,	/* cabinet 0 of yard 0: nothing is subtracted */
+	PLACED_AT_START,	/* the first place of another cabinet: 0 is left */
+	PLACED_IN_EIGHTH,	/* the eighth cabinet: its size is subtracted seven times */
+	PLACED_IN_OTHER_YARD,	/* not yard 0 */
+	PLACED_IN_EIGHTH_YARD,	/* the eighth yard: its size is subtracted seven times */
+	PLACED_PAST,		/* the first number that is no lane */
 	PLACED
 };
 
@@ -36,9 +38,6 @@ enum placed {
  * off, besides its lane's own.
  */
 enum moved { MOVED_TO_LANE, MOVED_TO_HOUSE, MOVED_TO_BOTH, MOVED_BY_OFF, MOVED };
-
-/* What a carry found: sections, lookups halfway, a running period, snapshots, counts at the last number; and how it ended. */
-enum carried { CARRIED_SECTIONS, CARRIED_LOOKUPS, CARRIED_PERIODS, CARRIED_SNAPSHOTS, CARRIED_AT_WRAP, CARRIED };
 
 /* How often each was tried, and how often it did not hold. */
 struct tally {
@@ -52,9 +51,6 @@ struct tally {
 	uint64_t placed[PLACED];
 	uint64_t attained; /* lookups that step n + 1 answered, and none before it */
 	uint64_t moved[MOVED];
-	uint64_t carries[PT_SHORT_SECOND + 1]; /* 0, and by cause */
-	uint64_t carried[CARRIED];
-	uint64_t stepped; /* calls in step with an old memory */
 	/* how often a cause was answered while another of the call's applied as well */
 	uint64_t before[CALLS][LAST_CAUSE + 1][LAST_CAUSE + 1];
 };
@@ -74,17 +70,11 @@ void print_attained(const struct tally *tally);
 /* How many clocks and offs brought slots to done lines: a line. */
 void print_moved(const struct tally *tally);
 
-/* How many carries there were, and what they found; and how many calls came after them in step: a line. */
-void print_carried(const struct tally *tally);
-
 /* Adds the last call of a run that has a judge, and its difference. */
 void tally_call(struct tally *tally, const struct beside *beside);
 
 /* Adds the last step, of a label function, and its difference. */
 void tally_label(struct tally *tally, const struct beside *beside, const struct step *step);
-
-/* Adds the last step, a carry, and its difference. */
-void tally_carry(struct tally *tally, const struct beside *beside);
 
 /* What is found of a call where there is no judge but the ledger. */
 struct verdict {

@@ -97,19 +97,11 @@ static void exchange(struct steps *steps, enum kind kind, uint64_t from, uint64_
 /* After a set-up's sizes changed: pokes up to the next set-up go to the same words as before. */
 static void move_pokes(struct steps *steps, uint32_t setup, const struct call *old)
 {
-	uint32_t from[3], to[3];
+	struct sizes from = call_sizes(old), to = call_sizes(&steps->step[setup].call);
 
-	for (int n = 0; n < 3; n++) {
-		from[n] = (uint32_t)old->argument[n];
-		to[n] = (uint32_t)steps->step[setup].call.argument[n];
-	}
 	for (uint32_t n = setup + 1; n < steps->count; n++) {
 		struct step *step = &steps->step[n];
 
-		if (steps->step[setup].old || step->kind == STEP_CARRY) /* the words of version 2 stand elsewhere */
-			return;
-		if (step->old)
-			continue;
 		if (step->kind == STEP_CALL && step->call.name == CALL_SETUP)
 			return;
 		if (step->kind == STEP_POKE) {
@@ -126,6 +118,7 @@ static bool smaller(enum kind kind, uint64_t value, uint32_t n, uint64_t *to)
 	static const uint64_t sizes[] = { 1, 2, 3, 4 };
 
 	switch (kind) {
+	case KIND_YARDS:
 	case KIND_CABINETS:
 	case KIND_LANES:
 	case KIND_SLOTS:

@@ -40,12 +40,7 @@ bool step_is_label(const struct step *step)
 
 bool step_is_made(const struct step *step)
 {
-	return (step->kind == STEP_CALL && !step->old) || step_is_label(step) || step->kind == STEP_CARRY;
-}
-
-bool step_is_old_call(const struct step *step)
-{
-	return step->kind == STEP_CALL && step->old;
+	return step->kind == STEP_CALL || step_is_label(step);
 }
 
 uint32_t steps_calls(const struct steps *steps)
@@ -53,14 +48,14 @@ uint32_t steps_calls(const struct steps *steps)
 	uint32_t calls = 0;
 
 	for (uint32_t n = 0; n < steps->count; n++)
-		calls += step_is_made(&steps->step[n]) || step_is_old_call(&steps->step[n]) ? 1u : 0u;
+		calls += step_is_made(&steps->step[n]) ? 1u : 0u;
 	return calls;
 }
 
 bool steps_are_calls(const struct steps *steps)
 {
 	for (uint32_t n = 0; n < steps->count; n++)
-		if (steps->step[n].kind != STEP_CALL || steps->step[n].old)
+		if (steps->step[n].kind != STEP_CALL)
 			return false;
 	return true;
 }
@@ -100,22 +95,8 @@ static bool read_bytes(const char *text, struct step *step)
 	return *text == '\'';
 }
 
-/* Before a line of a step on the old memory. */
-static const char OLD[] = "old ";
-enum { OLD_TEXT = sizeof OLD - 1 };
-_Static_assert((int)STEP_TEXT >= (int)LINE_TEXT + OLD_TEXT, "an old call's line has room");
-
 void step_text(const struct step *step, char text[STEP_TEXT])
 {
-	if (step->old) {
-		struct step plain = *step;
-		char rest[STEP_TEXT];
-
-		plain.old = false;
-		step_text(&plain, rest);
-		snprintf(text, STEP_TEXT, "%s%.*s", OLD, (int)(STEP_TEXT - sizeof OLD), rest);
-		return;
-	}
 	switch (step->kind) {
 	case STEP_POKE:
 		snprintf(text, STEP_TEXT, "poke %" PRIu32 " %" PRIu32, step->number, step->value);
@@ -129,12 +110,6 @@ void step_text(const struct step *step, char text[STEP_TEXT])
 	case STEP_MEND:
 		snprintf(text, STEP_TEXT, "mend");
 		break;
-	case STEP_CARRY:
-		snprintf(text, STEP_TEXT, "carry");
-		break;
-	case STEP_HOLD:
-		snprintf(text, STEP_TEXT, "hold");
-		break;
 	case STEP_READ:
 		read_text(step, text);
 		break;
@@ -146,21 +121,10 @@ void step_text(const struct step *step, char text[STEP_TEXT])
 	}
 }
 
-/* A step on the old memory, of the kinds that it has. */
-static bool read_old(const char *text, struct step *step)
-{
-	if (!step_read(text, step) || step->old)
-		return false;
-	step->old = true;
-	return step->kind == STEP_CALL || step->kind == STEP_POKE || step->kind == STEP_LEND;
-}
-
 bool step_read(const char *text, struct step *step)
 {
 	memset(step, 0, sizeof *step);
 	step->kind = STEP_CALL;
-	if (strncmp(text, OLD, OLD_TEXT) == 0)
-		return read_old(text + OLD_TEXT, step);
 	if (sscanf(text, "poke %" SCNu32 " %" SCNu32, &step->number, &step->value) == 2)
 		step->kind = STEP_POKE;
 	else if (sscanf(text, "lend %" SCNu32, &step->number) == 1)
@@ -169,10 +133,6 @@ bool step_read(const char *text, struct step *step)
 		step->kind = STEP_ANSWER;
 	else if (strcmp(text, "mend") == 0)
 		step->kind = STEP_MEND;
-	else if (strcmp(text, "carry") == 0)
-		step->kind = STEP_CARRY;
-	else if (strcmp(text, "hold") == 0)
-		step->kind = STEP_HOLD;
 	else if (sscanf(text, "write %" SCNu32 " %" SCNu64, &step->number, &step->code) == 2 && step->number <= LABEL_MOST)
 		step->kind = STEP_WRITE;
 	else if (strncmp(text, "read '", strlen("read '")) == 0 && read_bytes(text + strlen("read '"), step))

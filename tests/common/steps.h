@@ -1,8 +1,7 @@
 /*
  * steps.h - a list of steps, as runs draw, judge, shrink and print it: calls, and what may
  * be done between calls to a memory that is lent. As text a step is a line, a call's that of
- * a listing. A list has an old memory too, of version 2, which a carry takes: with "old "
- * before it a line is a step on that one, a call of version 2, a poke, or words lent.
+ * a listing, but that a set-up may name any number of yards.
  */
 #ifndef COMMON_STEPS_H
 #define COMMON_STEPS_H
@@ -21,15 +20,12 @@ enum step_kind {
 	STEP_MEND,   /* "mend": the words of the last accepted call are back, and all is lent */
 	STEP_READ,   /* "read 'TEXT'": the label reader on these bytes; a byte as \xHH where it does not print */
 	STEP_WRITE,  /* "write N C": the label writer on a text of N bytes, with the code C */
-	STEP_CARRY,  /* "carry": from the old memory into the memory */
-	STEP_HOLD,   /* "hold": the old memory becomes a copy of the memory, of whatever version */
 };
 
 enum { LABEL_MOST = 24 }; /* bytes of a text */
 
 struct step {
 	enum step_kind kind;
-	bool old; /* on the old memory */
 	struct call call;
 	uint32_t number; /* of a poke the address, of a label function the bytes lent */
 	uint32_t value;
@@ -39,7 +35,7 @@ struct step {
 
 enum { STEPS_MOST = 6000 };
 
-/* A list. It begins on two memories of no meaning, all of both lent. */
+/* A list. It begins on a memory of no meaning, all of it lent. */
 struct steps {
 	uint32_t count;
 	struct step step[STEPS_MOST];
@@ -52,15 +48,11 @@ void steps_call(struct steps *steps, const struct call *call);
 /* Removes @count steps from @at on. */
 void steps_remove(struct steps *steps, uint32_t at, uint32_t count);
 
-/*
- * Whether the step is one of a label function, whether it makes a call of any kind, and whether
- * it makes one of version 2, on the old memory, which no engine makes.
- */
+/* Whether the step is one of a label function, and whether it makes a call of any kind. */
 bool step_is_label(const struct step *step);
 bool step_is_made(const struct step *step);
-bool step_is_old_call(const struct step *step);
 
-/* How many of them make a call, of either version, and whether all are calls on a memory. */
+/* How many of them make a call, and whether all are calls on a memory. */
 uint32_t steps_calls(const struct steps *steps);
 bool steps_are_calls(const struct steps *steps);
 

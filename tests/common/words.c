@@ -6,7 +6,6 @@
 #include <inttypes.h>
 #include <stdio.h>
 
-#include "layout.h"
 #include "table.h"
 
 /* A field of a record: where it begins, and what its words are. */
@@ -27,23 +26,25 @@ static const char *const kinds[] = {
 static const char *const bodies[] = {
 	"first word of the house", "length of the house", "first word of the cabinets",
 	"length of the cabinets", "first word of the lanes", "length of the lanes",
-	"first word of the slots", "length of the slots",
+	"first word of the slots", "length of the slots", "first word of the yards",
+	"length of the yards",
 };
 
 /* Each list ends at the record's length. */
 static const struct field contents[] = {
 	{ CONTENTS_VERSION, "version", NULL },
-	{ CONTENTS_CABINETS, "cabinets", NULL },
+	{ CONTENTS_CABINETS, "cabinets per yard", NULL },
 	{ CONTENTS_LANES, "lanes per cabinet", NULL },
 	{ CONTENTS_SLOTS, "slots", NULL },
 	{ CONTENTS_BODIES, "bodies", bodies },
+	{ CONTENTS_YARDS, "yards", NULL },
 	{ CONTENTS_WORDS, NULL, NULL },
 };
 
 static const struct field house[] = {
 	{ GLOBAL_CURRENT_GENERATION, "current generation", NULL },
 	{ GLOBAL_LARGEST_GENERATION, "largest generation requested", NULL },
-	{ GLOBAL_PENDING, "cabinet mask", NULL },
+	{ GLOBAL_PENDING, "yard mask", NULL },
 	{ GLOBAL_CHAINS, "chain head", NULL },
 	{ GLOBAL_FREE, "free line", line },
 	{ GLOBAL_NEXT, "next line", line },
@@ -80,6 +81,11 @@ static const struct field slot[] = {
 	{ SLOT_WORDS, NULL, NULL },
 };
 
+static const struct field yard[] = {
+	{ YARD_PENDING, "cabinet mask", NULL },
+	{ YARD_WORDS, NULL, NULL },
+};
+
 /* The name of word @at of a record that is called @record. */
 static void field_name(const struct field *field, const char *record, uint32_t at,
 		char text[WORD_TEXT])
@@ -106,14 +112,13 @@ static const struct {
 	[BODY_CABINETS] = { "cabinet", cabinet, CABINET_WORDS },
 	[BODY_LANES] = { "lane", lane, LANE_WORDS },
 	[BODY_SLOTS] = { "slot", slot, SLOT_WORDS },
+	[BODY_YARDS] = { "yard", yard, YARD_WORDS },
 };
 
 /* The layout for any sizes; its total is 0 where they are out of range. */
-static struct layout layout_for(const uint32_t sizes[3])
+static struct layout layout_for(struct sizes sizes)
 {
-	if (!sizes_in_range(sizes[0], sizes[1], sizes[2]))
-		return (struct layout){ .total = 0 };
-	return layout_of(sizes[0], sizes[1], sizes[2]);
+	return sizes_in_range(sizes) ? layout_of(sizes) : (struct layout){ .total = 0 };
 }
 
 /* The body of an address from the contents' end on, below the total. */
@@ -126,7 +131,7 @@ static int body_of(const struct layout *layout, size_t address)
 	return body;
 }
 
-void word_name(const uint32_t sizes[3], size_t address, char text[WORD_TEXT])
+void word_name(struct sizes sizes, size_t address, char text[WORD_TEXT])
 {
 	struct layout layout = layout_for(sizes);
 	char record[WORD_TEXT / 2] = "house";
@@ -149,7 +154,7 @@ void word_name(const uint32_t sizes[3], size_t address, char text[WORD_TEXT])
 	field_name(records[body].fields, record, (uint32_t)(address % records[body].words), text);
 }
 
-size_t word_moved(const uint32_t sizes[3], size_t address, const uint32_t other[3])
+size_t word_moved(struct sizes sizes, size_t address, struct sizes other)
 {
 	struct layout from = layout_for(sizes), to = layout_for(other);
 	int body;

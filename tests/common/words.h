@@ -8,13 +8,15 @@
 #include <stddef.h>
 #include <stdint.h>
 
+#include "layout.h"
+
 enum { WORD_TEXT = 100 };
 
-/* The name of the word at an address, in a table of these sizes: cabinets, lanes, slots. */
-void word_name(const uint32_t sizes[3], size_t address, char text[WORD_TEXT]);
+/* The name of the word at an address, in a table of these sizes. */
+void word_name(struct sizes sizes, size_t address, char text[WORD_TEXT]);
 
 /* Where that word stands in a table of other sizes, or SIZE_MAX if it has no such record. */
-size_t word_moved(const uint32_t sizes[3], size_t address, const uint32_t other[3]);
+size_t word_moved(struct sizes sizes, size_t address, struct sizes other);
 
 /* A value, where none is called so. */
 void word_value(uint32_t value, char text[WORD_TEXT]);

@@ -65,11 +65,23 @@ static void lane_letters(uint32_t lane)
 	letter(CALL_HAND_BACK, lane, 0, 0, 0);
 }
 
+/* The set-up of a table of some sizes. */
+static void setup_letter(struct sizes sizes)
+{
+	letter(CALL_SETUP, sizes.yards, sizes.cabinets, sizes.lanes, sizes.slots);
+}
+
 /* Calls that are refused in every state. */
 static void refused_letters(void)
 {
-	letter(CALL_SETUP, 0, form->lanes, form->slots, 0);
-	letter(CALL_SETUP, form->cabinets, form->lanes, form->slots + 1, 0); /* no words for it */
+	struct sizes no_yard = form->sizes, more_yards = form->sizes, more_slots = form->sizes;
+
+	no_yard.yards = 0;
+	more_yards.yards++; /* there are no words for it, nor for another slot */
+	more_slots.slots++;
+	setup_letter(no_yard);
+	setup_letter(more_yards);
+	setup_letter(more_slots);
 	letter(CALL_ADD, 0, PT_MAX_CODE + 1, 1, 1);
 	for (uint32_t n = 0; n < form->codes; n++) { /* wrong check digits; delete takes them, and finds no record */
 		letter(CALL_ADD, 0, wrong_code(codes[n]), 1, 1);
@@ -84,15 +96,15 @@ static void refused_letters(void)
 void make_alphabet(const struct table_form *of)
 {
 	form = of;
-	lanes = form->cabinets * form->lanes;
+	lanes = sizes_lanes(form->sizes);
 	for (uint32_t n = 0; n < CODES; n++)
 		codes[n] = (uint32_t)CODE_OF_CHAIN(0, n);
 	letters = 0;
-	letter(CALL_SETUP, form->cabinets, form->lanes, form->slots, 0);
+	setup_letter(form->sizes);
 	letter(CALL_AWAITED, 0, 0, 0, 0);
 	for (uint32_t lane = 0; lane < lanes; lane++)
 		lane_letters(lane);
-	if (lanes * form->slots <= 2)
+	if (lanes * form->sizes.slots <= 2)
 		refused_letters();
 }
 

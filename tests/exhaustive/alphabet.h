@@ -17,7 +17,8 @@ enum {
 
 /* A table and its alphabet. */
 struct table_form {
-	uint32_t cabinets, lanes, slots, codes;
+	struct sizes sizes;
+	uint32_t codes;
 	uint32_t absent; /* 1: lookups, too, of a code that no record has */
 	uint32_t kinds;
 	uint32_t changing, reading; /* masks of the lanes that change records, and that read */
@@ -27,7 +28,7 @@ struct table_form {
 	uint32_t levels;	    /* calls of the longest lists; 0: no bound */
 };
 
-/* The table that is searched, and the lanes of all its cabinets. */
+/* The table that is searched, and all its lanes. */
 extern const struct table_form *form;
 extern uint32_t lanes;
 

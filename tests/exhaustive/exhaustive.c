@@ -44,22 +44,27 @@
 
 /* In the order of the fields of alphabet.h. */
 static const struct table_form forms[] = {
-	{ 1, 1, 1, 2, 1, 4, 1, 1, 1, 1, 0, 0 },
-	{ 1, 1, 2, 2, 1, 2, 1, 1, 1, 1, 0, 0 },
-	{ 1, 1, 2, 2, 0, 2, 1, 1, 1, PT_NONE, UINT64_MAX, 0 },
-	{ 1, 1, 3, 2, 1, 1, 1, 1, 1, 1, 0, 14 },
-	{ 1, 2, 1, 2, 0, 1, 3, 3, 1, 1, 0, 0 },
-	{ 1, 3, 1, 1, 0, 1, 1, 6, 1, 1, 0, 0 },
-	{ 1, 2, 2, 2, 1, 1, 1, 2, 1, 1, 0, 0 },
-	{ 2, 1, 2, 2, 0, 1, 1, 2, 1, PT_NONE, PT_NONE, 0 },
-	{ 1, 2, 2, 1, 0, 1, 3, 3, 1, 1, 0, 0 },
-	{ 1, 2, 2, 2, 0, 1, 3, 3, 1, 1, 0, 10 },
+	{ { 1, 1, 1, 1 }, 2, 1, 4, 1, 1, 1, 1, 0, 0 },
+	{ { 1, 1, 1, 2 }, 2, 1, 2, 1, 1, 1, 1, 0, 0 },
+	{ { 1, 1, 1, 2 }, 2, 0, 2, 1, 1, 1, PT_NONE, UINT64_MAX, 0 },
+	{ { 1, 1, 1, 3 }, 2, 1, 1, 1, 1, 1, 1, 0, 14 },
+	{ { 1, 1, 2, 1 }, 2, 0, 1, 3, 3, 1, 1, 0, 0 },
+	{ { 1, 1, 3, 1 }, 1, 0, 1, 1, 6, 1, 1, 0, 0 },
+	{ { 1, 1, 2, 2 }, 2, 1, 1, 1, 2, 1, 1, 0, 0 },
+	{ { 1, 2, 1, 2 }, 2, 0, 1, 1, 2, 1, PT_NONE, PT_NONE, 0 },
+	{ { 1, 1, 2, 2 }, 1, 0, 1, 3, 3, 1, 1, 0, 0 },
+	{ { 1, 1, 2, 2 }, 2, 0, 1, 3, 3, 1, 1, 0, 10 },
+	{ { 2, 1, 1, 1 }, 2, 0, 1, 3, 3, 1, 1, 0, 0 },
+	{ { 2, 1, 1, 2 }, 2, 0, 1, 1, 2, 1, PT_NONE, PT_NONE, 0 },
+	{ { 3, 1, 1, 1 }, 1, 0, 1, 1, 6, 1, 1, 0, 0 },
+	{ { 2, 2, 1, 1 }, 1, 0, 1, 1, 4, 0, 1, 0, 0 },
+	{ { 2, 1, 2, 1 }, 1, 0, 1, 2, 8, 0, 1, 0, 0 },
 };
 
 enum {
 	PAST = 4, /* words past the total */
 	WORDS = CONTENTS_WORDS + GLOBAL_WORDS + CABINET_WORDS * LEDGER_LANES +
-		LANE_WORDS * LEDGER_LANES + SLOT_WORDS * LEDGER_SLOTS,
+		LANE_WORDS * LEDGER_LANES + SLOT_WORDS * LEDGER_SLOTS + YARD_WORDS * LEDGER_LANES,
 	LEDGER_WORDS = sizeof(struct ledger) / sizeof(uint32_t),
 	PACKED = WORDS + LEDGER_WORDS,
 	PACKED_CODE = 100,   /* stands for the first code in a byte; plain words are below */
@@ -101,8 +106,7 @@ static uint64_t moved_more;    /* clocks that brought more than one */
 
 static uint32_t *lane_words(uint32_t *memory, uint32_t lane)
 {
-	return memory + CONTENTS_WORDS + GLOBAL_WORDS + CABINET_WORDS * form->cabinets +
-		LANE_WORDS * lane;
+	return memory + layout_of(form->sizes).first[BODY_LANES] + LANE_WORDS * lane;
 }
 
 /* ---- a state's one form */
@@ -139,22 +143,6 @@ static void shift(uint32_t *memory)
 		shift_generation(&lane[LANE_GENERATION], &lane[LANE_CURRENT], by);
 		for (uint32_t kind = 0; kind < KINDS; kind++)
 			shift_counts(lane, kind);
-	}
-}
-
-static int compare_searches(const void *a, const void *b)
-{
-	return memcmp(a, b, sizeof(struct ledger_search));
-}
-
-/* The order in which the ledger noted searches and finds does not matter. */
-static void sort_ledger(struct ledger *ledger)
-{
-	for (uint32_t l = 0; l < lanes; l++) {
-		struct ledger_lane *lane = &ledger->lane[l];
-
-		qsort(lane->search, lane->searches, sizeof lane->search[0], compare_searches);
-		qsort(lane->find, lane->finds, sizeof lane->find[0], compare_searches);
 	}
 }
 
@@ -253,7 +241,6 @@ static void meet(struct state *state, uint32_t parent, uint32_t call, uint32_t l
 	if (states == room)
 		make_room();
 	shift(state->memory);
-	sort_ledger(&state->ledger);
 	pack(&kept[states], state);
 	at = place_of(&kept[states]);
 	if (place[at] != 0)
@@ -382,15 +369,15 @@ static void print_counts(void)
 
 static void start(void)
 {
+	struct call setup = call_setup(form->sizes);
 	struct state state;
 	uint32_t answer[PT_ANSWER_WORDS];
 
-	total = PT_WORDS(form->cabinets, form->lanes, form->slots);
+	total = layout_of(form->sizes).total;
 	for (size_t n = 0; n < WORDS + PAST; n++)
 		state.memory[n] = FILL;
 	ledger_reset(&state.ledger);
-	if (tested.setup(state.memory, total, answer, PT_ANSWER_WORDS, form->cabinets,
-			form->lanes, form->slots) != PT_OK) {
+	if (call_make(&tested, state.memory, total, answer, PT_ANSWER_WORDS, &setup) != PT_OK) {
 		fprintf(stderr, "exhaustive: set-up is refused\n");
 		exit(1);
 	}
@@ -436,10 +423,10 @@ static void run(void)
 	level = search();
 	progress_clear();
 	all_states += states;
-	printf("%" PRIu32 " x %" PRIu32 " x %" PRIu32 ", codes %" PRIu32 "%s, kinds %" PRIu32
+	printf("%" PRIu32 " x %" PRIu32 " x %" PRIu32 " x %" PRIu32 ", codes %" PRIu32 "%s, kinds %" PRIu32
 		"%s, lanes that change %#" PRIx32 ", that read %#" PRIx32 ", generation %" PRIu32
 		": %zu states, %" PRIu64 " calls, %s %" PRIu32 " deep, %.1f s\n",
-		form->cabinets, form->lanes, form->slots, form->codes,
+		form->sizes.yards, form->sizes.cabinets, form->sizes.lanes, form->sizes.slots, form->codes,
 		form->absent ? " and one absent" : "", form->kinds,
 		form->around ? " around" : "", form->changing, form->reading, form->generation,
 		states, calls - before, form->levels == 0 ? "all, at most" : "those at most",

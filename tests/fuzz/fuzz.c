@@ -3,8 +3,7 @@
  * bytes (stream.h). Each step is taken on both and judged as in every comparison (beside.h):
  * status, answer and every word; what stays; legality; and the ledger of demand 3, which
  * counts the steps of lookups and what comes to done queues too, as long as nothing was
- * damaged. A difference is shrunk and printed, and ends the run. Old memories, of version 2,
- * are made by the C version of version 2, and carried.
+ * damaged. A difference is shrunk and printed, and ends the run.
  *
  * The library is not compiled with the sanitizers. So memory and answer end where a page
  * begins that may be neither read nor written: a word past what is lent ends the run, and
@@ -16,8 +15,6 @@
 #include <stdlib.h>
 
 #include "layout.h"
-#include "layout_v2.h"
-#include "old.h"
 #include "record.h"
 #include "shrink.h"
 #include "stream.h"
@@ -26,7 +23,8 @@ int LLVMFuzzerTestOneInput(const uint8_t *bytes, size_t count);
 
 enum {
 	LONGEST = 400,	/* operations of one stream */
-	ROUND_STEPS = 3 * PT_MAX_CABINETS * PT_MAX_LANES,
+	ROUND_LANES = 64, /* that take part in a round, at most */
+	ROUND_STEPS = 3 * ROUND_LANES,
 	SHRINK_TESTS = 20000
 };
 
@@ -37,7 +35,7 @@ static uint64_t labels[2][PT_WRONG_LABEL + 1]; /* read and written: 0, and by ca
 static uint64_t dropped; /* lookups, by the ends of their sections */
 static uint64_t attained; /* lookups that step n + 1 answered, and none before it */
 static uint64_t moving[CALLS]; /* calls that brought slots to done queues */
-static uint64_t old_calls, carries[PT_SHORT_SECOND + 1], stepped; /* carries: 0, and by cause; calls after one, in step */
+static uint64_t in_yards; /* accepted calls on tables of several */
 
 static void report(void)
 {
@@ -52,9 +50,7 @@ static void report(void)
 	printf("\nfuzz: lookups dropped %" PRIu64 ", answered by step n + 1 and no sooner %" PRIu64, dropped, attained);
 	printf("\nfuzz: clocks that moved slots into done queues %" PRIu64 ", offs %" PRIu64, moving[CALL_CLOCK],
 		moving[CALL_OFF]);
-	printf("\nfuzz: calls on old memories %" PRIu64 ", carried %" PRIu64 ", 3: %" PRIu64 ", 19: %" PRIu64
-		"; calls after it in step with the old memory %" PRIu64,
-		old_calls, carries[PT_OK], carries[PT_NOT_LEGAL], carries[PT_SHORT_SECOND], stepped);
+	printf("\nfuzz: accepted calls on tables of several yards %" PRIu64, in_yards);
 	printf("\nfuzz: labels read %" PRIu64 ", 18: %" PRIu64 "; written %" PRIu64 ", 11: %" PRIu64 ", 18: %" PRIu64 "\n",
 		labels[0][PT_OK], labels[0][PT_WRONG_LABEL], labels[1][PT_OK], labels[1][PT_OUT_OF_RANGE],
 		labels[1][PT_WRONG_LABEL]);
@@ -63,8 +59,7 @@ static void report(void)
 /* Whether the last call, which was accepted, ended a section with its lookup running. */
 static bool dropped_lookup(const struct call *call)
 {
-	struct layout layout = layout_of(beside.before[CONTENTS_CABINETS],
-			beside.before[CONTENTS_LANES], beside.before[CONTENTS_SLOTS]);
+	struct layout layout = layout_of(sizes_of(beside.before));
 
 	return call->name == CALL_END && beside.before[layout.first[BODY_LANES] +
 		LANE_WORDS * call->argument[0] + LANE_FLAGS] & FLAG_LOOKUP;
@@ -76,7 +71,7 @@ static void count_call(const struct call *call, uint32_t status)
 	fed += beside.fed ? 1 : 0;
 	attained += beside.attained ? 1 : 0;
 	moving[call->name] += beside.moved > 0 ? 1 : 0;
-	stepped += beside.stepped ? 1 : 0;
+	in_yards += status == PT_OK && beside.memory[CONTENTS_YARDS] > 1 ? 1 : 0;
 	if (status == PT_SHORT_ANSWER)
 		short_answers++;
 	else if (status != PT_OK)
@@ -117,12 +112,8 @@ static void take(const struct step *step)
 	record_step(&record, &beside, step);
 	if (record.difference != SAME)
 		fault();
-	if (step_is_old_call(step))
-		old_calls++;
-	else if (step->kind == STEP_CALL)
+	if (step->kind == STEP_CALL)
 		count_call(&step->call, beside.left.status);
-	else if (step->kind == STEP_CARRY && beside.left.status != PT_SHORT_ANSWER)
-		carries[beside.left.status]++;
 	else if (step_is_label(step) && beside.left.status != PT_SHORT_ANSWER)
 		labels[step->kind == STEP_WRITE][beside.left.status]++;
 }
@@ -137,23 +128,13 @@ static void take_other(enum step_kind kind, uint32_t number, uint32_t value)
 	take(&(struct step){ .kind = kind, .number = number, .value = value });
 }
 
-/* A size of the table, or some number if there is none. */
-static uint32_t size(int n, uint32_t most)
+/* The sizes of the table, or some numbers if there is none. */
+static struct sizes sizes_now(void)
 {
-	return beside.memory[n] % (most + 1);
-}
+	struct sizes sizes = sizes_of(beside.memory);
 
-static uint32_t total_now(void)
-{
-	return (uint32_t)PT_WORDS(size(1, PT_MAX_CABINETS), size(2, PT_MAX_LANES), size(3, PT_MAX_SLOTS));
-}
-
-static uint32_t old_total_now(void)
-{
-	const uint32_t sizes[3] = { beside.old[1] % (PT_MAX_CABINETS + 1), beside.old[2] % (PT_MAX_LANES + 1),
-		beside.old[3] % (PT_MAX_SLOTS + 1) };
-
-	return old_total(sizes);
+	return (struct sizes){ sizes.yards % (PT_MAX_YARDS + 1), sizes.cabinets % (PT_MAX_CABINETS + 1),
+		sizes.lanes % (PT_MAX_LANES + 1), sizes.slots % (PT_MAX_SLOTS + 1) };
 }
 
 /* How many words a number lends, of a memory that takes so many. */
@@ -176,18 +157,6 @@ static void damage(struct stream *stream, uint32_t operation)
 	take_other(STEP_POKE, at % words, operation == POKE ? value : beside.memory[value % words]);
 }
 
-/* The same on the old memory. */
-static void damage_old(struct stream *stream, uint32_t operation)
-{
-	uint32_t at = (uint32_t)stream_bytes(stream, 2), words = (uint32_t)beside.old_words;
-	uint32_t value = operation == POKE ? stream_number(stream) : (uint32_t)stream_bytes(stream, 2);
-
-	if (words == 0)
-		return;
-	take(&(struct step){ .kind = STEP_POKE, .old = true, .number = at % words,
-		.value = operation == POKE ? value : beside.old[value % words] });
-}
-
 /* How far below its last number a count is put, by the bits of COUNT's byte. */
 static uint32_t below_last(uint32_t byte)
 {
@@ -196,20 +165,15 @@ static uint32_t below_last(uint32_t byte)
 
 static uint32_t lanes_of_table(void)
 {
-	return size(1, PT_MAX_CABINETS) * size(2, PT_MAX_LANES);
-}
-
-static uint32_t lanes_of_old(void)
-{
-	return beside.old[1] % (PT_MAX_CABINETS + 1) * (beside.old[2] % (PT_MAX_LANES + 1));
+	return sizes_lanes(sizes_now());
 }
 
 /* A count of the table is about to carry, or to wrap. */
 static void count_last(struct stream *stream)
 {
 	uint32_t lane = stream_lane(stream, lanes_of_table()), byte = stream_byte(stream);
-	uint32_t at = CONTENTS_WORDS + GLOBAL_WORDS + CABINET_WORDS * size(1, PT_MAX_CABINETS) + LANE_WORDS * lane +
-		LANE_COUNTS + COUNT_WORDS * (byte & 3u);
+	uint32_t at = layout_of(sizes_now()).first[BODY_LANES] + LANE_WORDS * lane + LANE_COUNTS +
+		COUNT_WORDS * (byte & 3u);
 
 	if (lane >= lanes_of_table())
 		return;
@@ -217,46 +181,12 @@ static void count_last(struct stream *stream)
 	take_other(STEP_POKE, at + COUNT_HIGH, byte & 4u ? PT_NONE : 0);
 }
 
-/* The same of the old memory, whose counts have one word. */
-static void count_last_old(struct stream *stream)
-{
-	uint32_t lane = stream_lane(stream, lanes_of_old()), byte = stream_byte(stream);
-	uint32_t at = V2_CONTENTS_WORDS + V2_GLOBAL_WORDS + V2_CABINET_WORDS * (beside.old[1] % (PT_MAX_CABINETS + 1)) +
-		V2_LANE_WORDS * lane + V2_LANE_COUNTS + (byte & 3u);
-
-	if (lane < lanes_of_old())
-		take(&(struct step){ .kind = STEP_POKE, .old = true, .number = at, .value = PT_NONE - below_last(byte) });
-}
-
-/* An operation on the old memory. */
-static void operate_old(struct stream *stream)
-{
-	uint32_t operation = stream_byte(stream) % OPERATIONS;
-
-	switch (operation) {
-	case POKE:
-	case COPY:
-		damage_old(stream, operation);
-		break;
-	case LEND:
-		take(&(struct step){ .kind = STEP_LEND, .old = true, .number = lent(stream_number(stream), old_total_now()) });
-		break;
-	case COUNT:
-		count_last_old(stream);
-		break;
-	default:
-		if (operation < CALLS)
-			take(&(struct step){ .kind = STEP_CALL, .old = true,
-				.call = stream_call(stream, (enum call_name)operation, lanes_of_old()) });
-	}
-}
-
 /* Grace periods end and begin where no lane reads. */
 static void round_of_lanes(void)
 {
 	uint32_t lanes = lanes_of_table();
 
-	for (uint32_t lane = 0; lane < lanes; lane++) {
+	for (uint32_t lane = 0; lane < lanes && lane < ROUND_LANES; lane++) {
 		take_call(&(struct call){ CALL_CLOCK, { lane } });
 		if (beside.left.status == PT_NOT_LEGAL)
 			return;
@@ -279,15 +209,6 @@ static void operate_call(struct stream *stream, enum call_name name)
 	take_call(&call);
 }
 
-/* What goes by the old memory. */
-static void operate_carry(struct stream *stream, uint32_t operation)
-{
-	if (operation == OLD)
-		operate_old(stream);
-	else
-		take_other(operation == CARRY ? STEP_CARRY : STEP_HOLD, 0, 0);
-}
-
 static void operate(struct stream *stream)
 {
 	uint32_t operation = stream_byte(stream) % OPERATIONS;
@@ -298,7 +219,7 @@ static void operate(struct stream *stream)
 		damage(stream, operation);
 		break;
 	case LEND:
-		take_other(STEP_LEND, lent(stream_number(stream), total_now()), 0);
+		take_other(STEP_LEND, lent(stream_number(stream), layout_of(sizes_now()).total), 0);
 		break;
 	case ANSWER:
 		take_other(STEP_ANSWER, stream_byte(stream) % (BESIDE_ANSWER + 1), 0);
@@ -317,10 +238,7 @@ static void operate(struct stream *stream)
 		take_label(stream, operation == READ ? STEP_READ : STEP_WRITE);
 		break;
 	default:
-		if (operation < CALLS)
-			operate_call(stream, (enum call_name)operation);
-		else
-			operate_carry(stream, operation);
+		operate_call(stream, (enum call_name)operation);
 	}
 }
 

@@ -91,7 +91,7 @@ static uint32_t plain_operation(const char *line)
 	static const struct {
 		const char *word;
 		uint32_t operation;
-	} plain[] = { { "mend", MEND }, { "round", ROUND }, { "carry", CARRY }, { "hold", HOLD } };
+	} plain[] = { { "mend", MEND }, { "round", ROUND } };
 
 	for (size_t n = 0; n < sizeof plain / sizeof plain[0]; n++)
 		if (strcmp(line, plain[n].word) == 0)
@@ -124,9 +124,6 @@ static void put_line(const char *line)
 		put(COUNT, 1);
 		put_number(a);
 		put(b, 1);
-	} else if (strncmp(line, "old ", strlen("old ")) == 0) {
-		put(OLD, 1);
-		put_line(line + strlen("old "));
 	} else if (plain_operation(line) != OPERATIONS) {
 		put(plain_operation(line), 1);
 	} else if (step_read(line, &step) && step_is_label(&step)) {
@@ -153,24 +150,14 @@ static void make_written(const char *path, const char *directory)
 	fclose(text);
 }
 
-/* A list of calls on a table: many of the calls are accepted. The old ones are carried after them. */
-static void put_random(uint32_t cabinets, uint32_t lanes, uint32_t slots, uint32_t count, uint32_t old)
+/* A list of calls on a table: many of the calls are accepted. */
+static void put_random(struct sizes sizes, uint32_t count)
 {
-	uint64_t state = cabinets * 100 + lanes * 10 + slots;
-	const struct list list = { cabinets, lanes, slots, 8, count, 1 };
-	struct call call = { CALL_SETUP, { cabinets, lanes, slots } };
+	uint64_t state = sizes.yards * 1000 + sizes.cabinets * 100 + sizes.lanes * 10 + sizes.slots;
+	const struct list list = { sizes, 8, count, 1 };
+	struct call call = call_setup(sizes);
 
-	for (uint32_t n = 0; n < old; n++) {
-		put(OLD, 1);
-		put_call(&call);
-		do
-			call = draw_call(&state, &list);
-		while (call.name == CALL_SETUP);
-	}
-	if (old > 0)
-		put(CARRY, 1);
-	else
-		put_call(&call);
+	put_call(&call);
 	for (uint32_t n = 0; n < count; n++) {
 		call = draw_call(&state, &list);
 		put_call(&call);
@@ -181,21 +168,20 @@ static void put_random(uint32_t cabinets, uint32_t lanes, uint32_t slots, uint32
 
 int main(int arguments, char **argument)
 {
-	static const uint32_t sizes[][3] = {
-		{ 1, 1, 1 }, { 1, 1, 2 }, { 1, 2, 2 }, { 1, 2, 4 }, { 1, 3, 3 }, { 2, 1, 3 },
-		{ 2, 2, 6 }, { 2, 3, 8 }, { 8, 1, 8 }, { 1, 8, 16 }
+	static const struct sizes sizes[] = {
+		{ 1, 1, 1, 1 }, { 1, 1, 1, 2 }, { 1, 1, 2, 2 }, { 1, 1, 2, 4 }, { 1, 1, 3, 3 }, { 1, 2, 1, 3 },
+		{ 1, 2, 2, 6 }, { 1, 2, 3, 8 }, { 1, 8, 1, 8 }, { 1, 1, 8, 16 }, { 2, 1, 1, 3 }, { 2, 2, 1, 4 },
+		{ 2, 1, 2, 4 }, { 2, 2, 2, 8 }, { 3, 2, 1, 6 }, { 8, 1, 1, 8 },
 	};
 	char name[NAME];
 
 	CHECK(arguments == 3);
 	make_written(argument[1], argument[2]);
-	for (size_t n = 0; n < 2 * sizeof sizes / sizeof sizes[0]; n++) {
-		const uint32_t *size = sizes[n / 2];
-
-		snprintf(name, sizeof name, "%s-%" PRIu32 "-%" PRIu32 "-%" PRIu32, n % 2 == 0 ? "random" : "carried",
-			size[0], size[1], size[2]);
+	for (size_t n = 0; n < sizeof sizes / sizeof sizes[0]; n++) {
+		snprintf(name, sizeof name, "random-%" PRIu32 "-%" PRIu32 "-%" PRIu32 "-%" PRIu32, sizes[n].yards,
+			sizes[n].cabinets, sizes[n].lanes, sizes[n].slots);
 		seed_open(argument[2], name);
-		put_random(size[0], size[1], size[2], 100, n % 2 == 0 ? 0 : 60);
+		put_random(sizes[n], 100);
 	}
 	CHECK(seed == NULL || fclose(seed) == 0);
 	return 0;

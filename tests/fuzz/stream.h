@@ -9,21 +9,17 @@
  *     many more than the total less 8, below 32 that many less 16, else the number;
  *   ANSWER, a byte: how many words of answer are lent from here on;
  *   MEND: what the last accepted call left is put back, and everything is lent again;
- *   ROUND: each lane makes the calls clock, pass 0 and clock;
+ *   ROUND: each lane, of more than 64 the first 64, makes the calls clock, pass 0 and clock;
  *   READ, a byte: a label of so many bytes, modulo LABEL_MOST and one, is read, and then its
  *     bytes follow: one below BYTES is a digit by its last, one from there on comes before
  *     the byte that is meant;
  *   WRITE, a byte and a code: the code's label is written into so many bytes;
  *   COUNT, a lane and a byte: a count of the lane, whose kind are the byte's two low bits, is
  *     about to carry its low word, or with the next bit to wrap: 0 to 3 passes, by the two
- *     bits after, bring it there;
- *   OLD, and then a call, POKE, COPY, LEND or COUNT on the old memory, of version 2; other
- *     operations have none there, and do nothing;
- *   CARRY: from the old memory into the memory;
- *   HOLD: the old memory becomes a copy of the memory.
+ *     bits after, bring it there.
  * A number is a byte below EDGES for itself, one of the edges, or RAW and four bytes,
- * low byte first. A lane is a number too, but bytes from LANES to EDGES are taken modulo
- * the table's lanes and one. A code is a byte below EDGES for one of 32 codes, a code
+ * low byte first. A lane is a number too, but bytes from LANES to EDGES count down from the
+ * first number that is no lane. A code is a byte below EDGES for one of 32 codes, a code
  * about the limit, or RAW and eight bytes. An address is two bytes, modulo the words lent.
  */
 #ifndef FUZZ_STREAM_H
@@ -47,9 +43,6 @@ enum {
 	READ,
 	WRITE,
 	COUNT,
-	OLD,
-	CARRY,
-	HOLD,
 	OPERATIONS
 };
 
@@ -122,7 +115,7 @@ static inline uint32_t stream_lane(struct stream *stream, uint32_t lanes)
 {
 	uint32_t byte = stream_byte(stream);
 
-	return byte >= LANES && byte < EDGES ? byte % (lanes + 1) : stream_rest(stream, byte);
+	return byte >= LANES && byte < EDGES ? lanes - (byte - LANES) % (lanes + 1) : stream_rest(stream, byte);
 }
 
 static inline uint64_t stream_code(struct stream *stream)

@@ -1,7 +1,7 @@
 /*
  * belt.c - how long a lookup can take (document 02, request 5): with n records on the chain
  * when it starts, a lookup has its answer by step n + 1 of its lane. For every n up to 64 and
- * some up to 1,024, all slots of the largest table on one chain: a code that is absent takes
+ * some up to 1,024, all slots of the largest table of one yard on one chain: a code that is absent takes
  * n + 1 steps, the code in place j takes j. Then the same while other calls come before every
  * step: records are added, those ahead of the reader, under it and behind it are replaced and
  * deleted, and the slots for this are handed back meanwhile, retired before its section began.
@@ -23,7 +23,7 @@ enum {
 	OFFICE = 0,   /* the lane that changes records */
 	EVERY = 64,   /* every n up to it */
 	SPARED = 200, /* most slots for the C version */
-	LARGE = 400   /* slots from which on the table has all lanes */
+	LARGE = 400   /* slots from which on the table has all lanes of a yard */
 };
 
 #define NO_CODE (PT_MAX_CODE + 1)
@@ -39,8 +39,8 @@ struct meanwhile {
 	uint32_t more;	/* records of a longer chain that it is tried on */
 };
 
-static uint32_t memory[PT_WORDS(PT_MAX_CABINETS, PT_MAX_LANES, PT_MAX_SLOTS)];
-static uint32_t before[PT_WORDS(PT_MAX_CABINETS, PT_MAX_LANES, PT_MAX_SLOTS)]; /* the call */
+static uint32_t memory[PT_WORDS(1, PT_MAX_CABINETS, PT_MAX_LANES, PT_MAX_SLOTS)];
+static uint32_t before[PT_WORDS(1, PT_MAX_CABINETS, PT_MAX_LANES, PT_MAX_SLOTS)]; /* the call */
 static uint32_t answer[PT_ANSWER_WORDS];
 static struct ledger ledger;
 
@@ -223,11 +223,11 @@ static void let_pass(void)
 static void set_up(uint32_t spare)
 {
 	uint32_t slots = records + spare > 0 ? records + spare : 1;
-	uint32_t lanes = slots < LARGE ? 2 : PT_MAX_LANES;
-	struct call setup = { CALL_SETUP, { slots < LARGE ? 1 : PT_MAX_CABINETS, lanes, slots } };
+	struct sizes sizes = { 1, slots < LARGE ? 1 : PT_MAX_CABINETS, slots < LARGE ? 2 : PT_MAX_LANES, slots };
+	struct call setup = call_setup(sizes);
 
 	CHECK(make(&setup) == PT_OK);
-	reader = (uint32_t)setup.argument[0] * lanes - 1;
+	reader = sizes_lanes(sizes) - 1;
 	entered = records + spare;
 	for (uint32_t place = entered; place > 0; place--) { /* the spare ones stand between the others */
 		if (place <= records)

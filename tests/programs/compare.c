@@ -1,5 +1,5 @@
 /*
- * compare.c - what is tried beside the C version, on lists that are drawn for a dozen sizes:
+ * compare.c - what is tried beside the C version, on lists that are drawn for many sizes:
  * every answer and every word, on memories that end at a page which may not be touched, some
  * of them damaged or too short on the way, with the ledger of demand 3 beside lists that are
  * not. A difference is shrunk and printed. Usage: compare [SEED [CALLS]], the calls of each
@@ -134,19 +134,6 @@ static void check_moved(bool often)
 		CHECK(!often || tally.moved[n] >= OFTEN);
 }
 
-/* How many carries there were, what they found, and how many calls came after them in step. */
-static void check_carried(bool often)
-{
-	enum { OFTEN = 100 };
-
-	printf("compare: ");
-	print_carried(&tally);
-	for (int n = 0; n < CARRIED; n++)
-		CHECK(!often || tally.carried[n] >= OFTEN);
-	CHECK(!often || (tally.carries[PT_OK] >= OFTEN && tally.carries[PT_NOT_LEGAL] >= OFTEN &&
-		tally.carries[PT_SHORT_SECOND] >= OFTEN && tally.stepped >= OFTEN));
-}
-
 /* One list; returns the calls that were made. */
 static uint32_t play(const struct list *list, uint64_t seed, uint32_t calls)
 {
@@ -154,7 +141,6 @@ static uint32_t play(const struct list *list, uint64_t seed, uint32_t calls)
 	uint32_t made = 0;
 
 	drawer_start(&drawer, list, seed, seed % 4 == 0);
-	drawer.carries = true;
 	record_start(&record);
 	beside_start(&beside, &tested, &reference);
 	beside.at_start = seed % 2 == 0;
@@ -167,8 +153,6 @@ static uint32_t play(const struct list *list, uint64_t seed, uint32_t calls)
 		made++;
 		if (step_is_label(&step))
 			tally_label(&tally, &beside, &step);
-		else if (step.kind == STEP_CARRY)
-			tally_carry(&tally, &beside);
 		else
 			tally_call(&tally, &beside);
 		if (record.difference != SAME)
@@ -205,7 +189,6 @@ int main(int argc, char **argv)
 	check_placed(argc == 1);
 	check_attained(argc == 1);
 	check_moved(argc == 1);
-	check_carried(argc == 1);
 	printf("compare: seed %" PRIu64 ", %" PRIu64 " calls, %" PRIu64 " slots handed back\n", first,
 		tally.calls, tally.accepted[CALL_HAND_BACK]);
 	return 0;

@@ -1,7 +1,7 @@
 /*
  * damaged.c - which memories are refused: those of damages.h; every length of a queue made
- * another; tables of versions 1 and 2; every single word of a table changed; and words of no
- * meaning.
+ * another; every bit of every mask turned; a table of version 3, and words of other versions;
+ * every single word of a table changed; and words of no meaning.
  */
 #include <stdio.h>
 #include <stdlib.h>
@@ -14,19 +14,23 @@
 
 /* Addresses in the rich table. */
 #define GLOBAL(word) (CONTENTS_WORDS + (word))
-#define LANE(l, word) (GLOBAL(GLOBAL_WORDS) + CABINET_WORDS * DAMAGES_CABINETS + LANE_WORDS * (l) + (word))
-#define SLOT(s, word) (LANE(DAMAGES_CABINETS * DAMAGES_LANES, 0) + SLOT_WORDS * (s) + (word))
-enum { TABLE_WORDS = SLOT(DAMAGES_SLOTS, 0) };
+#define CABINET(c) (GLOBAL(GLOBAL_WORDS) + CABINET_WORDS * (c))
+#define LANE(l, word) (CABINET(DAMAGES_ALL_CABINETS) + LANE_WORDS * (l) + (word))
+#define SLOT(s, word) (LANE(DAMAGES_ALL_LANES, 0) + SLOT_WORDS * (s) + (word))
+#define YARD(y) (SLOT(DAMAGES_SLOTS, 0) + YARD_WORDS * (y))
+enum { TABLE_WORDS = YARD(DAMAGES_YARDS) };
+
+#define SIZES { DAMAGES_YARDS, DAMAGES_CABINETS, DAMAGES_LANES, DAMAGES_SLOTS }
 
 static struct lent lent;
 static uint32_t fresh[LENT_WORDS];
 static uint32_t rich[LENT_WORDS];
-static const struct call setup = { CALL_SETUP, { DAMAGES_CABINETS, DAMAGES_LANES, DAMAGES_SLOTS } };
+static const struct call setup = { CALL_SETUP, SIZES };
 
 /* A call of that name for such a table; every argument is in range, mostly. */
 static struct call one(int name)
 {
-	static const struct list list = { DAMAGES_CABINETS, DAMAGES_LANES, DAMAGES_SLOTS, 6, 0, 1 };
+	static const struct list list = { SIZES, 6, 0, 1 };
 	static uint64_t seed = 3;
 
 	return name == CALL_SETUP ? setup : draw_arguments(&seed, &list, (enum call_name)name);
@@ -50,6 +54,8 @@ static void build(void)
 	CHECK(rich[LANE(2, LANE_CURRENT)] == 5 && rich[LANE(2, LANE_GENERATION)] == 4);
 	CHECK(rich[GLOBAL(GLOBAL_CURRENT)] == 8 && rich[GLOBAL(GLOBAL_NEXT)] == 10);
 	CHECK(rich[GLOBAL(GLOBAL_DONE)] == 7 && rich[GLOBAL(GLOBAL_CHAINS)] == 1);
+	CHECK(rich[GLOBAL(GLOBAL_PENDING)] == 3 && rich[YARD(0)] == 1 && rich[YARD(1)] == 1 && rich[YARD(2)] == 0);
+	CHECK(rich[CABINET(0)] == 3 && rich[CABINET(1)] == 0 && rich[CABINET(2)] == 1 && rich[CABINET(3)] == 0);
 }
 
 static void damage(const struct damage *damage)
@@ -116,7 +122,7 @@ static void test_sentences(void)
 
 /* ---- lengths of queues (document 02, request 6) */
 
-enum { QUEUES = 4 + 3 * DAMAGES_CABINETS * DAMAGES_LANES };
+enum { QUEUES = 4 + 3 * DAMAGES_ALL_LANES };
 static uint32_t queues[QUEUES]; /* their addresses */
 
 static void find_queues(void)
@@ -127,7 +133,7 @@ static void find_queues(void)
 
 	for (size_t n = 0; n < COUNT(of_global); n++)
 		queues[count++] = GLOBAL(of_global[n]);
-	for (uint32_t lane = 0; lane < DAMAGES_CABINETS * DAMAGES_LANES; lane++)
+	for (uint32_t lane = 0; lane < DAMAGES_ALL_LANES; lane++)
 		for (size_t n = 0; n < COUNT(of_lane); n++)
 			queues[count++] = LANE(lane, of_lane[n]);
 	CHECK(count == QUEUES);
@@ -165,61 +171,73 @@ static void test_queue_lengths(void)
 	printf("damaged: %u memories with another length of a queue\n", tried);
 }
 
-/* ---- tables of version 2, whose counts have one word, and of version 1, which have no lengths either */
+/* ---- masks of three levels (document 02, request 8) */
 
-enum { OLDEST_TOTAL = 262, OLD_TOTAL = 278 }; /* 88 + 2 + 19 * 4 + 6 * 16, 92 + 2 + 22 * 4 + 6 * 16 */
-
-static bool is_length(uint32_t address)
+/*
+ * A bit of a mask, turned. The memory is still legal if that is the bit of an online lane that
+ * holds no snapshot and has no line one before, and its cabinet has another one.
+ */
+static bool turned_is_legal(uint32_t address, uint32_t bit)
 {
-	uint32_t n = 0;
-
-	while (n < QUEUES && address != queues[n] + QUEUE_LENGTH)
-		n++;
-	return n < QUEUES;
+	return address == CABINET(0) && bit == 0; /* lane 0's of the rich table, beside lane 1's */
 }
 
-/* The high word of a count or of a snapshot count. */
-static bool is_high_word(uint32_t address)
+static void test_mask(uint32_t address)
 {
-	uint32_t word;
-
-	if (address < LANE(0, 0) || address >= SLOT(0, 0))
-		return false;
-	word = (address - LANE(0, 0)) % LANE_WORDS;
-	return word >= LANE_COUNTS && word < LANE_GENERATION && (word - LANE_COUNTS) % COUNT_WORDS == COUNT_HIGH;
+	for (uint32_t bit = 0; bit < 32; bit++) {
+		memcpy(lent.memory, rich, sizeof lent.memory);
+		lent.memory[address] ^= 1u << bit;
+		CHECK(ref_legal(lent.memory, lent.words) == turned_is_legal(address, bit));
+		if (!turned_is_legal(address, bit))
+			check_all_refuse();
+	}
 }
 
-/* The words that version 1 or 2 had of such a table; returns how many. */
-static uint32_t put_old(uint32_t *old, const uint32_t *memory, uint32_t version)
+static void test_masks(void)
 {
-	static const uint32_t contents[][CONTENTS_WORDS] = {
-		{ 1, 2, 2, 16, 12, 76, 88, 2, 90, 76, 166, 96 },
-		{ 2, 2, 2, 16, 12, 80, 92, 2, 94, 88, 182, 96 },
-	};
-	uint32_t words = 0;
+	test_mask(GLOBAL(GLOBAL_PENDING));
+	for (uint32_t yard = 0; yard < DAMAGES_YARDS; yard++)
+		test_mask(YARD(yard));
+	for (uint32_t cabinet = 0; cabinet < DAMAGES_ALL_CABINETS; cabinet++)
+		test_mask(CABINET(cabinet));
+}
 
-	for (uint32_t n = 0; n < TABLE_WORDS; n++)
-		if (!is_high_word(n) && (version == 2 || !is_length(n)))
-			old[words++] = memory[n];
-	memcpy(old, contents[version - 1], sizeof contents[0]);
-	return words;
+/* ---- tables of other versions */
+
+/* What version 3 had of a table of one yard: twelve words of contents, no fifth body, the cabinet mask in the house. */
+static size_t put_version_3(uint32_t *memory)
+{
+	static const uint32_t contents[] = { 3, 2, 2, 16, 12, 80, 92, 2, 94, 120, 214, 96 };
+	uint32_t cabinets = *lent_yard(memory, 0);
+	size_t total = PT_WORDS(1, 2, 2, 16) - YARD_WORDS;
+
+	lent_global(memory)[GLOBAL_PENDING] = cabinets;
+	memmove(memory + COUNT(contents), memory + CONTENTS_WORDS, (total - CONTENTS_WORDS) * sizeof *memory);
+	memcpy(memory, contents, sizeof contents);
+	return total - CONTENTS_WORDS + COUNT(contents);
 }
 
 /* As it was, also with other versions' words, and with more words lent than it had. */
-static void test_old(const uint32_t *memory, uint32_t old)
+static void test_version_3(const char *const *calls, size_t count)
 {
-	const size_t lengths[] = { old == 1 ? OLDEST_TOTAL : OLD_TOTAL, TABLE_WORDS - 1, TABLE_WORDS, LENT_WORDS };
+	enum { OLD_TOTAL = 310 }; /* 92 + 2 + 30 * 4 + 6 * 16 */
+	static const size_t lengths[] = { OLD_TOTAL, OLD_TOTAL + 3, OLD_TOTAL + 4, LENT_WORDS };
 
-	memcpy(lent.memory, memory, sizeof lent.memory);
-	CHECK(put_old(lent.memory, memory, old) == lengths[0]);
+	lent_start(&lent);
+	for (size_t n = 0; n < count; n++) {
+		struct call call = lent_call(calls[n]);
+
+		CHECK(lent_make(&lent, &call) == PT_OK);
+	}
+	CHECK(put_version_3(lent.memory) == OLD_TOTAL);
 	for (uint32_t version = 1; version <= PT_VERSION; version++)
 		for (size_t n = 0; n < COUNT(lengths); n++) {
 			lent.memory[CONTENTS_VERSION] = version;
 			lent.words = lengths[n];
 			check_all_refuse();
 		}
-	lent_expect(&lent, "setup 2 2 16", "0 310 0 0 0"); /* a fresh table, to move on */
-	CHECK(memcmp(lent.memory, fresh, TABLE_WORDS * sizeof fresh[0]) == 0);
+	lent_expect(&lent, "setup 1 2 2 16", "0 314 0 0 0"); /* a fresh table, to move on */
+	lent_expect(&lent, "awaited", "0 0 4294967295 16 0");
 }
 
 /* A table of this version with the word of another. */
@@ -233,12 +251,11 @@ static void test_other_version(const uint32_t *memory, uint32_t version)
 
 static void test_versions(void)
 {
-	static const uint32_t others[] = { 0, 1, 2, 4, PT_NONE };
+	static const uint32_t others[] = { 0, 1, 2, 3, 5, PT_NONE };
+	static const char *const calls[] = { "setup 1 2 2 16", "add 0 17 1 1", "del 0 17", "begin 3", "clock 0" };
 
-	for (uint32_t old = 1; old < PT_VERSION; old++) {
-		test_old(fresh, old);
-		test_old(rich, old);
-	}
+	test_version_3(calls, 1);
+	test_version_3(calls, COUNT(calls)); /* a section open, a period running */
 	for (size_t n = 0; n < COUNT(others); n++) {
 		test_other_version(fresh, others[n]);
 		test_other_version(rich, others[n]);
@@ -288,7 +305,7 @@ static void test_odd_lookups(void)
 	lent_expect(&lent, "step 0", "10 0 0 0 0");
 	/* All lanes offline: a lane goes on, and no call but on finds a lane online. */
 	memcpy(lent.memory, fresh, sizeof lent.memory);
-	for (uint32_t l = 0; l < DAMAGES_CABINETS * DAMAGES_LANES; l++)
+	for (uint32_t l = 0; l < DAMAGES_ALL_LANES; l++)
 		lent_lane(lent.memory, l)[LANE_FLAGS] = 0;
 	lent_expect(&lent, "clock 0", "5 0 0 0 0");
 	lent_expect(&lent, "off 0", "5 0 0 0 0");
@@ -311,7 +328,7 @@ static uint32_t check_either(const struct call *call)
 static void test_every_word(void)
 {
 	static const uint32_t values[] = {
-		0, 1, 2, 3, 4, 5, 6, 7, 8, 10, 11, 14, 15, 16, 17, 63, 64, 192, 310, 512, 529, 2147483647u,
+		0, 1, 2, 3, 4, 5, 6, 7, 8, 10, 11, 14, 15, 16, 17, 63, 64, 192, 512, 529, 560, 2147483647u,
 		2147483648u, PT_NONE - 1, PT_NONE
 	};
 	uint32_t legal = 0, tried = 0;
@@ -372,10 +389,11 @@ static void test_no_meaning(void)
 int main(void)
 {
 	build();
-	CHECK(TABLE_WORDS == 310 && PT_WORDS(2, 2, 16) == 310);
+	CHECK(TABLE_WORDS == 560 && PT_WORDS(3, 2, 2, 16) == 560);
 	find_queues();
 	test_sentences();
 	test_queue_lengths();
+	test_masks();
 	test_versions();
 	test_lengths();
 	test_odd_lookups();

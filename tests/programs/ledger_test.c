@@ -1,8 +1,8 @@
 /*
  * ledger_test.c - lists of calls and answers on which the ledger of demand 3 finds a
  * fault, each beside one on which it finds none; among them lookups that take one step more
- * than they may, clocks that say one slot more or less than came to done queues, and lists
- * that begin on a memory of version 2 and go on across a carry.
+ * than they may, clocks that say one slot more or less than came to done queues, and sections
+ * of lanes of eight yards.
  */
 #include <stdio.h>
 #include <stdlib.h>
@@ -10,7 +10,6 @@
 
 #include "ledger.h"
 #include "lent.h"
-#include "reference_v2.h"
 
 static struct ledger ledger;
 static struct lent lent;
@@ -60,12 +59,12 @@ static bool says(const char *fault, const char *part)
 static void test_whole_search(void)
 {
 	static const struct lent_step present[] = {
-		{ "setup 1 2 3", "0 171 0 0 0" }, { "add 0 17 25 1", "0 0 0 0 0" },
+		{ "setup 1 1 2 3", "0 175 0 0 0" }, { "add 0 17 25 1", "0 0 0 0 0" },
 		{ "begin 1", "0 0 0 0 0" }, { "start 1 17", "0 0 0 0 0" },
 		{ "step 1", "0 1 0 25 1" },
 	};
 	static const struct lent_step absent[] = {
-		{ "setup 1 2 3", "0 171 0 0 0" }, { "add 0 17 25 1", "0 0 0 0 0" },
+		{ "setup 1 1 2 3", "0 175 0 0 0" }, { "add 0 17 25 1", "0 0 0 0 0" },
 		{ "begin 1", "0 0 0 0 0" }, { "start 1 529", "0 0 0 0 0" },
 		{ "step 1", "0 0 0 0 0" }, { "step 1", "0 2 0 0 0" },
 	};
@@ -84,18 +83,18 @@ static void test_whole_search(void)
 static void test_instants(void)
 {
 	static const struct lent_step during[] = {
-		{ "setup 1 2 3", "0 171 0 0 0" }, { "add 0 17 25 1", "0 0 0 0 0" },
+		{ "setup 1 1 2 3", "0 175 0 0 0" }, { "add 0 17 25 1", "0 0 0 0 0" },
 		{ "begin 1", "0 0 0 0 0" }, { "start 1 17", "0 0 0 0 0" },
 		{ "rep 0 17 26 2", "0 1 0 0 0" }, { "del 0 17", "0 1 0 0 0" },
 		{ "add 0 17 27 3", "0 2 0 0 0" }, { "step 1", "0 1 1 26 2" },
 	};
 	static const struct lent_step before[] = {
-		{ "setup 1 2 3", "0 171 0 0 0" }, { "add 0 17 25 1", "0 0 0 0 0" },
+		{ "setup 1 1 2 3", "0 175 0 0 0" }, { "add 0 17 25 1", "0 0 0 0 0" },
 		{ "begin 1", "0 0 0 0 0" }, { "rep 0 17 26 2", "0 1 0 0 0" },
 		{ "start 1 17", "0 0 0 0 0" }, { "step 1", "0 1 1 26 2" },
 	};
 	static const struct lent_step replaced[] = {
-		{ "setup 1 2 3", "0 171 0 0 0" }, { "add 0 17 25 1", "0 0 0 0 0" },
+		{ "setup 1 1 2 3", "0 175 0 0 0" }, { "add 0 17 25 1", "0 0 0 0 0" },
 		{ "begin 1", "0 0 0 0 0" }, { "start 1 17", "0 0 0 0 0" },
 		{ "rep 0 17 26 2", "0 1 0 0 0" }, { "step 1", "0 1 0 25 1" },
 	};
@@ -117,19 +116,19 @@ static void test_dropped(void)
 {
 	static const struct ledger_lane at_rest;
 	static const struct lent_step step[] = {
-		{ "setup 1 2 3", "0 171 0 0 0" }, { "add 0 17 25 1", "0 0 0 0 0" },
+		{ "setup 1 1 2 3", "0 175 0 0 0" }, { "add 0 17 25 1", "0 0 0 0 0" },
 		{ "begin 1", "0 0 0 0 0" }, { "start 1 17", "0 0 0 0 0" },
 		{ "end 1", "0 0 0 0 0" }, { "step 1", "10 0 0 0 0" },
 	};
 	static const struct lent_step other_code[] = {
-		{ "setup 1 2 3", "0 171 0 0 0" }, { "add 0 17 25 1", "0 0 0 0 0" },
+		{ "setup 1 1 2 3", "0 175 0 0 0" }, { "add 0 17 25 1", "0 0 0 0 0" },
 		{ "add 0 24 26 2", "0 1 0 0 0" }, { "begin 1", "0 0 0 0 0" },
 		{ "start 1 17", "0 0 0 0 0" }, { "end 1", "0 0 0 0 0" },
 		{ "begin 1", "0 0 0 0 0" }, { "start 1 24", "0 0 0 0 0" },
 		{ "step 1", "0 1 1 26 2" },
 	};
 	static const struct lent_step same_code[] = {
-		{ "setup 1 2 3", "0 171 0 0 0" }, { "add 0 17 25 1", "0 0 0 0 0" },
+		{ "setup 1 1 2 3", "0 175 0 0 0" }, { "add 0 17 25 1", "0 0 0 0 0" },
 		{ "begin 1", "0 0 0 0 0" }, { "start 1 17", "0 0 0 0 0" },
 		{ "del 0 17", "0 0 0 0 0" }, { "end 1", "0 0 0 0 0" },
 		{ "begin 1", "0 0 0 0 0" }, { "start 1 17", "0 0 0 0 0" },
@@ -151,13 +150,13 @@ static void test_dropped(void)
 static void test_dropped_on_removed(void)
 {
 	static const struct lent_step ended[] = {
-		{ "setup 1 3 3", "0 201 0 0 0" }, { "add 0 17 25 1", "0 0 0 0 0" },
+		{ "setup 1 1 3 3", "0 205 0 0 0" }, { "add 0 17 25 1", "0 0 0 0 0" },
 		{ "begin 2", "0 0 0 0 0" }, { "start 2 17", "0 0 0 0 0" },
 		{ "del 0 17", "0 0 0 0 0" }, { "end 2", "0 0 0 0 0" },
 		{ "back 0", "0 0 0 0 0" },
 	};
 	static const struct lent_step open[] = {
-		{ "setup 1 3 3", "0 201 0 0 0" }, { "add 0 17 25 1", "0 0 0 0 0" },
+		{ "setup 1 1 3 3", "0 205 0 0 0" }, { "add 0 17 25 1", "0 0 0 0 0" },
 		{ "begin 1", "0 0 0 0 0" }, { "begin 2", "0 0 0 0 0" },
 		{ "start 1 17", "0 0 0 0 0" }, { "start 2 17", "0 0 0 0 0" },
 		{ "del 0 17", "0 0 0 0 0" }, { "end 2", "0 0 0 0 0" },
@@ -173,23 +172,23 @@ static void test_dropped_on_removed(void)
 static void test_misplaced(void)
 {
 	static const struct lent_step begin[] = {
-		{ "setup 1 2 3", "0 171 0 0 0" }, { "begin 1", "0 0 0 0 0" },
+		{ "setup 1 1 2 3", "0 175 0 0 0" }, { "begin 1", "0 0 0 0 0" },
 		{ "begin 0", "0 0 0 0 0" }, { "begin 1", "7 0 0 0 0" },
 	};
 	static const struct lent_step end[] = {
-		{ "setup 1 2 3", "0 171 0 0 0" }, { "begin 1", "0 0 0 0 0" },
+		{ "setup 1 1 2 3", "0 175 0 0 0" }, { "begin 1", "0 0 0 0 0" },
 		{ "start 1 17", "0 0 0 0 0" }, { "end 1", "0 0 0 0 0" }, { "end 1", "8 0 0 0 0" },
 	};
 	static const struct lent_step outside[] = {
-		{ "setup 1 2 3", "0 171 0 0 0" }, { "begin 1", "0 0 0 0 0" },
+		{ "setup 1 1 2 3", "0 175 0 0 0" }, { "begin 1", "0 0 0 0 0" },
 		{ "end 1", "0 0 0 0 0" }, { "start 1 17", "8 0 0 0 0" },
 	};
 	static const struct lent_step beside[] = {
-		{ "setup 1 2 3", "0 171 0 0 0" }, { "begin 1", "0 0 0 0 0" },
+		{ "setup 1 1 2 3", "0 175 0 0 0" }, { "begin 1", "0 0 0 0 0" },
 		{ "start 1 17", "0 0 0 0 0" }, { "start 1 24", "9 0 0 0 0" },
 	};
 	static const struct lent_step answered[] = {
-		{ "setup 1 2 3", "0 171 0 0 0" }, { "begin 1", "0 0 0 0 0" },
+		{ "setup 1 1 2 3", "0 175 0 0 0" }, { "begin 1", "0 0 0 0 0" },
 		{ "start 1 17", "0 0 0 0 0" }, { "step 1", "0 2 0 0 0" }, { "step 1", "10 0 0 0 0" },
 	};
 
@@ -208,25 +207,25 @@ static void test_misplaced(void)
 static void test_hand_back(void)
 {
 	static const struct lent_step open[] = {
-		{ "setup 1 3 3", "0 201 0 0 0" }, { "add 0 17 25 1", "0 0 0 0 0" },
+		{ "setup 1 1 3 3", "0 205 0 0 0" }, { "add 0 17 25 1", "0 0 0 0 0" },
 		{ "begin 2", "0 0 0 0 0" }, { "del 0 17", "0 0 0 0 0" },
 		{ "begin 1", "0 0 0 0 0" }, { "back 0", "16 0 0 0 0" },
 	};
 	static const struct lent_step ended[] = {
-		{ "setup 1 3 3", "0 201 0 0 0" }, { "add 0 17 25 1", "0 0 0 0 0" },
+		{ "setup 1 1 3 3", "0 205 0 0 0" }, { "add 0 17 25 1", "0 0 0 0 0" },
 		{ "begin 2", "0 0 0 0 0" }, { "del 0 17", "0 0 0 0 0" },
 		{ "begin 1", "0 0 0 0 0" }, { "end 2", "0 0 0 0 0" },
 		{ "begin 2", "0 0 0 0 0" }, { "back 0", "0 0 0 0 0" },
 	};
 	static const struct lent_step twice[] = {
-		{ "setup 1 3 3", "0 201 0 0 0" }, { "add 0 17 25 1", "0 0 0 0 0" },
+		{ "setup 1 1 3 3", "0 205 0 0 0" }, { "add 0 17 25 1", "0 0 0 0 0" },
 		{ "del 0 17", "0 0 0 0 0" }, { "back 0", "0 0 0 0 0" },
 		{ "back 0", "16 0 0 0 0" },
 	};
 	static const struct lent_step setup_anew[] = {
-		{ "setup 1 3 3", "0 201 0 0 0" }, { "add 0 17 25 1", "0 0 0 0 0" },
-		{ "del 0 17", "0 0 0 0 0" }, { "setup 1 3 0", "1 0 0 0 0" },
-		{ "setup 1 3 3", "0 201 0 0 0" }, { "back 0", "16 0 0 0 0" },
+		{ "setup 1 1 3 3", "0 205 0 0 0" }, { "add 0 17 25 1", "0 0 0 0 0" },
+		{ "del 0 17", "0 0 0 0 0" }, { "setup 1 1 3 0", "1 0 0 0 0" },
+		{ "setup 1 1 3 3", "0 205 0 0 0" }, { "back 0", "16 0 0 0 0" },
 	};
 
 	CHECK(FEED(open) == NULL);
@@ -242,11 +241,11 @@ static void test_hand_back(void)
 static void test_slots(void)
 {
 	static const struct lent_step adds[] = {
-		{ "setup 1 2 3", "0 171 0 0 0" }, { "add 0 17 25 1", "0 0 0 0 0" },
+		{ "setup 1 1 2 3", "0 175 0 0 0" }, { "add 0 17 25 1", "0 0 0 0 0" },
 		{ "add 0 24 25 1", "0 1 0 0 0" },
 	};
 	static const struct lent_step removed[] = {
-		{ "setup 1 2 3", "0 171 0 0 0" }, { "add 0 17 25 1", "0 0 0 0 0" },
+		{ "setup 1 1 2 3", "0 175 0 0 0" }, { "add 0 17 25 1", "0 0 0 0 0" },
 		{ "add 0 24 25 1", "0 1 0 0 0" }, { "del 0 17", "0 0 0 0 0" },
 	};
 
@@ -262,7 +261,7 @@ static void test_slots(void)
 static void test_kept(void)
 {
 	static const char *const lines[] = {
-		"setup 1 2 3", "add 0 64424509457 25 1", "begin 1", "start 1 64424509457", "step 1",
+		"setup 1 1 2 3", "add 0 64424509457 25 1", "begin 1", "start 1 64424509457", "step 1",
 		"del 0 64424509457",
 	};
 	struct call end = { CALL_END, { 1 } };
@@ -303,18 +302,18 @@ static void test_kept(void)
 static void test_figure(void)
 {
 	static const struct lent_step two[] = {
-		{ "setup 1 2 4", "0 177 0 0 0" }, { "add 0 192 1 1", "0 0 0 0 0" },
+		{ "setup 1 1 2 4", "0 181 0 0 0" }, { "add 0 192 1 1", "0 0 0 0 0" },
 		{ "add 0 512 2 2", "0 1 0 0 0" }, { "begin 1", "0 0 0 0 0" },
 		{ "start 1 0", "0 0 0 0 0" }, { "step 1", GOING }, { "step 1", GOING },
 		{ "step 1", ABSENT },
 	};
 	static const struct lent_step sooner[] = {
-		{ "setup 1 2 4", "0 177 0 0 0" }, { "add 0 192 1 1", "0 0 0 0 0" },
+		{ "setup 1 1 2 4", "0 181 0 0 0" }, { "add 0 192 1 1", "0 0 0 0 0" },
 		{ "add 0 512 2 2", "0 1 0 0 0" }, { "begin 1", "0 0 0 0 0" },
 		{ "start 1 192", "0 0 0 0 0" }, { "step 1", GOING }, { "step 1", "0 1 0 1 1" },
 	};
 	static const struct lent_step two_lanes[] = {
-		{ "setup 1 2 4", "0 177 0 0 0" }, { "add 0 192 1 1", "0 0 0 0 0" },
+		{ "setup 1 1 2 4", "0 181 0 0 0" }, { "add 0 192 1 1", "0 0 0 0 0" },
 		{ "begin 0", "0 0 0 0 0" }, { "begin 1", "0 0 0 0 0" },
 		{ "start 0 0", "0 0 0 0 0" }, { "start 1 0", "0 0 0 0 0" },
 		{ "step 0", GOING }, { "step 1", GOING }, { "step 0", ABSENT }, { "step 1", ABSENT },
@@ -332,21 +331,21 @@ static void test_figure(void)
 static void test_figure_meanwhile(void)
 {
 	static const struct lent_step added[] = {
-		{ "setup 1 2 4", "0 177 0 0 0" }, { "add 0 192 1 1", "0 0 0 0 0" },
+		{ "setup 1 1 2 4", "0 181 0 0 0" }, { "add 0 192 1 1", "0 0 0 0 0" },
 		{ "add 0 512 2 2", "0 1 0 0 0" }, { "begin 1", "0 0 0 0 0" },
 		{ "start 1 0", "0 0 0 0 0" }, { "add 0 1472 3 3", "0 2 0 0 0" },
 		{ "step 1", GOING }, { "add 0 1984 4 4", "0 3 0 0 0" }, { "step 1", GOING },
 		{ "step 1", ABSENT },
 	};
 	static const struct lent_step deleted[] = {
-		{ "setup 1 2 4", "0 177 0 0 0" }, { "add 0 192 1 1", "0 0 0 0 0" },
+		{ "setup 1 1 2 4", "0 181 0 0 0" }, { "add 0 192 1 1", "0 0 0 0 0" },
 		{ "add 0 512 2 2", "0 1 0 0 0" }, { "begin 1", "0 0 0 0 0" },
 		{ "start 1 0", "0 0 0 0 0" }, { "del 0 512", "0 1 0 0 0" },
 		{ "step 1", GOING }, { "del 0 192", "0 0 0 0 0" }, { "step 1", GOING },
 		{ "step 1", ABSENT },
 	};
 	static const struct lent_step replaced[] = {
-		{ "setup 1 2 4", "0 177 0 0 0" }, { "add 0 192 1 1", "0 0 0 0 0" },
+		{ "setup 1 1 2 4", "0 181 0 0 0" }, { "add 0 192 1 1", "0 0 0 0 0" },
 		{ "begin 1", "0 0 0 0 0" }, { "start 1 0", "0 0 0 0 0" },
 		{ "rep 0 192 2 2", "0 1 0 0 0" }, { "step 1", GOING },
 		{ "rep 0 192 3 3", "0 2 1 0 0" }, { "step 1", ABSENT },
@@ -361,23 +360,23 @@ static void test_figure_meanwhile(void)
 static void test_figure_counts(void)
 {
 	static const struct lent_step others[] = {
-		{ "setup 1 2 4", "0 177 0 0 0" }, { "add 0 17 1 1", "0 0 0 0 0" },
+		{ "setup 1 1 2 4", "0 181 0 0 0" }, { "add 0 17 1 1", "0 0 0 0 0" },
 		{ "add 0 24 2 2", "0 1 0 0 0" }, { "begin 1", "0 0 0 0 0" },
 		{ "start 1 0", "0 0 0 0 0" }, { "step 1", ABSENT },
 	};
 	static const struct lent_step removed[] = {
-		{ "setup 1 2 4", "0 177 0 0 0" }, { "add 0 192 1 1", "0 0 0 0 0" },
+		{ "setup 1 1 2 4", "0 181 0 0 0" }, { "add 0 192 1 1", "0 0 0 0 0" },
 		{ "add 0 512 2 2", "0 1 0 0 0" }, { "del 0 192", "0 0 0 0 0" },
 		{ "begin 1", "0 0 0 0 0" }, { "start 1 0", "0 0 0 0 0" }, { "step 1", GOING },
 		{ "step 1", ABSENT },
 	};
 	static const struct lent_step replaced[] = {
-		{ "setup 1 2 4", "0 177 0 0 0" }, { "add 0 192 1 1", "0 0 0 0 0" },
+		{ "setup 1 1 2 4", "0 181 0 0 0" }, { "add 0 192 1 1", "0 0 0 0 0" },
 		{ "rep 0 192 2 2", "0 1 0 0 0" }, { "begin 1", "0 0 0 0 0" },
 		{ "start 1 0", "0 0 0 0 0" }, { "step 1", GOING }, { "step 1", ABSENT },
 	};
 	static const struct lent_step itself[] = { /* the code's own entry is on its chain */
-		{ "setup 1 2 4", "0 177 0 0 0" }, { "add 0 0 1 1", "0 0 0 0 0" },
+		{ "setup 1 1 2 4", "0 181 0 0 0" }, { "add 0 0 1 1", "0 0 0 0 0" },
 		{ "begin 1", "0 0 0 0 0" }, { "start 1 0", "0 0 0 0 0" },
 		{ "del 0 0", "0 0 0 0 0" }, { "step 1", GOING }, { "step 1", ABSENT },
 	};
@@ -392,14 +391,14 @@ static void test_figure_counts(void)
 static void test_figure_dropped(void)
 {
 	static const struct lent_step anew[] = {
-		{ "setup 1 2 4", "0 177 0 0 0" }, { "add 0 192 1 1", "0 0 0 0 0" },
+		{ "setup 1 1 2 4", "0 181 0 0 0" }, { "add 0 192 1 1", "0 0 0 0 0" },
 		{ "begin 1", "0 0 0 0 0" }, { "start 1 0", "0 0 0 0 0" }, { "step 1", GOING },
 		{ "end 1", "0 0 0 0 0" }, { "add 0 512 2 2", "0 1 0 0 0" },
 		{ "begin 1", "0 0 0 0 0" }, { "start 1 0", "0 0 0 0 0" }, { "step 1", GOING },
 		{ "step 1", GOING }, { "step 1", ABSENT },
 	};
 	static const struct lent_step again[] = { /* in the same section */
-		{ "setup 1 2 4", "0 177 0 0 0" }, { "add 0 192 1 1", "0 0 0 0 0" },
+		{ "setup 1 1 2 4", "0 181 0 0 0" }, { "add 0 192 1 1", "0 0 0 0 0" },
 		{ "begin 1", "0 0 0 0 0" }, { "start 1 192", "0 0 0 0 0" },
 		{ "step 1", "0 1 0 1 1" }, { "start 1 0", "0 0 0 0 0" }, { "step 1", GOING },
 		{ "step 1", ABSENT },
@@ -413,7 +412,7 @@ static void test_figure_dropped(void)
 static void test_figure_refused(void)
 {
 	static const struct lent_step runs[] = {
-		{ "setup 1 2 4", "0 177 0 0 0" }, { "add 0 192 1 1", "0 0 0 0 0" },
+		{ "setup 1 1 2 4", "0 181 0 0 0" }, { "add 0 192 1 1", "0 0 0 0 0" },
 		{ "begin 1", "0 0 0 0 0" }, { "start 1 0", "0 0 0 0 0" },
 		{ "start 1 0", "9 0 0 0 0" }, { "step 0", "10 0 0 0 0" }, { "step 2", "4 0 0 0 0" },
 		{ "step 4294967295", "4 0 0 0 0" }, { "step 1", GOING },
@@ -488,7 +487,7 @@ static void count_all(const struct count *steps, size_t length)
 static void test_counted(void)
 {
 	static const struct count both[] = {
-		{ "setup 1 3 8", 0 }, { "add 0 17 1 1", 0 }, { "add 0 24 1 1", 0 }, { "add 0 31 1 1", 0 },
+		{ "setup 1 1 3 8", 0 }, { "add 0 17 1 1", 0 }, { "add 0 24 1 1", 0 }, { "add 0 31 1 1", 0 },
 		{ "del 1 31", 0 }, { "clock 1", 0 }, { "del 0 17", 0 }, { "del 2 24", 0 }, { "off 2", 0 },
 		{ "clock 0", 0 }, { "pass 0 0", 0 }, { "pass 1 0", 0 }, { "clock 1", 0 }, { "clock 0", 0 },
 		{ "clock 1", 1 }, { "pass 1 0", 0 }, { "clock 1", 0 }, { "pass 0 0", 0 }, { "clock 0", 2 },
@@ -497,7 +496,7 @@ static void test_counted(void)
 
 	COUNT_ALL(both);
 	CHECK(ledger.done == 0);
-	count(&(struct count){ "setup 1 2 3", 0 }); /* begins anew */
+	count(&(struct count){ "setup 1 1 2 3", 0 }); /* begins anew */
 	CHECK(ledger.done == 0);
 }
 
@@ -505,11 +504,11 @@ static void test_counted(void)
 static void test_counted_off(void)
 {
 	static const struct count global[] = {
-		{ "setup 1 3 8", 0 }, { "add 0 17 1 1", 0 }, { "del 2 17", 0 }, { "off 2", 0 },
+		{ "setup 1 1 3 8", 0 }, { "add 0 17 1 1", 0 }, { "del 2 17", 0 }, { "off 2", 0 },
 		{ "clock 0", 0 }, { "pass 0 0", 0 }, { "clock 0", 0 }, { "off 1", 1 },
 	};
 	static const struct count own[] = {
-		{ "setup 1 2 4", 0 }, { "add 0 17 1 1", 0 }, { "del 1 17", 0 }, { "clock 1", 0 },
+		{ "setup 1 1 2 4", 0 }, { "add 0 17 1 1", 0 }, { "del 1 17", 0 }, { "clock 1", 0 },
 		{ "clock 0", 0 }, { "pass 0 0", 0 }, { "clock 0", 0 }, { "pass 1 0", 0 },
 		{ "clock 1", 1 }, { "off 1", 0 },
 	};
@@ -529,7 +528,7 @@ static void test_counted_off(void)
 static void test_counted_memory(void)
 {
 	static const struct count steps[] = {
-		{ "setup 1 1 3", 0 }, { "add 0 17 1 1", 0 }, { "add 0 24 1 1", 0 }, { "del 0 17", 0 },
+		{ "setup 1 1 1 3", 0 }, { "add 0 17 1 1", 0 }, { "add 0 24 1 1", 0 }, { "del 0 17", 0 },
 		{ "clock 0", 0 }, { "pass 0 0", 0 }, { "clock 0", 1 },
 	};
 	static const struct call awaited = { .name = CALL_AWAITED };
@@ -552,73 +551,32 @@ static void test_counted_memory(void)
 	CHECK(ledger_judge(&ledger, &awaited, answer, lent.memory, lent.memory) == NULL);
 }
 
-/* ---- across a carry */
-
-static uint32_t old[LENT_WORDS], old_before[LENT_WORDS];
-
-/* Slot 0 is done; lane 1 has found slot 1, its next lookup of it runs, and lane 0 has deleted it since. */
-static const char *const old_list[] = {
-	"setup 1 2 4", "add 0 24 1 1", "del 0 24", "clock 0", "clock 1", "pass 0 0", "pass 1 0", "clock 1", "clock 0",
-	"add 0 17 2 2", "begin 1", "start 1 17", "step 1", "start 1 17", "del 0 17",
-};
-
-/* The calls of version 2, with the ledger, and the carry. */
-static void carry_list(void)
+/* Sections of lanes of all yards are kept apart: a slot waits for each of them, and for no other. */
+static void test_many_lanes(void)
 {
-	uint32_t answer[PT_ANSWER_WORDS];
+	static const struct lent_step waits[] = {
+		{ "setup 8 8 8 3", "0 15545 0 0 0" }, { "add 0 17 25 1", "0 0 0 0 0" },
+		{ "begin 0", "0 0 0 0 0" }, { "begin 63", "0 0 0 0 0" }, { "begin 64", "0 0 0 0 0" },
+		{ "begin 511", "0 0 0 0 0" }, { "start 511 17", "0 0 0 0 0" }, { "del 7 17", "0 0 0 0 0" },
+		{ "begin 448", "0 0 0 0 0" }, { "step 511", "0 1 0 25 1" }, { "end 64", "0 0 0 0 0" },
+		{ "end 0", "0 0 0 0 0" }, { "end 63", "0 0 0 0 0" }, { "begin 63", "0 0 0 0 0" },
+		{ "back 7", "16 0 0 0 0" },
+	};
+	static const struct lent_step ended[] = {
+		{ "setup 8 8 8 3", "0 15545 0 0 0" }, { "add 0 17 25 1", "0 0 0 0 0" },
+		{ "begin 511", "0 0 0 0 0" }, { "del 7 17", "0 0 0 0 0" }, { "begin 448", "0 0 0 0 0" },
+		{ "end 511", "0 0 0 0 0" }, { "back 7", "0 0 0 0 0" },
+	};
+	static const struct lent_step beyond[] = {
+		{ "setup 8 8 8 3", "0 15545 0 0 0" }, { "begin 512", "4 0 0 0 0" },
+	};
 
-	ledger_reset(&ledger);
-	for (size_t n = 0; n < sizeof old_list / sizeof old_list[0]; n++) {
-		struct call call = lent_call(old_list[n]);
-
-		memcpy(old_before, old, sizeof old);
-		CHECK(call_make(&version_2, old, LENT_WORDS, answer, PT_ANSWER_WORDS, &call) == PT_OK);
-		CHECK(ledger_judge(&ledger, &call, answer, old_before, old) == NULL);
-	}
-	lent_start(&lent);
-	CHECK(ref_carry(old, LENT_WORDS, lent.memory, LENT_WORDS, answer, PT_ANSWER_WORDS) == PT_OK);
-}
-
-/* The fault of a call on the carried memory with an answer of ours. */
-static const char *after_carry(const char *line, const char *text)
-{
-	static struct ledger wrong;
-	struct call call = lent_call(line);
-	uint32_t answer[PT_ANSWER_WORDS];
-	char *word = (char *)text;
-
-	for (size_t n = 0; n < PT_ANSWER_WORDS; n++)
-		answer[n] = (uint32_t)strtoul(word, &word, 10);
-	wrong = ledger;
-	return ledger_judge(&wrong, &call, answer, lent.memory, lent.memory);
-}
-
-/* What was begun before the carry is owed after it: the find, the lookup and its figure, the section, the sum. */
-static void test_carried(void)
-{
-	carry_list();
-	CHECK(ledger.done == 1 && ledger_carried(&ledger, lent.memory) == NULL);
-	CHECK(after_carry("step 1", "0 1 1 2 2") == NULL); /* explained by the instant of its start */
-	CHECK(says(after_carry("step 1", "0 1 1 1 1"), "no instant"));
-	CHECK(ledger_fault_of(after_carry("step 1", "10 0 0 0 0")) == FAULT_OF_FIGURE);
-	CHECK(says(after_carry("begin 1", "0 0 0 0 0"), "began inside"));
-	CHECK(says(after_carry("back 0", "0 1 0 0 0"), "before a section"));
-	CHECK(ledger_fault_of(after_carry("clock 0", "0 2 2 1 1")) == FAULT_OF_COUNT);
-}
-
-/* A carry that loses what was found, or a slot of a done queue. */
-static void test_carried_wrongly(void)
-{
-	uint32_t *done;
-
-	carry_list();
-	lent_slot(lent.memory, 1)[SLOT_DEPOSIT] = 1;
-	CHECK(says(ledger_carried(&ledger, lent.memory), "lost its record"));
-	lent_slot(lent.memory, 1)[SLOT_DEPOSIT] = 2;
-	CHECK(ledger_carried(&ledger, lent.memory) == NULL);
-	done = lent_lane(lent.memory, 0) + LANE_DONE;
-	done[QUEUE_FIRST] = PT_NONE;
-	CHECK(ledger_fault_of(ledger_carried(&ledger, lent.memory)) == FAULT_OF_COUNT);
+	CHECK(FEED(waits) == NULL);
+	CHECK(ledger_reading(&ledger, 511) && ledger_reading(&ledger, 448) && !ledger_reading(&ledger, 64));
+	CHECK(says(FAULT(waits, "0 0 0 0 0"), "before a section")); /* lane 511's is open */
+	CHECK(FEED(ended) == NULL); /* 448's began later */
+	CHECK(FEED(beyond) == NULL);
+	CHECK(says(FAULT(beyond, "0 0 0 0 0"), "beyond"));
 }
 
 int main(void)
@@ -639,8 +597,7 @@ int main(void)
 	test_counted();
 	test_counted_off();
 	test_counted_memory();
-	test_carried();
-	test_carried_wrongly();
+	test_many_lanes();
 	puts("ledger: true lists pass, false ones are found");
 	return 0;
 }

@@ -81,7 +81,7 @@ static void check_slots(const struct book *book)
 
 		CHECK((held->entered != 0) == (first && book->entered));
 		CHECK((held->out != 0) == (first && book->out));
-		CHECK(held->sections == (first ? book->sections : 0));
+		CHECK(held->sections[0] == (first ? book->sections : 0));
 		if (held->entered)
 			CHECK(held->code == 17 && held->deposit == 25 && held->material == 1);
 	}
@@ -93,7 +93,7 @@ static void check_lanes(const struct book *book)
 		const struct ledger_lane *held = &ledger.lane[lane];
 		bool second = lane == 1;
 
-		CHECK((held->reading != 0) == (second && book->reading));
+		CHECK(ledger_reading(&ledger, (uint32_t)lane) == (second && book->reading));
 		CHECK((held->lookup != 0) == (second && book->searches));
 		if (held->lookup)
 			CHECK(held->code == 17);
@@ -118,7 +118,7 @@ static void make_calls(const struct lent_step *calls, size_t from, size_t to)
 static void keep_books(const struct lent_step *calls, const struct book *books, size_t count)
 {
 	lent_start(&lent);
-	lent_expect(&lent, "setup 1 2 3", "0 171 0 0 0");
+	lent_expect(&lent, "setup 1 1 2 3", "0 175 0 0 0");
 	ledger_reset(&ledger);
 	for (size_t n = 0; n < count; n++) {
 		make_calls(calls, n == 0 ? 0 : books[n - 1].instant, books[n].instant);

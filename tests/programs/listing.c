@@ -1,7 +1,8 @@
 /*
  * listing.c - the listing program of document 01, over the reference: one call a
- * line in, five words or "bad" a line out. It reads the file that its argument
- * names, or the standard input.
+ * line in, five words or "bad" a line out. It keeps to one yard: a set-up of any other
+ * number is bad (document 02, request 8). It reads the file that its argument names, or the
+ * standard input.
  */
 #include <stdbool.h>
 #include <stdio.h>
@@ -14,13 +15,19 @@ enum { LISTING_WORDS = 16000 };
 
 static uint32_t memory[LISTING_WORDS];
 
+/* The call that the line is; false if it is bad. */
+static bool listed_call(const struct line *line, struct call *call)
+{
+	return line_call(line, call) && (call->name != CALL_SETUP || call_sizes(call).yards == 1);
+}
+
 static void answer_line(const struct line *line)
 {
 	uint32_t answer[PT_ANSWER_WORDS];
 	char text[LINE_TEXT];
 	struct call call;
 
-	if (!line_call(line, &call)) {
+	if (!listed_call(line, &call)) {
 		puts("bad");
 		return;
 	}

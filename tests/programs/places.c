@@ -1,8 +1,9 @@
 /*
- * places.c - cabinet and place of a lane (document 02, request 4): every lane of every table
- * of 1 to 8 cabinets of 1 to 8 lanes, and numbers that are no lane. Where a lane stands is
- * known here by counting: numbers go up place by place and cabinet by cabinet. What each call
- * leaves is written down so, and compared with every word.
+ * places.c - yard, cabinet and place of a lane (document 02, requests 4 and 8): every lane of
+ * every table of one yard of 1 to 8 cabinets of 1 to 8 lanes, of tables of 2 to 8 yards, and
+ * numbers that are no lane. Where a lane stands is known here by counting: numbers go up place
+ * by place, cabinet by cabinet and yard by yard. What each call leaves is written down so, and
+ * compared with every word.
  */
 #include <inttypes.h>
 #include <stdio.h>
@@ -11,28 +12,34 @@
 
 #include "lent.h"
 #include "reference.h"
+#include "table.h"
 #include "words.h"
 
 enum { SLOTS = 2, CODE = 17 };
 
 /* A lane, as it is counted. */
 struct counted {
-	uint32_t number, cabinet, place;
+	uint32_t number, yard, cabinet, place;
+	uint32_t all; /* the number of its cabinet among those of all yards */
 };
 
 static struct lent lent;
 static uint32_t expected[LENT_WORDS];
 
 /* The table's sizes, and its lanes in the order of their numbers. */
-static uint32_t cabinets, size, count;
-static struct counted counted[PT_MAX_CABINETS * PT_MAX_LANES];
+static struct sizes sizes = { .slots = SLOTS };
+static uint32_t count;
+static struct counted counted[TABLE_LANES];
 
 static void count_lanes(void)
 {
+	uint32_t all = 0;
+
 	count = 0;
-	for (uint32_t cabinet = 0; cabinet < cabinets; cabinet++)
-		for (uint32_t place = 0; place < size; place++, count++)
-			counted[count] = (struct counted){ count, cabinet, place };
+	for (uint32_t yard = 0; yard < sizes.yards; yard++)
+		for (uint32_t cabinet = 0; cabinet < sizes.cabinets; cabinet++, all++)
+			for (uint32_t place = 0; place < sizes.lanes; place++, count++)
+				counted[count] = (struct counted){ count, yard, cabinet, place, all };
 }
 
 /* Says which word is not as expected, and ends the program. */
@@ -41,13 +48,14 @@ static void check_words(const struct counted *lane)
 	char name[WORD_TEXT];
 	size_t n = 0;
 
-	while (n < LENT_WORDS && lent.memory[n] == expected[n])
-		n++;
-	if (n == LENT_WORDS)
+	if (memcmp(lent.memory, expected, sizeof expected) == 0)
 		return;
-	word_name(expected + CONTENTS_CABINETS, n, name);
-	fprintf(stderr, "%" PRIu32 " cabinets of %" PRIu32 " lanes, lane %" PRIu32 ": %s: %" PRIu32 ", and not %" PRIu32 "\n",
-		cabinets, size, lane->number, name, lent.memory[n], expected[n]);
+	while (lent.memory[n] == expected[n])
+		n++;
+	word_name(sizes, n, name);
+	fprintf(stderr, "%" PRIu32 " yards of %" PRIu32 " cabinets of %" PRIu32 " lanes, lane %" PRIu32 ": %s: %" PRIu32
+		", and not %" PRIu32 "\n", sizes.yards, sizes.cabinets, sizes.lanes, lane->number, name, lent.memory[n],
+		expected[n]);
 	exit(1);
 }
 
@@ -65,7 +73,7 @@ static void make(enum call_name name, const struct counted *lane, uint32_t argum
 
 static void set_up(void)
 {
-	struct call setup = { CALL_SETUP, { cabinets, size, SLOTS } };
+	struct call setup = call_setup(sizes);
 
 	lent_start(&lent);
 	CHECK(lent_make(&lent, &setup) == PT_OK);
@@ -84,10 +92,15 @@ static void begin_period(uint32_t lane)
 
 static uint32_t *lane_mask(const struct counted *lane)
 {
-	return &lent_cabinet(expected, lane->cabinet)[CABINET_PENDING];
+	return &lent_cabinet(expected, lane->all)[CABINET_PENDING];
 }
 
-static uint32_t *cabinet_mask(void)
+static uint32_t *cabinet_mask(const struct counted *lane)
+{
+	return &lent_yard(expected, lane->yard)[YARD_PENDING];
+}
+
+static uint32_t *yard_mask(void)
 {
 	return &lent_global(expected)[GLOBAL_PENDING];
 }
@@ -95,23 +108,26 @@ static uint32_t *cabinet_mask(void)
 /* The bits of all lanes, but for one that may be left out. */
 static void set_bits(const struct counted *without)
 {
-	*cabinet_mask() = 0;
+	*yard_mask() = 0;
 	for (uint32_t n = 0; n < count; n++)
-		*lane_mask(&counted[n]) = 0;
+		*lane_mask(&counted[n]) = *cabinet_mask(&counted[n]) = 0;
 	for (uint32_t n = 0; n < count; n++)
 		if (&counted[n] != without) {
 			*lane_mask(&counted[n]) |= 1u << counted[n].place;
-			*cabinet_mask() |= 1u << counted[n].cabinet;
+			*cabinet_mask(&counted[n]) |= 1u << counted[n].cabinet;
+			*yard_mask() |= 1u << counted[n].yard;
 		}
 }
 
-/* The bit goes, and the cabinet's with the last one in it. Whether bits remain. */
+/* The bit goes, the cabinet's with the last one in it, and the yard's with its last cabinet's. Whether bits remain. */
 static bool clear_bit(const struct counted *lane)
 {
 	*lane_mask(lane) &= ~(1u << lane->place);
 	if (*lane_mask(lane) == 0)
-		*cabinet_mask() &= ~(1u << lane->cabinet);
-	return *cabinet_mask() != 0;
+		*cabinet_mask(lane) &= ~(1u << lane->cabinet);
+	if (*cabinet_mask(lane) == 0)
+		*yard_mask() &= ~(1u << lane->yard);
+	return *yard_mask() != 0;
 }
 
 /* ---- pass and clock */
@@ -147,10 +163,21 @@ static void let_pass(const struct counted *lane, uint32_t kind)
 	make(CALL_CLOCK, lane, 0);
 }
 
+/* Lanes that are tried alone: all of a table that is not large, and else those at the edges. */
+static bool alone(const struct counted *lane)
+{
+	enum { LARGE = 64 };
+	bool at_edge = lane->place == 0 || lane->place == sizes.lanes - 1;
+
+	return count <= LARGE || (at_edge && (lane->cabinet == 0 || lane->cabinet == sizes.cabinets - 1));
+}
+
 /* Each lane alone; then all in order of their numbers, and all from the last to the first. */
 static void test_passes(void)
 {
 	for (uint32_t n = 0; n < count; n++) {
+		if (!alone(&counted[n]))
+			continue;
 		set_up();
 		begin_period(0);
 		set_bits(NULL);
@@ -162,7 +189,7 @@ static void test_passes(void)
 		begin_period(0);
 		for (uint32_t n = 0; n < count; n++)
 			let_pass(&counted[order == 0 ? n : count - 1 - n], order);
-		CHECK(*cabinet_mask() == 0);
+		CHECK(*yard_mask() == 0);
 	}
 }
 
@@ -253,35 +280,70 @@ static void test_no_lanes(void)
 	begin_period(0);
 	test_no_lane(count);
 	test_no_lane(count + 1);
-	test_no_lane(count + size);
+	test_no_lane(count + sizes.lanes);
+	test_no_lane(count + sizes.cabinets * sizes.lanes);
 	test_no_lane(PT_NONE);
+}
+
+/* ---- tables */
+
+/* Where the C version says that a lane stands. */
+static void test_where(void)
+{
+	static struct table table;
+
+	table.sizes = sizes;
+	for (uint32_t n = 0; n < count; n++) {
+		struct place at = table_place(&table, n);
+
+		CHECK(at.yard == counted[n].yard && at.cabinet == counted[n].cabinet && at.place == counted[n].place);
+		CHECK(table_cabinet(&table, at.yard, at.cabinet) == counted[n].all);
+	}
 }
 
 static void test_table(void)
 {
-	count_lanes();
-	CHECK(count == cabinets * size);
 	test_passes();
 	test_no_lanes();
 	for (uint32_t n = 0; n < count; n++) {
+		if (!alone(&counted[n]))
+			continue;
 		test_awaited(&counted[n]);
 		test_snapshot(&counted[n]);
-	}
-	for (uint32_t n = 0; n < count && count > 1; n++) { /* the last lane online stays */
+		if (count == 1) /* the last lane online stays */
+			continue;
 		test_off(&counted[n]);
 		test_left_out(&counted[n]);
 	}
 }
 
+/* The tables whose lanes make calls: all of one yard; of more, few and many cabinets and lanes. */
+static bool makes_calls(void)
+{
+	bool cabinets = sizes.cabinets <= 2 || sizes.cabinets == PT_MAX_CABINETS;
+	bool lanes = sizes.lanes == 1 || sizes.lanes == 3 || sizes.lanes == PT_MAX_LANES;
+
+	return sizes.yards == 1 || (cabinets && lanes && (count <= 64 || sizes.yards == PT_MAX_YARDS));
+}
+
 int main(void)
 {
-	uint32_t lanes = 0;
+	uint32_t tables = 0, lanes = 0, all = 0;
 
-	for (cabinets = 1; cabinets <= PT_MAX_CABINETS; cabinets++)
-		for (size = 1; size <= PT_MAX_LANES; size++) {
-			test_table();
-			lanes += count;
-		}
-	printf("places: %" PRIu32 " lanes of 64 tables, each where counting says\n", lanes);
+	for (sizes.yards = 1; sizes.yards <= PT_MAX_YARDS; sizes.yards++)
+		for (sizes.cabinets = 1; sizes.cabinets <= PT_MAX_CABINETS; sizes.cabinets++)
+			for (sizes.lanes = 1; sizes.lanes <= PT_MAX_LANES; sizes.lanes++) {
+				count_lanes();
+				CHECK(count == sizes_lanes(sizes));
+				test_where();
+				all += count;
+				if (!makes_calls())
+					continue;
+				test_table();
+				tables++;
+				lanes += count;
+			}
+	printf("places: %" PRIu32 " lanes of 512 tables where counting says, calls of %" PRIu32 " of them, in %" PRIu32
+		" tables\n", all, lanes, tables);
 	return 0;
 }

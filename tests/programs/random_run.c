@@ -16,17 +16,22 @@
 #include "lent.h"
 
 static const struct list lists[] = {
-	{ 1, 1, 1, 2, 1000, 1 },
-	{ 1, 2, 3, 4, 4000, 4294967290u },
-	{ 2, 1, 2, 3, 2000, 1 },
-	{ 1, 3, 8, 9, 3000, 4294967290u },
-	{ 2, 2, 5, 6, 3000, 2147483640u },
-	{ 2, 4, 16, 14, 3000, 1 },
-	{ 3, 3, 12, 20, 2000, 4294967294u },
-	{ 8, 1, 20, 12, 2000, 1 },
-	{ 1, 8, 40, 44, 2000, 4294967280u },
-	{ 4, 4, 100, 60, 2000, 1 },
-	{ 8, 8, 1024, 400, 1500, 4294967295u },
+	{ { 1, 1, 1, 1 }, 2, 1000, 1 },
+	{ { 1, 1, 2, 3 }, 4, 4000, 4294967290u },
+	{ { 1, 2, 1, 2 }, 3, 2000, 1 },
+	{ { 1, 1, 3, 8 }, 9, 3000, 4294967290u },
+	{ { 1, 2, 2, 5 }, 6, 3000, 2147483640u },
+	{ { 1, 2, 4, 16 }, 14, 3000, 1 },
+	{ { 1, 3, 3, 12 }, 20, 2000, 4294967294u },
+	{ { 1, 8, 1, 20 }, 12, 2000, 1 },
+	{ { 1, 1, 8, 40 }, 44, 2000, 4294967280u },
+	{ { 1, 4, 4, 100 }, 60, 2000, 1 },
+	{ { 1, 8, 8, 1024 }, 400, 1500, 4294967295u },
+	{ { 2, 1, 1, 3 }, 4, 3000, 4294967290u },
+	{ { 2, 2, 2, 8 }, 9, 3000, 1 },
+	{ { 3, 2, 1, 6 }, 8, 2000, 2147483640u },
+	{ { 8, 1, 1, 12 }, 10, 2000, 1 },
+	{ { 8, 8, 8, 1024 }, 400, 400, 1 },
 };
 
 static struct lent lent;
@@ -155,7 +160,7 @@ static void let_leave(const struct list *list, size_t total)
 
 static void set_up(const struct list *list, size_t total)
 {
-	struct call setup = { CALL_SETUP, { list->cabinets, list->lanes, list->slots } };
+	struct call setup = call_setup(list->sizes);
 	uint32_t *global;
 
 	lent_start(&lent);
@@ -167,7 +172,7 @@ static void set_up(const struct list *list, size_t total)
 	global = lent_global(lent.memory);
 	global[GLOBAL_CURRENT_GENERATION] = list->generation;
 	global[GLOBAL_LARGEST_GENERATION] = list->generation - 1u;
-	for (uint32_t l = 0; l < list->cabinets * list->lanes; l++)
+	for (uint32_t l = 0; l < sizes_lanes(list->sizes); l++)
 		for (uint32_t kind = 0; kind < KINDS; kind++) /* about to carry, or to wrap */
 			lent_put_count(lent_lane(lent.memory, l) + LANE_COUNTS, kind,
 				(draw(2) == 0 ? PT_NONE : UINT64_MAX) - draw(4));
@@ -177,8 +182,8 @@ static void set_up(const struct list *list, size_t total)
 
 static void run(const struct list *list)
 {
-	size_t total = PT_WORDS(list->cabinets, list->lanes, list->slots);
-	uint32_t lanes = list->cabinets * list->lanes;
+	size_t total = layout_of(list->sizes).total;
+	uint32_t lanes = sizes_lanes(list->sizes);
 
 	exact = malloc(total * sizeof *exact);
 	CHECK(exact != NULL);

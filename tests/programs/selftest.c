@@ -20,7 +20,7 @@ static struct lent lent;
 /* Addresses here are the papers' numbers, and not those of layout.h. */
 static void test_words_of_setup(void)
 {
-	static const uint32_t contents[12] = { 3, 1, 1, 2, 12, 80, 92, 1, 93, 30, 123, 12 };
+	static const uint32_t contents[15] = { 4, 1, 1, 2, 15, 80, 95, 1, 96, 30, 126, 12, 138, 1, 1 };
 	static const uint32_t queues[13] = { 0, 1, 2, EMPTY, EMPTY, EMPTY, 0 }; /* and the generation */
 	static const uint32_t lane[30] = {
 		1, COUNTS(0), COUNTS(0), 0, EMPTY, EMPTY, EMPTY, 0, 0, PT_NONE
@@ -28,21 +28,22 @@ static void test_words_of_setup(void)
 	static const uint32_t slots[12] = {
 		0, 0, 0, 0, PT_NONE, 1, 0, 0, 0, 0, PT_NONE, PT_NONE
 	};
-	uint32_t expected[135];
+	uint32_t expected[139];
 
-	for (int n = 0; n < 135; n++)
+	for (int n = 0; n < 139; n++)
 		expected[n] = PT_NONE;
 	memcpy(expected, contents, sizeof contents);
-	expected[12] = 1; /* current generation */
-	expected[13] = 0; /* largest requested */
-	expected[14] = 0; /* cabinet mask */
-	memcpy(expected + 79, queues, sizeof queues); /* free, next, current, done */
-	expected[92] = 0; /* lane mask */
-	memcpy(expected + 93, lane, sizeof lane);
-	memcpy(expected + 123, slots, sizeof slots);
+	expected[15] = 1; /* current generation */
+	expected[16] = 0; /* largest requested */
+	expected[17] = 0; /* yard mask */
+	memcpy(expected + 82, queues, sizeof queues); /* free, next, current, done */
+	expected[95] = 0; /* lane mask */
+	memcpy(expected + 96, lane, sizeof lane);
+	memcpy(expected + 126, slots, sizeof slots);
+	expected[138] = 0; /* cabinet mask */
 
 	lent_start(&lent);
-	lent_expect(&lent, "setup 1 1 2", "0 135 0 0 0");
+	lent_expect(&lent, "setup 1 1 1 2", "0 139 0 0 0");
 	CHECK(lent.memory[0] == PT_VERSION);
 	CHECK(memcmp(lent.memory, expected, sizeof expected) == 0);
 }
@@ -50,7 +51,7 @@ static void test_words_of_setup(void)
 static void test_words_of_calls(void)
 {
 	static const struct lent_step steps[] = {
-		{ "setup 1 2 3", "0 171 0 0 0" },
+		{ "setup 1 1 2 3", "0 175 0 0 0" },
 		{ "add 0 64424509457 25 1", "0 0 0 0 0" }, /* 15 * 2^32 + 17 */
 		{ "add 0 17 26 2", "0 1 0 0 0" },
 		{ "begin 1", "0 0 0 0 0" },
@@ -72,13 +73,14 @@ static void test_words_of_calls(void)
 
 	lent_start(&lent);
 	LENT_PLAY(&lent, steps);
-	CHECK(lent.memory[12] == 1 && lent.memory[13] == 1 && lent.memory[14] == 1);
-	CHECK(lent.memory[15 + 17] == 0);
-	CHECK(lent.memory[79] == 2 && lent.memory[80] == 2 && lent.memory[81] == 1);
-	CHECK(lent.memory[92] == 3);
-	CHECK(memcmp(lent.memory + 93, lane0, sizeof lane0) == 0);
-	CHECK(memcmp(lent.memory + 123, lane1, sizeof lane1) == 0);
-	CHECK(memcmp(lent.memory + 153, slots, sizeof slots) == 0);
+	CHECK(lent.memory[15] == 1 && lent.memory[16] == 1 && lent.memory[17] == 1);
+	CHECK(lent.memory[18 + 17] == 0);
+	CHECK(lent.memory[82] == 2 && lent.memory[83] == 2 && lent.memory[84] == 1);
+	CHECK(lent.memory[95] == 3);
+	CHECK(memcmp(lent.memory + 96, lane0, sizeof lane0) == 0);
+	CHECK(memcmp(lent.memory + 126, lane1, sizeof lane1) == 0);
+	CHECK(memcmp(lent.memory + 156, slots, sizeof slots) == 0);
+	CHECK(lent.memory[174] == 1); /* the yard's cabinet mask, the last word */
 }
 
 static void test_totals(void)
@@ -87,44 +89,70 @@ static void test_totals(void)
 	uint32_t answer[PT_ANSWER_WORDS];
 
 	lent_start(&lent);
-	for (uint32_t c = 1; c <= 8; c++)
-		for (uint32_t m = 1; m <= 8; m++)
-			for (uint32_t s = 1; s <= 1024; s += 93) {
-				size_t total = 92 + c + 30 * c * m + 6 * s;
+	for (uint32_t y = 1; y <= 8; y++)
+		for (uint32_t c = 1; c <= 8; c++)
+			for (uint32_t m = 1; m <= 8; m++)
+				for (uint32_t s = y == 1 ? 1 : 3; s <= 1024; s += y == 1 ? 93 : 1021) {
+					size_t total = 95 + y + y * c + 30 * y * c * m + 6 * s;
 
-				CHECK(PT_WORDS(c, m, s) == total);
-				CHECK(tested.setup(memory, total, answer, 5, c, m, s) == 0);
-				CHECK(answer[1] == total && ref_legal(memory, total));
-				CHECK(tested.setup(memory, total - 1, answer, 5, c, m, s) == 2);
-			}
+					CHECK(PT_WORDS(y, c, m, s) == total);
+					CHECK(tested.setup(memory, total, answer, 5, y, c, m, s) == 0);
+					CHECK(answer[1] == total && ref_legal(memory, total));
+					CHECK(tested.setup(memory, total - 1, answer, 5, y, c, m, s) == 2);
+				}
+}
+
+/* The contents of tables with yards, by the papers' numbers. */
+static void test_contents(void)
+{
+	static const uint32_t contents[][15] = {
+		{ 4, 2, 3, 4, 15, 80, 95, 4, 99, 360, 459, 24, 483, 2, 2 },
+		{ 4, 8, 8, 1024, 15, 80, 95, 8, 103, 1920, 2023, 6144, 8167, 1, 1 },
+		{ 4, 8, 8, 1024, 15, 80, 95, 64, 159, 15360, 15519, 6144, 21663, 8, 8 },
+	};
+
+	lent_start(&lent);
+	lent_expect(&lent, "setup 2 2 3 4", "0 485 0 0 0");
+	CHECK(memcmp(lent.memory, contents[0], sizeof contents[0]) == 0);
+	lent_expect(&lent, "setup 1 8 8 1024", "0 8168 0 0 0");
+	CHECK(memcmp(lent.memory, contents[1], sizeof contents[1]) == 0);
+	lent_expect(&lent, "setup 8 8 8 1024", "0 21671 0 0 0");
+	CHECK(memcmp(lent.memory, contents[2], sizeof contents[2]) == 0);
 }
 
 static void test_setup_refusals(void)
 {
 	static const struct lent_step sizes[] = {
-		{ "setup 0 1 1", "1 0 0 0 0" }, { "setup 9 1 1", "1 0 0 0 0" },
-		{ "setup 1 0 1", "1 0 0 0 0" }, { "setup 1 9 1", "1 0 0 0 0" },
-		{ "setup 1 1 0", "1 0 0 0 0" }, { "setup 1 1 1025", "1 0 0 0 0" },
-		{ "setup 8 8 0", "1 0 0 0 0" }, { "setup 8 8 1025", "1 0 0 0 0" },
-		{ "setup 4294967295 1 1", "1 0 0 0 0" }, { "setup 1 4294967295 1", "1 0 0 0 0" },
-		{ "setup 1 1 4294967295", "1 0 0 0 0" },
-		{ "setup 65536 65536 1", "1 0 0 0 0" },
+		{ "setup 0 1 1 1", "1 0 0 0 0" }, { "setup 9 1 1 1", "1 0 0 0 0" },
+		{ "setup 9 8 8 1024", "1 0 0 0 0" }, { "setup 4294967295 1 1 1", "1 0 0 0 0" },
+		{ "setup 1 0 1 1", "1 0 0 0 0" }, { "setup 1 9 1 1", "1 0 0 0 0" },
+		{ "setup 1 1 0 1", "1 0 0 0 0" }, { "setup 1 1 9 1", "1 0 0 0 0" },
+		{ "setup 1 1 1 0", "1 0 0 0 0" }, { "setup 1 1 1 1025", "1 0 0 0 0" },
+		{ "setup 1 8 8 0", "1 0 0 0 0" }, { "setup 1 8 8 1025", "1 0 0 0 0" },
+		{ "setup 1 4294967295 1 1", "1 0 0 0 0" }, { "setup 1 1 4294967295 1", "1 0 0 0 0" },
+		{ "setup 1 1 1 4294967295", "1 0 0 0 0" },
+		{ "setup 1 65536 65536 1", "1 0 0 0 0" },
 	};
 
 	lent_start(&lent);
 	LENT_PLAY(&lent, sizes);
 	lent.words = 0; /* the size is tested first */
 	LENT_PLAY(&lent, sizes);
-	lent_expect(&lent, "setup 1 1 1", "2 0 0 0 0");
-	lent.words = 8163;
-	lent_expect(&lent, "setup 8 8 1024", "2 0 0 0 0");
-	lent.words = 8164;
-	lent_expect(&lent, "setup 8 8 1024", "0 8164 0 0 0");
+	lent_expect(&lent, "setup 1 1 1 1", "2 0 0 0 0");
+	lent.words = 21670;
+	lent_expect(&lent, "setup 8 8 8 1024", "2 0 0 0 0");
+	lent.words = 21671;
+	lent_expect(&lent, "setup 8 8 8 1024", "0 21671 0 0 0");
+	lent_expect(&lent, "awaited", "0 0 4294967295 1024 0");
+	lent.words = 8167;
+	lent_expect(&lent, "setup 1 8 8 1024", "2 0 0 0 0");
+	lent.words = 8168;
+	lent_expect(&lent, "setup 1 8 8 1024", "0 8168 0 0 0");
 	lent_expect(&lent, "awaited", "0 0 4294967295 1024 0");
 	/* A refused set-up leaves the table; an accepted one begins another. */
-	lent_expect(&lent, "setup 8 8 1025", "1 0 0 0 0");
+	lent_expect(&lent, "setup 1 8 8 1025", "1 0 0 0 0");
 	lent_expect(&lent, "begin 63", "0 0 0 0 0");
-	lent_expect(&lent, "setup 1 1 1", "0 129 0 0 0");
+	lent_expect(&lent, "setup 1 1 1 1", "0 133 0 0 0");
 	lent_expect(&lent, "begin 0", "0 0 0 0 0");
 }
 
@@ -149,10 +177,10 @@ static void test_not_legal(void)
 	memset(lent.memory, 0, sizeof lent.memory);
 	LENT_PLAY(&lent, steps);
 	/* A table that was legal, lent one word short. */
-	lent_expect(&lent, "setup 1 2 3", "0 171 0 0 0");
-	lent.words = 170;
+	lent_expect(&lent, "setup 1 1 2 3", "0 175 0 0 0");
+	lent.words = 174;
 	LENT_PLAY(&lent, steps);
-	lent.words = 171;
+	lent.words = 175;
 	lent_expect(&lent, "begin 0", "0 0 0 0 0");
 }
 
@@ -160,7 +188,7 @@ static void test_not_legal(void)
 static void test_lanes(void)
 {
 	static const struct lent_step steps[] = {
-		{ "setup 1 2 2", "0 165 0 0 0" },
+		{ "setup 1 1 2 2", "0 169 0 0 0" },
 		{ "add 2 55 1 1", "4 0 0 0 0" }, { "rep 2 55 1 1", "4 0 0 0 0" },
 		{ "del 2 55", "4 0 0 0 0" }, { "begin 2", "4 0 0 0 0" },
 		{ "end 2", "4 0 0 0 0" }, { "start 2 55", "4 0 0 0 0" },
@@ -182,7 +210,7 @@ static void test_lanes(void)
 		{ "on 1", "0 0 0 0 0" }, { "on 1", "6 0 0 0 0" },
 		{ "off 0", "0 0 0 0 0" }, { "off 1", "15 0 0 0 0" },
 		/* One lane alone is the last one. */
-		{ "setup 1 1 1", "0 129 0 0 0" }, { "off 0", "15 0 0 0 0" },
+		{ "setup 1 1 1 1", "0 133 0 0 0" }, { "off 0", "15 0 0 0 0" },
 	};
 
 	lent_start(&lent);
@@ -193,7 +221,7 @@ static void test_lanes(void)
 static void test_sections(void)
 {
 	static const struct lent_step steps[] = {
-		{ "setup 1 2 2", "0 165 0 0 0" },
+		{ "setup 1 1 2 2", "0 169 0 0 0" },
 		{ "end 0", "8 0 0 0 0" }, { "start 0 55", "8 0 0 0 0" },
 		{ "start 0 18446744073709551615", "8 0 0 0 0" },
 		{ "step 0", "10 0 0 0 0" },
@@ -226,7 +254,7 @@ static void test_sections(void)
 static void test_records(void)
 {
 	static const struct lent_step steps[] = {
-		{ "setup 1 2 2", "0 165 0 0 0" },
+		{ "setup 1 1 2 2", "0 169 0 0 0" },
 		{ "add 0 18446744073709551615 1 1", "11 0 0 0 0" },
 		{ "add 0 18446744073709551615 1 1", "11 0 0 0 0" },
 		{ "add 0 55 100001 1", "11 0 0 0 0" }, { "add 0 55 1 8", "11 0 0 0 0" },
@@ -259,7 +287,7 @@ static void test_records(void)
 static void test_code_limit(void)
 {
 	static const struct lent_step steps[] = {
-		{ "setup 1 1 3", "0 141 0 0 0" },
+		{ "setup 1 1 1 3", "0 145 0 0 0" },
 		{ "add 0 9999999999999 1 1", "17 0 0 0 0" },
 		{ "add 0 9999999999994 1 1", "0 0 0 0 0" },
 		{ "add 0 10000000000000 1 1", "17 0 0 0 0" },
@@ -286,7 +314,7 @@ static void test_code_limit(void)
 static void test_check_digits(void)
 {
 	static const struct lent_step steps[] = {
-		{ "setup 1 2 2", "0 165 0 0 0" },
+		{ "setup 1 1 2 2", "0 169 0 0 0" },
 		{ "add 0 5901234123457 1 1", "0 0 0 0 0" }, { "add 0 4006381333931 1 1", "0 1 0 0 0" },
 		/* One digit mistyped; neighbours exchanged, which differ by 5 in the last one. */
 		{ "rep 0 5901234123458 1 1", "17 0 0 0 0" }, { "rep 0 5907234123457 1 1", "17 0 0 0 0" },
@@ -308,7 +336,7 @@ static void test_check_digits(void)
 static void test_older_record(void)
 {
 	static const struct lent_step records[] = {
-		{ "setup 1 1 2", "0 135 0 0 0" }, { "add 0 338 1 1", "0 0 0 0 0" },
+		{ "setup 1 1 1 2", "0 139 0 0 0" }, { "add 0 338 1 1", "0 0 0 0 0" },
 		{ "add 0 17 2 2", "0 1 0 0 0" },
 	};
 	static const struct lent_step steps[] = {
@@ -333,14 +361,14 @@ static void test_older_record(void)
 static void test_chains(void)
 {
 	static const struct lent_step six_calls[] = {
-		{ "setup 1 1 4", "0 147 0 0 0" },
+		{ "setup 1 1 1 4", "0 151 0 0 0" },
 		{ "add 0 192 10 1", "0 0 0 0 0" }, { "add 0 0 20 2", "0 1 0 0 0" },
 		{ "begin 0", "0 0 0 0 0" }, { "start 0 192", "0 0 0 0 0" },
 		{ "del 0 0", "0 1 0 0 0" },
 		{ "step 0", "0 0 0 0 0" }, { "step 0", "0 1 0 10 1" },
 	};
 	static const struct lent_step replaced[] = {
-		{ "setup 1 2 8", "0 201 0 0 0" },
+		{ "setup 1 1 2 8", "0 205 0 0 0" },
 		{ "add 0 0 10 0", "0 0 0 0 0" }, { "add 0 192 11 1", "0 1 0 0 0" },
 		{ "add 0 512 12 2", "0 2 0 0 0" },
 		/* A reader past the head finds the new slot in the old one's place. */
@@ -372,7 +400,7 @@ static struct lent plain; /* the same calls without a lookup */
 
 /* Chain 0 is the slots 2, 1, 0 with the codes 512, 192, 0. */
 static const struct lent_step chain_of_three[] = {
-	{ "setup 1 2 6", "0 189 0 0 0" }, { "add 0 0 10 0", "0 0 0 0 0" },
+	{ "setup 1 1 2 6", "0 193 0 0 0" }, { "add 0 0 10 0", "0 0 0 0 0" },
 	{ "add 0 192 11 1", "0 1 0 0 0" }, { "add 0 512 12 2", "0 2 0 0 0" },
 };
 
@@ -536,7 +564,7 @@ static void test_drop_and_off(void)
 static void test_drop_of_one_lane(void)
 {
 	static const struct lent_step steps[] = {
-		{ "setup 2 2 4", "0 238 0 0 0" }, { "add 0 64424509457 25 1", "0 0 0 0 0" },
+		{ "setup 1 2 2 4", "0 242 0 0 0" }, { "add 0 64424509457 25 1", "0 0 0 0 0" },
 		{ "add 0 17 26 2", "0 1 0 0 0" }, { "begin 2", "0 0 0 0 0" },
 		{ "begin 3", "0 0 0 0 0" }, { "start 2 64424509457", "0 0 0 0 0" },
 		{ "start 3 64424509457", "0 0 0 0 0" }, { "step 2", "0 0 0 0 0" },
@@ -564,7 +592,7 @@ static void test_dropped_lookups(void)
 static void test_high_words(void)
 {
 	static const struct lent_step steps[] = {
-		{ "setup 1 1 2", "0 135 0 0 0" }, { "add 0 64424509457 10 1", "0 0 0 0 0" },
+		{ "setup 1 1 1 2", "0 139 0 0 0" }, { "add 0 64424509457 10 1", "0 0 0 0 0" },
 		{ "del 0 17", "13 0 0 0 0" }, { "begin 0", "0 0 0 0 0" },
 		{ "start 0 17", "0 0 0 0 0" }, { "step 0", "0 0 0 0 0" },
 		{ "step 0", "0 2 0 0 0" }, { "add 0 17 11 2", "0 1 0 0 0" },
@@ -580,7 +608,7 @@ static void test_high_words(void)
 static void test_free_queue(void)
 {
 	static const struct lent_step steps[] = {
-		{ "setup 1 1 3", "0 141 0 0 0" },
+		{ "setup 1 1 1 3", "0 145 0 0 0" },
 		{ "add 0 17 1 1", "0 0 0 0 0" }, { "add 0 24 1 1", "0 1 0 0 0" },
 		{ "del 0 24", "0 1 0 0 0" }, { "del 0 17", "0 0 0 0 0" },
 		{ "clock 0", "0 1 1 1 0" }, { "pass 0 2", "0 0 0 0 0" },
@@ -602,7 +630,7 @@ static void test_free_queue(void)
 static void test_count_grows(uint32_t kind, uint64_t count)
 {
 	static const struct lent_step before[] = {
-		{ "setup 1 2 2", "0 165 0 0 0" }, { "add 0 55 1 1", "0 0 0 0 0" },
+		{ "setup 1 1 2 2", "0 169 0 0 0" }, { "add 0 55 1 1", "0 0 0 0 0" },
 		{ "del 0 55", "0 0 0 0 0" },
 	};
 	struct call pass = { CALL_PASS, { 0, kind, 0, 0 } };
@@ -629,8 +657,8 @@ static void test_count_words(uint32_t kind)
 	uint32_t *lane;
 
 	lent_start(&lent);
-	lent_expect(&lent, "setup 1 2 2", "0 165 0 0 0");
-	lane = lent.memory + 93 + 30;
+	lent_expect(&lent, "setup 1 1 2 2", "0 169 0 0 0");
+	lane = lent.memory + 96 + 30;
 	lane[1 + 2 * kind] = 4294967295u;
 	lane[2 + 2 * kind] = 6;
 	CHECK(lent_make(&lent, &pass) == 0 && lane[1 + 2 * kind] == 0 && lane[2 + 2 * kind] == 7);
@@ -643,7 +671,7 @@ static void test_count_words(uint32_t kind)
 static void test_count_halves(uint32_t kind)
 {
 	static const struct lent_step before[] = {
-		{ "setup 1 2 2", "0 165 0 0 0" }, { "add 0 55 1 1", "0 0 0 0 0" },
+		{ "setup 1 1 2 2", "0 169 0 0 0" }, { "add 0 55 1 1", "0 0 0 0 0" },
 		{ "del 0 55", "0 0 0 0 0" }, { "clock 0", "0 1 1 1 0" }, { "clock 0", "0 1 1 1 0" },
 		{ "awaited", "0 2 0 1 1" },
 	};
@@ -670,7 +698,7 @@ static void test_later(void)
 static void test_generation_wraps(void)
 {
 	static const struct lent_step records[] = {
-		{ "setup 1 2 4", "0 177 0 0 0" },
+		{ "setup 1 1 2 4", "0 181 0 0 0" },
 		{ "add 0 17 1 1", "0 0 0 0 0" }, { "add 0 24 1 1", "0 1 0 0 0" },
 		{ "del 0 17", "0 0 0 0 0" },
 	};
@@ -707,7 +735,7 @@ static void test_generation_wraps(void)
 static void test_generation_wraps_idle(void)
 {
 	static const struct lent_step records[] = {
-		{ "setup 1 1 2", "0 135 0 0 0" },
+		{ "setup 1 1 1 2", "0 139 0 0 0" },
 		{ "add 0 17 1 1", "0 0 0 0 0" }, { "del 0 17", "0 0 0 0 0" },
 	};
 	static const struct lent_step steps[] = {
@@ -729,7 +757,7 @@ static void test_generation_wraps_idle(void)
 static void test_global_generation_zero(void)
 {
 	static const struct lent_step records[] = {
-		{ "setup 1 2 4", "0 177 0 0 0" },
+		{ "setup 1 1 2 4", "0 181 0 0 0" },
 		{ "add 0 17 1 1", "0 0 0 0 0" }, { "del 0 17", "0 0 0 0 0" },
 	};
 	static const struct lent_step steps[] = {
@@ -752,7 +780,7 @@ static void test_global_generation_zero(void)
 static void test_pending(void)
 {
 	static const struct lent_step steps[] = {
-		{ "setup 2 2 3", "0 232 0 0 0" },
+		{ "setup 1 2 2 3", "0 236 0 0 0" },
 		{ "add 0 17 1 1", "0 0 0 0 0" }, { "del 3 17", "0 0 0 0 0" },
 		{ "awaited", "0 0 4294967295 2 1" }, { "clock 0", "0 1 0 0 0" },
 		{ "clock 3", "0 1 1 1 0" }, { "awaited", "0 4 0 2 1" },
@@ -786,7 +814,7 @@ static void test_pending(void)
 static void test_off_queues(void)
 {
 	static const struct lent_step retired[] = {
-		{ "setup 1 2 6", "0 189 0 0 0" },
+		{ "setup 1 1 2 6", "0 193 0 0 0" },
 		{ "add 0 17 1 1", "0 0 0 0 0" }, { "add 0 24 1 1", "0 1 0 0 0" },
 		{ "add 0 31 1 1", "0 2 0 0 0" }, { "add 0 48 1 1", "0 3 0 0 0" },
 		{ "del 0 17", "0 0 0 0 0" }, { "clock 0", "0 1 1 1 0" },
@@ -823,7 +851,7 @@ static void test_off_queues(void)
 static void test_off_queue_over(void)
 {
 	static const struct lent_step steps[] = {
-		{ "setup 1 2 4", "0 177 0 0 0" },
+		{ "setup 1 1 2 4", "0 181 0 0 0" },
 		{ "add 0 17 1 1", "0 0 0 0 0" }, { "del 0 17", "0 0 0 0 0" },
 		{ "clock 0", "0 1 1 1 0" }, { "pass 0 0", "0 0 0 0 0" },
 		{ "clock 0", "0 1 1 1 0" }, { "clock 1", "0 1 1 1 0" },
@@ -842,7 +870,7 @@ static void test_off_queue_over(void)
 static void test_off_last_bit(void)
 {
 	static const struct lent_step steps[] = {
-		{ "setup 1 3 6", "0 219 0 0 0" },
+		{ "setup 1 1 3 6", "0 223 0 0 0" },
 		{ "add 0 17 1 1", "0 0 0 0 0" }, { "del 0 17", "0 0 0 0 0" },
 		{ "clock 0", "0 1 1 1 0" }, { "pass 0 0", "0 0 0 0 0" },
 		{ "clock 0", "0 1 1 1 0" }, { "off 1", "0 0 0 0 0" },
@@ -862,7 +890,7 @@ static void test_off_last_bit(void)
 static void test_off_next_begun(void)
 {
 	static const struct lent_step steps[] = {
-		{ "setup 1 3 6", "0 219 0 0 0" },
+		{ "setup 1 1 3 6", "0 223 0 0 0" },
 		{ "add 0 17 1 1", "0 0 0 0 0" }, { "add 0 24 1 1", "0 1 0 0 0" },
 		{ "del 0 17", "0 0 0 0 0" }, { "clock 0", "0 1 1 1 0" },
 		{ "del 1 24", "0 1 0 0 0" }, { "clock 1", "0 1 2 1 0" },
@@ -886,7 +914,7 @@ static void test_off_next_begun(void)
 static void test_off_next_begun_with_slot(void)
 {
 	static const struct lent_step steps[] = {
-		{ "setup 1 3 6", "0 219 0 0 0" },
+		{ "setup 1 1 3 6", "0 223 0 0 0" },
 		{ "add 0 17 1 1", "0 0 0 0 0" }, { "add 0 24 1 1", "0 1 0 0 0" },
 		{ "add 0 31 1 1", "0 2 0 0 0" },
 		{ "del 0 17", "0 0 0 0 0" }, { "clock 0", "0 1 1 1 0" },
@@ -906,7 +934,7 @@ static void test_off_next_begun_with_slot(void)
 static void test_lane_before_global(void)
 {
 	static const struct lent_step steps[] = {
-		{ "setup 1 3 8", "0 231 0 0 0" },
+		{ "setup 1 1 3 8", "0 235 0 0 0" },
 		{ "add 0 17 1 1", "0 0 0 0 0" }, { "add 0 24 1 1", "0 1 0 0 0" },
 		{ "add 0 31 1 1", "0 2 0 0 0" },
 		{ "del 2 17", "0 0 0 0 0" }, { "off 2", "0 0 0 0 0" },
@@ -927,7 +955,7 @@ static void test_lane_before_global(void)
 static void test_hand_back_order(void)
 {
 	static const struct lent_step steps[] = {
-		{ "setup 1 2 4", "0 177 0 0 0" },
+		{ "setup 1 1 2 4", "0 181 0 0 0" },
 		{ "add 0 17 1 1", "0 0 0 0 0" }, { "add 0 24 1 1", "0 1 0 0 0" },
 		{ "del 1 17", "0 0 0 0 0" }, { "off 1", "0 0 0 0 0" },
 		{ "clock 0", "0 1 1 1 0" }, { "pass 0 0", "0 0 0 0 0" },
@@ -959,7 +987,7 @@ static void check_empty(uint32_t address)
 static void test_lengths_of_both(void)
 {
 	static const struct lent_step waiting[] = {
-		{ "setup 1 3 8", "0 231 0 0 0" }, { "add 0 17 1 1", "0 0 0 0 0" },
+		{ "setup 1 1 3 8", "0 235 0 0 0" }, { "add 0 17 1 1", "0 0 0 0 0" },
 		{ "add 0 24 1 1", "0 1 0 0 0" }, { "add 0 31 1 1", "0 2 0 0 0" },
 		{ "del 1 31", "0 2 0 0 0" }, { "clock 1", "0 1 1 1 0" },
 		{ "del 0 17", "0 0 0 0 0" }, { "del 2 24", "0 1 0 0 0" }, { "off 2", "0 0 0 0 0" },
@@ -979,40 +1007,40 @@ static void test_lengths_of_both(void)
 
 	lent_start(&lent);
 	LENT_PLAY(&lent, waiting);
-	check_queue(79, 3, 7, 5);  /* free */
-	check_empty(82);	   /* global next, current and done */
-	check_queue(85, 1, 1, 1);
+	check_queue(82, 3, 7, 5);  /* free */
+	check_empty(85);	   /* global next, current and done */
+	check_queue(88, 1, 1, 1);
+	check_empty(91);
+	check_queue(114, 0, 0, 1); /* lane 0's */
+	check_empty(117);
+	check_empty(120);
+	check_empty(144);	   /* lane 1's */
+	check_queue(147, 2, 2, 1);
+	check_empty(150);
+	LENT_PLAY(&lent, done);
+	check_empty(85);
 	check_empty(88);
-	check_queue(111, 0, 0, 1); /* lane 0's */
+	check_queue(91, 1, 1, 1);
 	check_empty(114);
 	check_empty(117);
-	check_empty(141);	   /* lane 1's */
-	check_queue(144, 2, 2, 1);
-	check_empty(147);
-	LENT_PLAY(&lent, done);
-	check_empty(82);
-	check_empty(85);
-	check_queue(88, 1, 1, 1);
-	check_empty(111);
-	check_empty(114);
-	check_queue(117, 0, 0, 1);
-	check_empty(141);
+	check_queue(120, 0, 0, 1);
 	check_empty(144);
-	check_queue(147, 2, 2, 1);
-	for (uint32_t address = 171; address <= 177; address += 3) /* lane 2's, which is off */
+	check_empty(147);
+	check_queue(150, 2, 2, 1);
+	for (uint32_t address = 174; address <= 180; address += 3) /* lane 2's, which is off */
 		check_empty(address);
 	LENT_PLAY(&lent, reclaimed);
-	check_queue(79, 3, 2, 8);
-	check_empty(88);
-	check_empty(117);
-	check_empty(147);
+	check_queue(82, 3, 2, 8);
+	check_empty(91);
+	check_empty(120);
+	check_empty(150);
 }
 
 /* A clock says what it moved, and not what is done; the queue has the sum, in the order. */
 static void test_lengths_joined(void)
 {
 	static const struct lent_step steps[] = {
-		{ "setup 1 1 8", "0 171 0 0 0" }, { "add 0 17 1 1", "0 0 0 0 0" },
+		{ "setup 1 1 1 8", "0 175 0 0 0" }, { "add 0 17 1 1", "0 0 0 0 0" },
 		{ "add 0 24 1 1", "0 1 0 0 0" }, { "rep 0 17 2 2", "0 2 0 0 0" },
 		{ "clock 0", "0 1 1 1 0" }, { "pass 0 0", "0 0 0 0 0" }, { "clock 0", "0 2 1 0 1" },
 		{ "del 0 24", "0 1 0 0 0" }, { "del 0 17", "0 2 0 0 0" },
@@ -1026,18 +1054,18 @@ static void test_lengths_joined(void)
 
 	lent_start(&lent);
 	LENT_PLAY(&lent, steps);
-	check_queue(79, 3, 7, 5);
-	check_queue(117, 0, 2, 3);
+	check_queue(82, 3, 7, 5);
+	check_queue(120, 0, 2, 3);
 	LENT_PLAY(&lent, reclaimed);
-	check_queue(79, 3, 2, 8);
-	check_empty(117);
+	check_queue(82, 3, 2, 8);
+	check_empty(120);
 }
 
 /* An off joins three queues to the global next one, and one to the global done one. */
 static void test_lengths_off(void)
 {
 	static const struct lent_step steps[] = {
-		{ "setup 1 3 8", "0 231 0 0 0" }, { "add 0 17 1 1", "0 0 0 0 0" },
+		{ "setup 1 1 3 8", "0 235 0 0 0" }, { "add 0 17 1 1", "0 0 0 0 0" },
 		{ "add 0 24 1 1", "0 1 0 0 0" }, { "add 0 31 1 1", "0 2 0 0 0" },
 		{ "add 0 48 1 1", "0 3 0 0 0" }, { "del 1 17", "0 0 0 0 0" },
 		{ "off 1", "0 0 0 0 0" },			   /* slot 0: globally current */
@@ -1050,17 +1078,17 @@ static void test_lengths_off(void)
 
 	lent_start(&lent);
 	LENT_PLAY(&lent, steps);
-	check_queue(82, 1, 3, 3);
-	check_queue(85, 0, 0, 1);
-	check_empty(88);
-	CHECK(lent.memory[91] == 1); /* the generation of the global current queue */
+	check_queue(85, 1, 3, 3);
+	check_queue(88, 0, 0, 1);
+	check_empty(91);
+	CHECK(lent.memory[94] == 1); /* the generation of the global current queue */
 }
 
 /* The last lane awaited goes off: slots come to the global done queue, and are not answered. */
 static void test_lengths_off_ends(void)
 {
 	static const struct lent_step steps[] = {
-		{ "setup 1 3 8", "0 231 0 0 0" }, { "add 0 17 1 1", "0 0 0 0 0" },
+		{ "setup 1 1 3 8", "0 235 0 0 0" }, { "add 0 17 1 1", "0 0 0 0 0" },
 		{ "del 2 17", "0 0 0 0 0" }, { "off 2", "0 0 0 0 0" }, { "clock 0", "0 1 1 1 0" },
 		{ "pass 0 0", "0 0 0 0 0" }, { "clock 0", "0 1 1 1 0" }, { "off 1", "0 0 0 0 0" },
 		{ "awaited", "0 0 4294967295 7 1" },
@@ -1068,8 +1096,8 @@ static void test_lengths_off_ends(void)
 
 	lent_start(&lent);
 	LENT_PLAY(&lent, steps);
-	check_empty(85);
-	check_queue(88, 0, 0, 1);
+	check_empty(88);
+	check_queue(91, 0, 0, 1);
 	lent_expect(&lent, "clock 0", "0 2 1 0 0");
 	lent_expect(&lent, "back 0", "0 0 0 0 0");
 }
@@ -1079,7 +1107,7 @@ static void test_lengths_off_ends(void)
 /* With fewer than five answer words nothing is written, whatever else is wrong. */
 static void test_short_answers(void)
 {
-	static const struct list list = { 1, 2, 3, 4, 0, 1 };
+	static const struct list list = { { 1, 1, 2, 3 }, 4, 0, 1 };
 	static const uint32_t fill[4] = { FILL, FILL, FILL, FILL };
 	uint32_t before[LENT_WORDS];
 	uint64_t seed = 5;
@@ -1104,7 +1132,7 @@ static void test_short_answers(void)
 static void test_short_answers_first(void)
 {
 	static const struct lent_step steps[] = {
-		{ "setup 1 2 3", "0 171 0 0 0" }, { "add 0 55 1 1", "0 0 0 0 0" },
+		{ "setup 1 1 2 3", "0 175 0 0 0" }, { "add 0 55 1 1", "0 0 0 0 0" },
 		{ "begin 1", "0 0 0 0 0" },
 	};
 
@@ -1121,7 +1149,7 @@ static void test_no_memory(void)
 {
 	uint32_t answer[PT_ANSWER_WORDS];
 
-	CHECK(tested.setup(NULL, 0, answer, 5, 1, 1, 1) == 2 && answer[0] == 2);
+	CHECK(tested.setup(NULL, 0, answer, 5, 1, 1, 1, 1) == 2 && answer[0] == 2);
 	CHECK(tested.clock(NULL, 0, answer, 5, 0) == 3 && answer[0] == 3);
 	CHECK(tested.clock(NULL, 0, NULL, 0, 0) == 4294967295u);
 }
@@ -1130,7 +1158,7 @@ static void test_no_memory(void)
 static void test_words_past_total(void)
 {
 	static const struct lent_step steps[] = {
-		{ "setup 1 2 3", "0 171 0 0 0" }, { "add 0 17 25 1", "0 0 0 0 0" },
+		{ "setup 1 1 2 3", "0 175 0 0 0" }, { "add 0 17 25 1", "0 0 0 0 0" },
 		{ "begin 1", "0 0 0 0 0" }, { "start 1 17", "0 0 0 0 0" },
 		{ "del 0 17", "0 0 0 0 0" }, { "step 1", "0 1 0 25 1" },
 		{ "clock 0", "0 1 1 1 0" }, { "off 0", "0 0 0 0 0" },
@@ -1139,9 +1167,9 @@ static void test_words_past_total(void)
 	};
 
 	for (uint32_t fill = 0; fill < 3; fill++)
-		for (size_t words = 171; words < 176; words++) {
+		for (size_t words = 175; words < 180; words++) {
 			lent_start(&lent);
-			for (size_t n = 171; n < LENT_WORDS; n++)
+			for (size_t n = 175; n < LENT_WORDS; n++)
 				lent.memory[n] = fill == 0 ? 0 : fill == 1 ? 1 : PT_NONE;
 			lent.words = words;
 			LENT_PLAY(&lent, steps);
@@ -1153,6 +1181,7 @@ int main(void)
 	test_words_of_setup();
 	test_words_of_calls();
 	test_totals();
+	test_contents();
 	test_setup_refusals();
 	test_not_legal();
 	test_lanes();

@@ -164,7 +164,8 @@ static void check_row(const struct row *row)
 
 	CHECK(global[GLOBAL_CURRENT_GENERATION] == row->current);
 	CHECK(global[GLOBAL_LARGEST_GENERATION] == row->largest);
-	CHECK(global[GLOBAL_PENDING] == row->cabinets);
+	CHECK(global[GLOBAL_PENDING] == (row->cabinets != 0)); /* the one yard */
+	CHECK(lent_yard(memory, 0)[YARD_PENDING] == row->cabinets);
 	CHECK(lent_cabinet(memory, 0)[CABINET_PENDING] == row->lanes);
 	for (uint32_t kind = 0; kind < KINDS; kind++) {
 		CHECK(lent_count(lane + LANE_COUNTS, kind) == row->counts[kind]);
@@ -203,7 +204,7 @@ static void replay(const char *table, const struct row *rows, size_t count)
 static void replay_three_lanes(void)
 {
 	static const struct lent_step steps[] = {
-		{ "setup 1 3 4", "0 207 0 0 0" },
+		{ "setup 1 1 3 4", "0 211 0 0 0" },
 		{ "add 0 17 1 1", "0 0 0 0 0" }, { "add 0 24 1 1", "0 1 0 0 0" },
 		{ "add 0 31 1 1", "0 2 0 0 0" },
 		{ "del 0 17", "0 0 0 0 0" }, { "del 1 24", "0 1 0 0 0" },
@@ -224,7 +225,7 @@ static void replay_three_lanes(void)
 int main(void)
 {
 	lent_start(&lent);
-	make("setup 2 4 16");
+	make("setup 1 2 4 16");
 	for (uint32_t n = 0; n < 5; n++) { /* 109, 116, 123, 130, 147 */
 		struct call add = { CALL_ADD, { 0, CODE_OF_ALL(10 + n), 25, 1 } };
 

@@ -1,6 +1,6 @@
 /*
  * layout.h - where the words of a table's memory stand (document 01, "The memory"; a queue's
- * length: document 02, request 6; counts of two words: request 7).
+ * length: document 02, request 6; counts of two words: request 7; yards: request 8).
  * Each record is the list of its words in their order; lengths and totals follow.
  */
 #ifndef REFERENCE_LAYOUT_H
@@ -8,7 +8,7 @@
 
 #include <stdint.h>
 
-enum { LAYOUT_VERSION = 3, CHAINS = 64, KINDS = 4 };
+enum { LAYOUT_VERSION = 4, CHAINS = 64, KINDS = 4 };
 
 /* Words of a queue, its two ends and its length, of a code, and of a count. */
 enum { QUEUE_FIRST, QUEUE_LAST, QUEUE_LENGTH, QUEUE_WORDS };
@@ -16,21 +16,22 @@ enum { CODE_LOW, CODE_HIGH, CODE_WORDS };
 enum { COUNT_LOW, COUNT_HIGH, COUNT_WORDS };
 
 /* The bodies after the contents, in their order. */
-enum { BODY_GLOBAL, BODY_CABINETS, BODY_LANES, BODY_SLOTS, BODIES };
+enum { BODY_GLOBAL, BODY_CABINETS, BODY_LANES, BODY_SLOTS, BODY_YARDS, BODIES };
 
 enum contents_word {
 	CONTENTS_VERSION,
-	CONTENTS_CABINETS,
+	CONTENTS_CABINETS, /* in each yard */
 	CONTENTS_LANES, /* in each cabinet */
 	CONTENTS_SLOTS,
 	CONTENTS_BODIES, /* first word and length of each */
-	CONTENTS_WORDS = CONTENTS_BODIES + 2 * BODIES
+	CONTENTS_YARDS = CONTENTS_BODIES + 2 * BODIES,
+	CONTENTS_WORDS
 };
 
 enum global_word {
 	GLOBAL_CURRENT_GENERATION,
 	GLOBAL_LARGEST_GENERATION,
-	GLOBAL_PENDING, /* mask of cabinets */
+	GLOBAL_PENDING, /* mask of yards */
 	GLOBAL_CHAINS,
 	GLOBAL_FREE = GLOBAL_CHAINS + CHAINS,
 	GLOBAL_NEXT = GLOBAL_FREE + QUEUE_WORDS,
@@ -76,6 +77,37 @@ enum slot_word {
 	SLOT_WORDS
 };
 
+enum yard_word {
+	YARD_PENDING, /* mask of its cabinets */
+	YARD_WORDS
+};
+
+/* The sizes of a table, in the order of a set-up's arguments. */
+struct sizes {
+	uint32_t yards;
+	uint32_t cabinets; /* in each yard */
+	uint32_t lanes;	   /* in each cabinet */
+	uint32_t slots;
+};
+
+/* The cabinets of all yards, and the lanes of all cabinets. */
+static inline uint32_t sizes_cabinets(struct sizes sizes)
+{
+	return sizes.yards * sizes.cabinets;
+}
+
+static inline uint32_t sizes_lanes(struct sizes sizes)
+{
+	return sizes_cabinets(sizes) * sizes.lanes;
+}
+
+/* The sizes that the contents of a memory tell. */
+static inline struct sizes sizes_of(const uint32_t *memory)
+{
+	return (struct sizes){ memory[CONTENTS_YARDS], memory[CONTENTS_CABINETS],
+		memory[CONTENTS_LANES], memory[CONTENTS_SLOTS] };
+}
+
 /* First word and length of each body of a table, and the total. */
 struct layout {
 	uint32_t first[BODIES];
@@ -84,6 +116,6 @@ struct layout {
 };
 
 /* The layout for sizes in range. */
-struct layout layout_of(uint32_t cabinets, uint32_t lanes, uint32_t slots);
+struct layout layout_of(struct sizes sizes);
 
 #endif /* REFERENCE_LAYOUT_H */

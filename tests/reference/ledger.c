@@ -1,10 +1,10 @@
 /*
- * ledger.c - the ledger of demand 3. An entry is kept at its slot. Of a lookup's
- * instants only the whole searches there are kept: a slot that left the table during
- * the lookup is out with the lookup's section, so each slot explains at most once. Of the
- * sums of request 6 only the difference is kept: what came to done queues and was not
- * handed back. The slots there are counted along the links; no length is asked. A memory of
- * version 2 is asked where its words stand: the list of a carried memory begins on one.
+ * ledger.c - the ledger of demand 3. An entry is kept at its slot, and stays there while the
+ * slot is out. So a whole search is the slot that it gives, or LEDGER_ABSENT, and a lookup's
+ * instants are the set of these: a slot that leaves the table during a lookup is out with the
+ * lookup's section, and cannot come back before that has ended. Of the sums of request 6 only
+ * the difference is kept: what came to done queues and was not handed back. The slots there
+ * are counted along the links; no length is asked.
  */
 #include "ledger.h"
 
@@ -12,15 +12,13 @@
 #include <string.h>
 
 #include "layout.h"
-#include "layout_v2.h"
 #include "product_table.h"
 
-_Static_assert(LEDGER_LANES <= 64, "sections are bits of a 64-bit word");
-_Static_assert(sizeof(struct ledger_search) == 24, "no padding");
-_Static_assert(sizeof(struct ledger_slot) == 32, "no padding");
-_Static_assert(sizeof(struct ledger_lane) == 24 + 24 * (2 * LEDGER_SLOTS + 1), "no padding");
+_Static_assert(sizeof(struct ledger_slot) == 24 + 8 * LEDGER_SET(LEDGER_LANES), "no padding");
+_Static_assert(sizeof(struct ledger_lane) == 16 + 8 * (LEDGER_SET(LEDGER_SLOTS + 1) + LEDGER_SET(LEDGER_SLOTS)),
+	"no padding");
 _Static_assert(sizeof(struct ledger) == sizeof(struct ledger_slot) * LEDGER_SLOTS +
-	sizeof(struct ledger_lane) * LEDGER_LANES + 8, "no padding");
+	sizeof(struct ledger_lane) * LEDGER_LANES + 8 * LEDGER_SET(LEDGER_LANES) + 8, "no padding");
 
 static const char BEYOND[] = "a lane or slot is beyond the ledger's capacity";
 
@@ -43,22 +41,45 @@ void ledger_reset(struct ledger *ledger)
 	memset(ledger, 0, sizeof *ledger);
 }
 
-static bool search_same(const struct ledger_search *a, const struct ledger_search *b)
+/* ---- sets of lanes or slots */
+
+enum { SET_BITS = 64 }; /* of a word */
+
+static bool set_has(const uint64_t *set, uint32_t number)
 {
-	return a->code == b->code && a->outcome == b->outcome && a->slot == b->slot &&
-		a->deposit == b->deposit && a->material == b->material;
+	return set[number / SET_BITS] >> number % SET_BITS & 1u;
 }
 
-static bool search_listed(const struct ledger_search *list, uint32_t length,
-		const struct ledger_search *search)
+static void set_put(uint64_t *set, uint32_t number)
 {
-	for (uint32_t n = 0; n < length; n++)
-		if (search_same(&list[n], search))
-			return true;
-	return false;
+	set[number / SET_BITS] |= UINT64_C(1) << number % SET_BITS;
 }
 
-/* The slot of the code's entry, or LEDGER_SLOTS. */
+static void set_drop(uint64_t *set, uint32_t number)
+{
+	set[number / SET_BITS] &= ~(UINT64_C(1) << number % SET_BITS);
+}
+
+/* The first number in the set from @from on, or @numbers. */
+static uint32_t set_next(const uint64_t *set, uint32_t from, uint32_t numbers)
+{
+	while (from < numbers && !set_has(set, from))
+		from += set[from / SET_BITS] == 0 ? SET_BITS - from % SET_BITS : 1;
+	return from < numbers ? from : numbers;
+}
+
+/* Goes through a set. */
+#define FOR_EACH(n, set, numbers) \
+	for (uint32_t n = set_next(set, 0, numbers); n < (numbers); n = set_next(set, n + 1, numbers))
+
+bool ledger_reading(const struct ledger *ledger, uint32_t lane)
+{
+	return set_has(ledger->reading, lane);
+}
+
+/* ---- entries */
+
+/* The slot of the code's entry, or LEDGER_ABSENT: what a whole search for the code gives at this instant. */
 static uint32_t entry_of(const struct ledger *ledger, uint64_t code)
 {
 	uint32_t slot = 0;
@@ -80,44 +101,18 @@ static uint32_t entries_on_chain(const struct ledger *ledger, uint64_t code)
 	return entries;
 }
 
-/* A whole search for the code at this instant. */
-static struct ledger_search whole_search(const struct ledger *ledger, uint64_t code)
-{
-	uint32_t slot = entry_of(ledger, code);
-
-	if (slot == LEDGER_SLOTS)
-		return (struct ledger_search){ .code = code, .outcome = PT_ABSENT };
-	return (struct ledger_search){
-		.code = code,
-		.outcome = PT_FOUND,
-		.slot = slot,
-		.deposit = ledger->slot[slot].deposit,
-		.material = ledger->slot[slot].material,
-	};
-}
-
 /* Notes this instant for a lane's lookup. */
-static const char *note_instant(struct ledger *ledger, struct ledger_lane *lane)
+static void note_instant(struct ledger *ledger, struct ledger_lane *lane)
 {
-	struct ledger_search search = whole_search(ledger, lane->code);
-
-	if (search_listed(lane->search, lane->searches, &search))
-		return NULL;
-	if (lane->searches == LEDGER_SLOTS + 1)
-		return "a slot came back into the table during a lookup";
-	lane->search[lane->searches++] = search;
-	return NULL;
+	set_put(lane->search, entry_of(ledger, lane->code));
 }
 
-/* Notes the instant of a change of the code's entry for all lookups of the code. */
-static const char *note_change(struct ledger *ledger, uint64_t code)
+/* Notes the instant of a change of the code's entry for all lookups of the code, which run in open sections. */
+static void note_change(struct ledger *ledger, uint64_t code)
 {
-	const char *fault = NULL;
-
-	for (uint32_t l = 0; l < LEDGER_LANES && fault == NULL; l++)
+	FOR_EACH(l, ledger->reading, LEDGER_LANES)
 		if (ledger->lane[l].lookup && ledger->lane[l].code == code)
-			fault = note_instant(ledger, &ledger->lane[l]);
-	return fault;
+			note_instant(ledger, &ledger->lane[l]);
 }
 
 static const char *enter(struct ledger *ledger, const struct call *call, uint32_t slot)
@@ -142,20 +137,17 @@ static const char *strike(struct ledger *ledger, uint64_t code, uint32_t slot)
 		return BEYOND;
 	if (entry_of(ledger, code) != slot)
 		return "the removed slot is not that of the code's entry";
-	ledger->slot[slot] = (struct ledger_slot){ .out = 1 };
-	for (uint32_t l = 0; l < LEDGER_LANES; l++)
-		ledger->slot[slot].sections |= (uint64_t)ledger->lane[l].reading << l;
+	ledger->slot[slot].entered = 0;
+	ledger->slot[slot].out = 1;
+	memcpy(ledger->slot[slot].sections, ledger->reading, sizeof ledger->reading);
 	return NULL;
 }
 
 static const char *feed_add(struct ledger *ledger, const struct call *call, const uint32_t *answer)
 {
-	const char *fault;
-
-	if (entry_of(ledger, call->argument[1]) != LEDGER_SLOTS)
+	if (entry_of(ledger, call->argument[1]) != LEDGER_ABSENT)
 		return "a code was added that has an entry";
-	fault = enter(ledger, call, answer[1]);
-	return fault != NULL ? fault : note_change(ledger, call->argument[1]);
+	return enter(ledger, call, answer[1]);
 }
 
 static const char *feed_replace(struct ledger *ledger, const struct call *call,
@@ -163,25 +155,25 @@ static const char *feed_replace(struct ledger *ledger, const struct call *call,
 {
 	const char *fault = strike(ledger, call->argument[1], answer[2]);
 
-	if (fault == NULL)
-		fault = enter(ledger, call, answer[1]);
-	/* One instant for both: no search finds the code absent between them. */
-	return fault != NULL ? fault : note_change(ledger, call->argument[1]);
+	return fault != NULL ? fault : enter(ledger, call, answer[1]);
 }
 
-static const char *feed_delete(struct ledger *ledger, const struct call *call,
-		const uint32_t *answer)
+/* A change of the code's entry is one instant, so no search finds a code absent that is replaced. */
+static const char *feed_change(struct ledger *ledger, const struct call *call, const uint32_t *answer)
 {
-	const char *fault = strike(ledger, call->argument[1], answer[1]);
+	const char *fault = call->name == CALL_ADD ? feed_add(ledger, call, answer) :
+		call->name == CALL_REPLACE ? feed_replace(ledger, call, answer) :
+		strike(ledger, call->argument[1], answer[1]);
 
-	return fault != NULL ? fault : note_change(ledger, call->argument[1]);
+	if (fault == NULL)
+		note_change(ledger, call->argument[1]);
+	return fault;
 }
 
 /* The lane has no lookup from here on: it was answered, or dropped. */
 static void strike_lookup(struct ledger_lane *lane)
 {
-	memset(lane->search, 0, lane->searches * sizeof lane->search[0]);
-	lane->searches = 0;
+	memset(lane->search, 0, sizeof lane->search);
 	lane->lookup = 0;
 	lane->code = 0;
 }
@@ -191,36 +183,42 @@ static void feed_end(struct ledger *ledger, uint32_t l)
 {
 	struct ledger_lane *lane = &ledger->lane[l];
 
-	lane->reading = 0;
+	set_drop(ledger->reading, l);
 	strike_lookup(lane);
-	memset(lane->find, 0, lane->finds * sizeof lane->find[0]);
-	lane->finds = 0;
+	memset(lane->find, 0, sizeof lane->find);
 	for (uint32_t slot = 0; slot < LEDGER_SLOTS; slot++)
-		ledger->slot[slot].sections &= ~(UINT64_C(1) << l);
+		set_drop(ledger->slot[slot].sections, l);
 }
 
-static const char *feed_start(struct ledger *ledger, struct ledger_lane *lane, uint64_t code)
+static void feed_start(struct ledger *ledger, struct ledger_lane *lane, uint64_t code)
 {
 	lane->lookup = entries_on_chain(ledger, code) + 1;
 	lane->code = code;
-	return note_instant(ledger, lane);
+	note_instant(ledger, lane);
 }
 
-static const char *feed_step(struct ledger_lane *lane, const uint32_t *answer)
+/* Whether a whole search at an instant of the lane's lookup gives the answer of a step that ends it. */
+static bool explained(const struct ledger *ledger, const struct ledger_lane *lane, const uint32_t *answer)
 {
-	struct ledger_search search = { lane->code, answer[1], answer[2], answer[3], answer[4] };
-	bool explained = search_listed(lane->search, lane->searches, &search);
+	const struct ledger_slot *slot;
 
-	if (search.outcome == PT_GOING)
+	if (answer[1] == PT_ABSENT)
+		return set_has(lane->search, LEDGER_ABSENT) && answer[2] == 0 && answer[3] == 0 && answer[4] == 0;
+	if (answer[1] != PT_FOUND || answer[2] >= LEDGER_SLOTS || !set_has(lane->search, answer[2]))
+		return false;
+	slot = &ledger->slot[answer[2]];
+	return slot->deposit == answer[3] && slot->material == answer[4];
+}
+
+static const char *feed_step(const struct ledger *ledger, struct ledger_lane *lane, const uint32_t *answer)
+{
+	if (answer[1] == PT_GOING)
 		return --lane->lookup == 0 ? LATE : NULL;
-	if (!explained)
+	if (!explained(ledger, lane, answer))
 		return "no instant of the lookup explains its answer";
 	strike_lookup(lane);
-	if (search.outcome != PT_FOUND || search_listed(lane->find, lane->finds, &search))
-		return NULL;
-	if (lane->finds == LEDGER_SLOTS)
-		return "a slot came back into the table during a section";
-	lane->find[lane->finds++] = search;
+	if (answer[1] == PT_FOUND)
+		set_put(lane->find, answer[2]);
 	return NULL;
 }
 
@@ -230,23 +228,25 @@ static const char *feed_hand_back(struct ledger *ledger, uint32_t slot)
 		return BEYOND;
 	if (!ledger->slot[slot].out)
 		return "a slot was handed back that is not out";
-	if (ledger->slot[slot].sections != 0)
+	if (set_next(ledger->slot[slot].sections, 0, LEDGER_LANES) < LEDGER_LANES)
 		return "a slot was handed back before a section of its removal ended";
-	ledger->slot[slot].out = 0;
+	ledger->slot[slot] = (struct ledger_slot){ .out = 0 };
 	return NULL;
 }
 
 /* What an accepted call contradicts of the lane's section and lookup, or NULL. */
-static const char *misplaced(const struct ledger_lane *lane, enum call_name name)
+static const char *misplaced(const struct ledger *ledger, uint32_t l, enum call_name name)
 {
+	bool reading = ledger_reading(ledger, l), looking = ledger->lane[l].lookup != 0;
+
 	switch (name) {
-	case CALL_BEGIN: return lane->reading ? "a section began inside a section" : NULL;
-	case CALL_END: return lane->reading ? NULL : "a section ended that is not open";
+	case CALL_BEGIN: return reading ? "a section began inside a section" : NULL;
+	case CALL_END: return reading ? NULL : "a section ended that is not open";
 	case CALL_START:
-		if (!lane->reading)
+		if (!reading)
 			return "a lookup started outside a section";
-		return lane->lookup ? "a lookup started while another runs" : NULL;
-	case CALL_STEP: return lane->lookup ? NULL : "a step was taken with no lookup running";
+		return looking ? "a lookup started while another runs" : NULL;
+	case CALL_STEP: return looking ? NULL : "a step was taken with no lookup running";
 	default: return NULL;
 	}
 }
@@ -277,18 +277,20 @@ const char *ledger_feed(struct ledger *ledger, const struct call *call, const ui
 	}
 	if (lane >= LEDGER_LANES)
 		return BEYOND;
-	fault = misplaced(&ledger->lane[lane], call->name);
+	fault = misplaced(ledger, lane, call->name);
 	if (fault != NULL)
 		return fault;
 	switch (call->name) {
-	case CALL_ADD: return feed_add(ledger, call, answer);
-	case CALL_REPLACE: return feed_replace(ledger, call, answer);
-	case CALL_DELETE: return feed_delete(ledger, call, answer);
-	case CALL_START: return feed_start(ledger, &ledger->lane[lane], call->argument[1]);
-	case CALL_STEP: return feed_step(&ledger->lane[lane], answer);
+	case CALL_ADD:
+	case CALL_REPLACE:
+	case CALL_DELETE: return feed_change(ledger, call, answer);
+	case CALL_STEP: return feed_step(ledger, &ledger->lane[lane], answer);
 	case CALL_HAND_BACK: return feed_hand_back(ledger, answer[1]);
+	case CALL_START:
+		feed_start(ledger, &ledger->lane[lane], call->argument[1]);
+		return NULL;
 	case CALL_BEGIN:
-		ledger->lane[lane].reading = 1;
+		set_put(ledger->reading, lane);
 		return NULL;
 	case CALL_END:
 		feed_end(ledger, lane);
@@ -298,50 +300,37 @@ const char *ledger_feed(struct ledger *ledger, const struct call *call, const ui
 	}
 }
 
-/* Whether the words of a slot hold what was found there. */
-static bool slot_holds(const uint32_t *slot, const struct ledger_search *find)
-{
-	return slot[SLOT_CODE + CODE_LOW] == (uint32_t)find->code &&
-		slot[SLOT_CODE + CODE_HIGH] == (uint32_t)(find->code >> 32) &&
-		slot[SLOT_DEPOSIT] == find->deposit && slot[SLOT_MATERIAL] == find->material;
-}
-
-static bool is_old(const uint32_t *memory)
-{
-	return memory[CONTENTS_VERSION] == V2_VERSION;
-}
-
 /* The first word of a body. */
 static const uint32_t *body_of(const uint32_t *memory, int body)
 {
-	uint32_t cabinets = memory[CONTENTS_CABINETS], lanes = memory[CONTENTS_LANES];
-	uint32_t slots = memory[CONTENTS_SLOTS];
-
-	return memory + (is_old(memory) ? v2_layout_of(cabinets, lanes, slots).first[body] :
-		layout_of(cabinets, lanes, slots).first[body]);
+	return memory + layout_of(sizes_of(memory)).first[body];
 }
 
-/* A lane's done queue. */
-static const uint32_t *done_of(const uint32_t *memory, uint32_t lane)
+/* Whether the words of a slot hold its entry, or what that was. */
+static bool slot_holds(const uint32_t *word, const struct ledger_slot *slot)
 {
-	const uint32_t *lanes = body_of(memory, BODY_LANES);
+	return word[SLOT_CODE + CODE_LOW] == (uint32_t)slot->code &&
+		word[SLOT_CODE + CODE_HIGH] == (uint32_t)(slot->code >> 32) &&
+		word[SLOT_DEPOSIT] == slot->deposit && word[SLOT_MATERIAL] == slot->material;
+}
 
-	return is_old(memory) ? lanes + V2_LANE_WORDS * lane + V2_LANE_DONE :
-		lanes + LANE_WORDS * lane + LANE_DONE;
+/* Whether the memory holds what the lane has found. */
+static bool finds_kept(const struct ledger *ledger, const struct ledger_lane *lane, const uint32_t *slots,
+		uint32_t count)
+{
+	FOR_EACH(n, lane->find, LEDGER_SLOTS)
+		if (n >= count || !slot_holds(slots + SLOT_WORDS * n, &ledger->slot[n]))
+			return false;
+	return true;
 }
 
 const char *ledger_kept(const struct ledger *ledger, const uint32_t *memory)
 {
 	const uint32_t *slots = body_of(memory, BODY_SLOTS);
 
-	for (uint32_t l = 0; l < LEDGER_LANES; l++)
-		for (uint32_t n = 0; n < ledger->lane[l].finds; n++) {
-			const struct ledger_search *find = &ledger->lane[l].find[n];
-
-			if (find->slot >= memory[CONTENTS_SLOTS] ||
-					!slot_holds(slots + SLOT_WORDS * find->slot, find))
-				return "a found slot lost its record in the finder's section";
-		}
+	FOR_EACH(l, ledger->reading, LEDGER_LANES)
+		if (!finds_kept(ledger, &ledger->lane[l], slots, memory[CONTENTS_SLOTS]))
+			return "a found slot lost its record in the finder's section";
 	return NULL;
 }
 
@@ -366,9 +355,10 @@ static uint32_t slots_done(const uint32_t *memory)
 {
 	bool marked[LEDGER_SLOTS] = { false };
 	uint32_t count = mark_queue(memory, body_of(memory, BODY_GLOBAL) + GLOBAL_DONE, marked);
+	const uint32_t *lanes = body_of(memory, BODY_LANES);
 
-	for (uint32_t l = 0; l < memory[CONTENTS_CABINETS] * memory[CONTENTS_LANES]; l++)
-		count += mark_queue(memory, done_of(memory, l), marked);
+	for (uint32_t l = 0; l < sizes_lanes(sizes_of(memory)); l++)
+		count += mark_queue(memory, lanes + LANE_WORDS * l + LANE_DONE, marked);
 	return count;
 }
 
@@ -413,11 +403,4 @@ const char *ledger_judge(struct ledger *ledger, const struct call *call, const u
 	if (fault == NULL)
 		fault = ledger_kept(ledger, after);
 	return fault != NULL ? fault : ledger_counted(ledger, call, answer, before, after);
-}
-
-const char *ledger_carried(const struct ledger *ledger, const uint32_t *memory)
-{
-	const char *fault = ledger_kept(ledger, memory);
-
-	return fault == NULL && ledger->done != slots_done(memory) ? MISCOUNTED : fault;
 }

@@ -17,8 +17,7 @@
  * What a found slot holds is asked of the memory, by ledger_kept(), and so are the slots in
  * done queues, by ledger_counted(). Nothing is asked of a lookup that was dropped. A call on
  * a memory that is damaged or lent short, or with an answer lent short, is none of the list
- * and is not fed. The list of a carried memory is that of the old one up to the carry, and
- * then its own; the memories that are asked are of version 2 before it, and of version 3 after. A ledger is a plain value with no pointers, no padding and 0 in its unused
+ * and is not fed. A ledger is a plain value with no pointers, no padding and 0 in its unused
  * parts: assign it to copy it, compare its bytes. Its capacity may be set where it is
  * compiled.
  */
@@ -31,45 +30,38 @@
 #include "calls.h"
 
 #ifndef LEDGER_LANES
-#define LEDGER_LANES 64 /* at most 64: sections are bits of a word */
+#define LEDGER_LANES 512
 #endif
 #ifndef LEDGER_SLOTS
 #define LEDGER_SLOTS 1024
 #endif
 
-/* What a whole search for a code gives: the words of an answering step. */
-struct ledger_search {
-	uint64_t code;
-	uint32_t outcome;
-	uint32_t slot;
-	uint32_t deposit;
-	uint32_t material;
-};
+/* A set of lanes or of slots: bit n % 64 of word n / 64 is number n. */
+#define LEDGER_SET(numbers) (((numbers) + 63) / 64)
 
 struct ledger_slot {
-	uint64_t code; /* of its entry */
+	uint64_t code; /* of its entry, kept while the slot is out */
 	uint32_t deposit;
 	uint32_t material;
 	uint32_t entered; /* 1: the slot of an entry */
 	uint32_t out;     /* 1: removed and not handed back */
-	uint64_t sections; /* of an out slot, those of its removal that are still open */
+	uint64_t sections[LEDGER_SET(LEDGER_LANES)]; /* of an out slot: lanes, whose sections of its removal are still open */
 };
 
+/* What a whole search gives where the code has no entry, among the slots. */
+#define LEDGER_ABSENT LEDGER_SLOTS
+
 struct ledger_lane {
-	uint64_t code;    /* of its lookup */
-	uint32_t reading; /* 1: a section is open */
-	uint32_t lookup;  /* the steps that its lookup has left, the answering one too; 0: none is running */
-	uint32_t searches;
-	uint32_t finds;
-	/* Whole searches for the lookup's code at its instants so far, each once. */
-	struct ledger_search search[LEDGER_SLOTS + 1];
-	/* What was found in the open section, each once. */
-	struct ledger_search find[LEDGER_SLOTS];
+	uint64_t code;	 /* of its lookup */
+	uint64_t lookup; /* the steps that its lookup has left, the answering one too; 0: none is running */
+	uint64_t search[LEDGER_SET(LEDGER_SLOTS + 1)]; /* slots that whole searches give at the lookup's instants so far */
+	uint64_t find[LEDGER_SET(LEDGER_SLOTS)];       /* slots that were found in the open section */
 };
 
 struct ledger {
 	struct ledger_slot slot[LEDGER_SLOTS];
 	struct ledger_lane lane[LEDGER_LANES];
+	uint64_t reading[LEDGER_SET(LEDGER_LANES)]; /* lanes with an open section */
 	uint64_t done; /* slots that came to done queues, less those handed back */
 };
 
@@ -87,6 +79,9 @@ const char *ledger_feed(struct ledger *ledger, const struct call *call, const ui
  * answers it: the figure is attained.
  */
 bool ledger_attains(const struct ledger *ledger, const struct call *call, const uint32_t *answer);
+
+/* Whether the lane has an open section. */
+bool ledger_reading(const struct ledger *ledger, uint32_t lane);
 
 /* What a fault is of: demand 3, how long a lookup can take, or what comes to done queues. */
 enum ledger_fault { FAULT_OF_DEMAND_3, FAULT_OF_FIGURE, FAULT_OF_COUNT };
@@ -108,13 +103,6 @@ uint32_t ledger_moved(const struct call *call, const uint32_t *answer, const uin
  */
 const char *ledger_counted(struct ledger *ledger, const struct call *call, const uint32_t *answer,
 		const uint32_t *before, const uint32_t *after);
-
-/*
- * Whether a memory holds what is owed of it at this instant: what the open sections have
- * found, and the slots in done queues. The carry has no instant and is not fed: the ledger
- * of the old memory goes on with the second one, of which this is asked (request 7).
- */
-const char *ledger_carried(const struct ledger *ledger, const uint32_t *memory);
 
 /* All of it: feeds the call, and asks the memory before and after it. */
 const char *ledger_judge(struct ledger *ledger, const struct call *call, const uint32_t *answer,

@@ -1,6 +1,6 @@
 /*
- * legal.c - which memories are legal (document 01, "The memory"; lengths: document 02,
- * request 6): one function for each sentence. Any words of any length are safe to judge:
+ * legal.c - which memories are legal (document 01, "The memory"; document 02: lengths,
+ * request 6, and yards, request 8): one function for each sentence. Any words of any length are safe to judge:
  * no link is followed before its range is known, and a walk ends at the first slot it
  * meets twice. A length bounds no walk: it is compared with what a walk has met.
  */
@@ -14,11 +14,9 @@ static bool contents_agree(const uint32_t *memory, size_t words)
 
 	if (words < CONTENTS_WORDS || memory[CONTENTS_VERSION] != LAYOUT_VERSION)
 		return false;
-	if (!sizes_in_range(memory[CONTENTS_CABINETS], memory[CONTENTS_LANES],
-			memory[CONTENTS_SLOTS]))
+	if (!sizes_in_range(sizes_of(memory)))
 		return false;
-	layout = layout_of(memory[CONTENTS_CABINETS], memory[CONTENTS_LANES],
-			memory[CONTENTS_SLOTS]);
+	layout = layout_of(sizes_of(memory));
 	for (int body = 0; body < BODIES; body++)
 		if (memory[CONTENTS_BODIES + 2 * body] != layout.first[body] ||
 				memory[CONTENTS_BODIES + 2 * body + 1] != layout.length[body])
@@ -35,20 +33,23 @@ static bool flags_in_range(const struct table *t)
 	return true;
 }
 
-/* Masks are in range. */
+/* Masks are in range: that of the yards, those of each yard's cabinets, those of each cabinet's lanes. */
 static bool masks_in_range(const struct table *t)
 {
-	if (t->pending_cabinets >> t->cabinets != 0)
+	if (t->pending_yards >> t->sizes.yards != 0)
 		return false;
-	for (uint32_t c = 0; c < t->cabinets; c++)
-		if (t->pending_lanes[c] >> t->lanes != 0)
+	for (uint32_t y = 0; y < t->sizes.yards; y++)
+		if (t->pending_cabinets[y] >> t->sizes.cabinets != 0)
+			return false;
+	for (uint32_t c = 0; c < sizes_cabinets(t->sizes); c++)
+		if (t->pending_lanes[c] >> t->sizes.lanes != 0)
 			return false;
 	return true;
 }
 
 static bool link_in_range(const struct table *t, uint32_t link)
 {
-	return link == PT_NONE || link < t->slots;
+	return link == PT_NONE || link < t->sizes.slots;
 }
 
 static bool ends_in_range(const struct table *t, struct queue queue)
@@ -74,7 +75,7 @@ static bool links_in_range(const struct table *t)
 		if (!retired_in_range(t, &t->lane[l].retired) ||
 				!link_in_range(t, t->lane[l].position))
 			return false;
-	for (uint32_t s = 0; s < t->slots; s++)
+	for (uint32_t s = 0; s < t->sizes.slots; s++)
 		if (!link_in_range(t, t->slot[s].chain_link) ||
 				!link_in_range(t, t->slot[s].queue_link))
 			return false;
@@ -84,7 +85,7 @@ static bool links_in_range(const struct table *t)
 /* Fields are in range: those of every slot, and the code of every lookup. */
 static bool fields_in_range(const struct table *t)
 {
-	for (uint32_t s = 0; s < t->slots; s++)
+	for (uint32_t s = 0; s < t->sizes.slots; s++)
 		if (t->slot[s].code > PT_MAX_CODE || t->slot[s].deposit > PT_MAX_DEPOSIT ||
 				t->slot[s].material > PT_MAX_MATERIAL)
 			return false;
@@ -159,7 +160,7 @@ static bool each_slot_once(const struct table *t)
 			return false;
 	if (!of_each_queue(t, mark_queue, marked))
 		return false;
-	for (uint32_t s = 0; s < t->slots; s++)
+	for (uint32_t s = 0; s < t->sizes.slots; s++)
 		if (!marked[s])
 			return false;
 	return true;
@@ -309,8 +310,18 @@ static bool snapshots_pending(const struct table *t)
 /* A cabinet's bit is set exactly when its lane mask is not 0. */
 static bool cabinets_agree(const struct table *t)
 {
-	for (uint32_t c = 0; c < t->cabinets; c++)
-		if ((t->pending_cabinets >> c & 1u) != (t->pending_lanes[c] != 0))
+	for (uint32_t y = 0; y < t->sizes.yards; y++)
+		for (uint32_t c = 0; c < t->sizes.cabinets; c++)
+			if ((t->pending_cabinets[y] >> c & 1u) != (t->pending_lanes[table_cabinet(t, y, c)] != 0))
+				return false;
+	return true;
+}
+
+/* A yard's bit is set exactly when its cabinet mask is not 0. */
+static bool yards_agree(const struct table *t)
+{
+	for (uint32_t y = 0; y < t->sizes.yards; y++)
+		if ((t->pending_yards >> y & 1u) != (t->pending_cabinets[y] != 0))
 			return false;
 	return true;
 }
@@ -326,12 +337,12 @@ static bool free_slots_clear(const struct table *t)
 }
 
 /*
- * With the cabinet mask 0, the largest requested is the current less 1; otherwise
+ * With the yard mask 0, the largest requested is the current less 1; otherwise
  * it is the current or one more.
  */
 static bool largest_agrees(const struct table *t)
 {
-	if (t->pending_cabinets == 0)
+	if (t->pending_yards == 0)
 		return t->largest == t->current - 1u;
 	return t->largest == t->current || t->largest == t->current + 1u;
 }
@@ -353,7 +364,7 @@ static bool lane_generations_agree(const struct table *t)
 			return false;
 		if (generation_later(generation, t->largest))
 			return false;
-		if (before && t->pending_cabinets != 0 && !table_pending(t, l))
+		if (before && t->pending_yards != 0 && !table_pending(t, l))
 			return false;
 	}
 	return true;
@@ -390,6 +401,7 @@ static bool (*const sentences[LEGAL_SENTENCES])(const struct table *table) = {
 	[LEGAL_LOOKUP_IN_SECTION] = lookups_in_sections,
 	[LEGAL_SNAPSHOT_PENDING] = snapshots_pending,
 	[LEGAL_CABINET_BITS] = cabinets_agree,
+	[LEGAL_YARD_BITS] = yards_agree,
 	[LEGAL_FREE_SLOTS] = free_slots_clear,
 	[LEGAL_LARGEST] = largest_agrees,
 	[LEGAL_LANE_GENERATION] = lane_generations_agree,

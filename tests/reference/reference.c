@@ -75,21 +75,40 @@ bool ref_later(uint32_t a, uint32_t b)
 
 static bool period_running(const struct table *t)
 {
-	return t->pending_cabinets != 0;
+	return t->pending_yards != 0;
 }
 
-/* Begin period: sets the bits of all online lanes and their cabinets. */
+/* Sets the bit of a lane, of its cabinet and of its yard. */
+static void set_bits(struct table *t, struct place at)
+{
+	t->pending_lanes[table_cabinet(t, at.yard, at.cabinet)] |= 1u << at.place;
+	t->pending_cabinets[at.yard] |= 1u << at.cabinet;
+	t->pending_yards |= 1u << at.yard;
+}
+
+/* Drops the bit of a lane; a cabinet's goes with its last lane's, a yard's with its last cabinet's. */
+static void drop_bits(struct table *t, struct place at)
+{
+	uint32_t *lanes = &t->pending_lanes[table_cabinet(t, at.yard, at.cabinet)];
+
+	*lanes &= ~(1u << at.place);
+	if (*lanes != 0)
+		return;
+	t->pending_cabinets[at.yard] &= ~(1u << at.cabinet);
+	if (t->pending_cabinets[at.yard] == 0)
+		t->pending_yards &= ~(1u << at.yard);
+}
+
+/* Begin period: sets the bits of all online lanes, their cabinets and their yards. */
 static void period_begin(struct table *t)
 {
-	uint32_t l = 0; /* counted up, cabinet by cabinet and place by place */
+	uint32_t l = 0; /* counted up, yard by yard, cabinet by cabinet and place by place */
 
-	for (uint32_t c = 0; c < t->cabinets; c++)
-		for (uint32_t p = 0; p < t->lanes; p++, l++) {
-			if (!(t->lane[l].flags & FLAG_ONLINE))
-				continue;
-			t->pending_lanes[c] |= 1u << p;
-			t->pending_cabinets |= 1u << c;
-		}
+	for (uint32_t y = 0; y < t->sizes.yards; y++)
+		for (uint32_t c = 0; c < t->sizes.cabinets; c++)
+			for (uint32_t p = 0; p < t->sizes.lanes; p++, l++)
+				if (t->lane[l].flags & FLAG_ONLINE)
+					set_bits(t, (struct place){ y, c, p });
 }
 
 /* End period: the next generation, and its grace period if one is requested. */
@@ -130,9 +149,7 @@ static void lane_passed(struct table *t, uint32_t lane, struct place at)
 
 	t->lane[lane].flags &= ~(uint32_t)FLAG_SNAPSHOT;
 	memset(t->lane[lane].snapshot, 0, sizeof t->lane[lane].snapshot);
-	t->pending_lanes[at.cabinet] &= ~(1u << at.place);
-	if (t->pending_lanes[at.cabinet] == 0)
-		t->pending_cabinets &= ~(1u << at.cabinet);
+	drop_bits(t, at);
 	if (pending && !period_running(t))
 		period_end(t);
 }
@@ -222,16 +239,16 @@ static uint32_t open_online(struct table *t, const uint32_t *memory, size_t word
 }
 
 uint32_t ref_setup(uint32_t *memory, size_t words, uint32_t *answer, size_t answer_words,
-		uint32_t cabinets, uint32_t lanes, uint32_t slots)
+		uint32_t yards, uint32_t cabinets, uint32_t lanes, uint32_t slots)
 {
-	struct table t = { .cabinets = cabinets, .lanes = lanes, .slots = slots };
+	struct table t = { .sizes = { yards, cabinets, lanes, slots } };
 	uint32_t total;
 
 	if (answer_words < PT_ANSWER_WORDS)
 		return PT_SHORT_ANSWER;
-	if (!sizes_in_range(cabinets, lanes, slots))
+	if (!sizes_in_range(t.sizes))
 		return refuse(answer, PT_BAD_SIZE);
-	total = layout_of(cabinets, lanes, slots).total;
+	total = layout_of(t.sizes).total;
 	if (words < total)
 		return refuse(answer, PT_SHORT_MEMORY);
 

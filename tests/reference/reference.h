@@ -33,6 +33,7 @@ enum legal_sentence {
 	LEGAL_LOOKUP_IN_SECTION,
 	LEGAL_SNAPSHOT_PENDING,
 	LEGAL_CABINET_BITS,
+	LEGAL_YARD_BITS, /* (document 02) */
 	LEGAL_FREE_SLOTS,
 	LEGAL_LARGEST,
 	LEGAL_LANE_GENERATION,
@@ -53,7 +54,6 @@ bool ref_later(uint32_t a, uint32_t b);
 #define CALL(NAME, name, command, weight, arguments, causes) uint32_t ref_##name(CALL_LENT arguments);
 #include "calls.def"
 
-uint32_t ref_carry(CARRY_LENT);
 uint32_t ref_label_read(LABEL_READ_LENT);
 uint32_t ref_label_write(LABEL_WRITE_LENT, uint64_t code);
 

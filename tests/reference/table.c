@@ -1,24 +1,26 @@
 /*
  * table.c - reading a table from the words of its memory, and writing it back
- * (document 01, "The memory"; counts of 64 bits: document 02, request 7); where a lane stands
- * (document 02, request 4).
+ * (document 01, "The memory"; counts of 64 bits: document 02, request 7; yards: request 8);
+ * where a lane stands (requests 4 and 8).
  */
 #include "table.h"
 
-bool sizes_in_range(uint32_t cabinets, uint32_t lanes, uint32_t slots)
+bool sizes_in_range(struct sizes sizes)
 {
-	return cabinets >= 1 && cabinets <= PT_MAX_CABINETS &&
-		lanes >= 1 && lanes <= PT_MAX_LANES &&
-		slots >= 1 && slots <= PT_MAX_SLOTS;
+	return sizes.yards >= 1 && sizes.yards <= PT_MAX_YARDS &&
+		sizes.cabinets >= 1 && sizes.cabinets <= PT_MAX_CABINETS &&
+		sizes.lanes >= 1 && sizes.lanes <= PT_MAX_LANES &&
+		sizes.slots >= 1 && sizes.slots <= PT_MAX_SLOTS;
 }
 
-struct layout layout_of(uint32_t cabinets, uint32_t lanes, uint32_t slots)
+struct layout layout_of(struct sizes sizes)
 {
 	struct layout layout = { .length = {
 		[BODY_GLOBAL] = GLOBAL_WORDS,
-		[BODY_CABINETS] = CABINET_WORDS * cabinets,
-		[BODY_LANES] = LANE_WORDS * cabinets * lanes,
-		[BODY_SLOTS] = SLOT_WORDS * slots,
+		[BODY_CABINETS] = CABINET_WORDS * sizes_cabinets(sizes),
+		[BODY_LANES] = LANE_WORDS * sizes_lanes(sizes),
+		[BODY_SLOTS] = SLOT_WORDS * sizes.slots,
+		[BODY_YARDS] = YARD_WORDS * sizes.yards,
 	} };
 	uint32_t at = CONTENTS_WORDS;
 
@@ -30,18 +32,28 @@ struct layout layout_of(uint32_t cabinets, uint32_t lanes, uint32_t slots)
 	return layout;
 }
 
-enum { SUBTRACTIONS = 7 }; /* at most: a table has at most eight cabinets */
+enum { SUBTRACTIONS = 7 }; /* at most: there are at most eight yards, and eight cabinets in each */
 
-/* The cabinet size is subtracted until what is left is below it, and is the place. */
+/* The size is subtracted until what is left is below it; returns how often. */
+static uint32_t subtract(uint32_t *left, uint32_t size)
+{
+	uint32_t times = 0;
+
+	while (times < SUBTRACTIONS && *left >= size) {
+		*left -= size;
+		times++;
+	}
+	return times;
+}
+
+/* First the lanes of a yard, and then those of a cabinet; what is left is the place. */
 struct place table_place(const struct table *table, uint32_t lane)
 {
-	uint32_t size = table->lanes, cabinet = 0, left = lane;
+	struct place at = { .place = lane };
 
-	while (cabinet < SUBTRACTIONS && left >= size) {
-		left -= size;
-		cabinet++;
-	}
-	return (struct place){ .cabinet = cabinet, .place = left };
+	at.yard = subtract(&at.place, table->sizes.cabinets * table->sizes.lanes);
+	at.cabinet = subtract(&at.place, table->sizes.lanes);
+	return at;
 }
 
 static uint64_t read_code(const uint32_t *word)
@@ -83,7 +95,7 @@ static void read_global(struct table *table, const uint32_t *word)
 {
 	table->current = word[GLOBAL_CURRENT_GENERATION];
 	table->largest = word[GLOBAL_LARGEST_GENERATION];
-	table->pending_cabinets = word[GLOBAL_PENDING];
+	table->pending_yards = word[GLOBAL_PENDING];
 	for (int chain = 0; chain < CHAINS; chain++)
 		table->heads[chain] = word[GLOBAL_CHAINS + chain];
 	table->free = read_queue(word + GLOBAL_FREE);
@@ -97,7 +109,7 @@ static void write_global(const struct table *table, uint32_t *word)
 {
 	word[GLOBAL_CURRENT_GENERATION] = table->current;
 	word[GLOBAL_LARGEST_GENERATION] = table->largest;
-	word[GLOBAL_PENDING] = table->pending_cabinets;
+	word[GLOBAL_PENDING] = table->pending_yards;
 	for (int chain = 0; chain < CHAINS; chain++)
 		word[GLOBAL_CHAINS + chain] = table->heads[chain];
 	write_queue(word + GLOBAL_FREE, table->free);
@@ -157,47 +169,47 @@ static void write_slot(const struct slot *slot, uint32_t *word)
 
 void table_read(struct table *table, const uint32_t *memory)
 {
-	struct layout layout;
+	struct layout layout = layout_of(sizes_of(memory));
 
-	table->cabinets = memory[CONTENTS_CABINETS];
-	table->lanes = memory[CONTENTS_LANES];
-	table->slots = memory[CONTENTS_SLOTS];
-	layout = layout_of(table->cabinets, table->lanes, table->slots);
+	table->sizes = sizes_of(memory);
 	read_global(table, memory + layout.first[BODY_GLOBAL]);
-	for (uint32_t c = 0; c < PT_MAX_CABINETS; c++) /* 0 of a cabinet that there is not */
-		table->pending_lanes[c] = c >= table->cabinets ? 0 :
-			memory[layout.first[BODY_CABINETS] + CABINET_WORDS * c + CABINET_PENDING];
+	for (uint32_t y = 0; y < table->sizes.yards; y++)
+		table->pending_cabinets[y] = memory[layout.first[BODY_YARDS] + YARD_WORDS * y + YARD_PENDING];
+	for (uint32_t c = 0; c < sizes_cabinets(table->sizes); c++)
+		table->pending_lanes[c] = memory[layout.first[BODY_CABINETS] + CABINET_WORDS * c + CABINET_PENDING];
 	for (uint32_t l = 0; l < table_lanes(table); l++)
 		read_lane(&table->lane[l], memory + layout.first[BODY_LANES] + LANE_WORDS * l);
-	for (uint32_t s = 0; s < table->slots; s++)
+	for (uint32_t s = 0; s < table->sizes.slots; s++)
 		read_slot(&table->slot[s], memory + layout.first[BODY_SLOTS] + SLOT_WORDS * s);
 }
 
 static void write_contents(const struct table *table, uint32_t *word)
 {
-	struct layout layout = layout_of(table->cabinets, table->lanes, table->slots);
+	struct layout layout = layout_of(table->sizes);
 
 	word[CONTENTS_VERSION] = LAYOUT_VERSION;
-	word[CONTENTS_CABINETS] = table->cabinets;
-	word[CONTENTS_LANES] = table->lanes;
-	word[CONTENTS_SLOTS] = table->slots;
+	word[CONTENTS_CABINETS] = table->sizes.cabinets;
+	word[CONTENTS_LANES] = table->sizes.lanes;
+	word[CONTENTS_SLOTS] = table->sizes.slots;
 	for (int body = 0; body < BODIES; body++) {
 		word[CONTENTS_BODIES + 2 * body] = layout.first[body];
 		word[CONTENTS_BODIES + 2 * body + 1] = layout.length[body];
 	}
+	word[CONTENTS_YARDS] = table->sizes.yards;
 }
 
 void table_write(const struct table *table, uint32_t *memory)
 {
-	struct layout layout = layout_of(table->cabinets, table->lanes, table->slots);
+	struct layout layout = layout_of(table->sizes);
 
 	write_contents(table, memory);
 	write_global(table, memory + layout.first[BODY_GLOBAL]);
-	for (uint32_t c = 0; c < table->cabinets; c++)
-		memory[layout.first[BODY_CABINETS] + CABINET_WORDS * c + CABINET_PENDING] =
-			table->pending_lanes[c];
+	for (uint32_t c = 0; c < sizes_cabinets(table->sizes); c++)
+		memory[layout.first[BODY_CABINETS] + CABINET_WORDS * c + CABINET_PENDING] = table->pending_lanes[c];
 	for (uint32_t l = 0; l < table_lanes(table); l++)
 		write_lane(&table->lane[l], memory + layout.first[BODY_LANES] + LANE_WORDS * l);
-	for (uint32_t s = 0; s < table->slots; s++)
+	for (uint32_t s = 0; s < table->sizes.slots; s++)
 		write_slot(&table->slot[s], memory + layout.first[BODY_SLOTS] + SLOT_WORDS * s);
+	for (uint32_t y = 0; y < table->sizes.yards; y++)
+		memory[layout.first[BODY_YARDS] + YARD_WORDS * y + YARD_PENDING] = table->pending_cabinets[y];
 }

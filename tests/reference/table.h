@@ -1,6 +1,6 @@
 /*
  * table.h - a table as C structs, read from the words of its memory and written
- * back to them. A lane is a CPU, a cabinet a quad of the paper.
+ * back to them. A lane is a CPU, a cabinet a quad of the paper; yards stand above cabinets.
  */
 #ifndef REFERENCE_TABLE_H
 #define REFERENCE_TABLE_H
@@ -44,31 +44,40 @@ struct slot {
 	uint32_t queue_link;
 };
 
+/* The most cabinets of all yards, and lanes of all cabinets. */
+enum { TABLE_CABINETS = PT_MAX_YARDS * PT_MAX_CABINETS, TABLE_LANES = TABLE_CABINETS * PT_MAX_LANES };
+
 struct table {
-	uint32_t cabinets;
-	uint32_t lanes; /* in each cabinet */
-	uint32_t slots;
+	struct sizes sizes;
 	uint32_t current; /* generation */
 	uint32_t largest; /* generation requested */
-	uint32_t pending_cabinets;
+	uint32_t pending_yards;
 	uint32_t heads[CHAINS];
 	struct queue free;
 	struct retired global;
-	uint32_t pending_lanes[PT_MAX_CABINETS];
-	struct lane lane[PT_MAX_CABINETS * PT_MAX_LANES];
+	uint32_t pending_cabinets[PT_MAX_YARDS];
+	uint32_t pending_lanes[TABLE_CABINETS];
+	struct lane lane[TABLE_LANES];
 	struct slot slot[PT_MAX_SLOTS];
 };
 
-/* Where a lane stands: its cabinet, and its place there. */
+/* Where a lane stands: its yard, its cabinet there, and its place in that. */
 struct place {
-	uint32_t cabinet;
+	uint32_t yard;
+	uint32_t cabinet; /* of the yard */
 	uint32_t place;
 };
+
+/* The number of a cabinet among those of all yards. */
+static inline uint32_t table_cabinet(const struct table *table, uint32_t yard, uint32_t cabinet)
+{
+	return yard * table->sizes.cabinets + cabinet;
+}
 
 /* The number of lanes of all cabinets. */
 static inline uint32_t table_lanes(const struct table *table)
 {
-	return table->cabinets * table->lanes;
+	return sizes_lanes(table->sizes);
 }
 
 /* Where a lane stands that there is, by its number; nothing is divided. */
@@ -77,7 +86,7 @@ struct place table_place(const struct table *table, uint32_t lane);
 /* Whether the running grace period waits for the lane that stands there. */
 static inline bool place_pending(const struct table *table, struct place at)
 {
-	return table->pending_lanes[at.cabinet] >> at.place & 1u;
+	return table->pending_lanes[table_cabinet(table, at.yard, at.cabinet)] >> at.place & 1u;
 }
 
 /* The same of a lane by its number. */
@@ -95,7 +104,7 @@ static inline bool generation_later(uint32_t a, uint32_t b)
 }
 
 /* Whether the sizes of a table are in range. */
-bool sizes_in_range(uint32_t cabinets, uint32_t lanes, uint32_t slots);
+bool sizes_in_range(struct sizes sizes);
 
 /* Reads a memory whose contents agree with its sizes and its length. */
 void table_read(struct table *table, const uint32_t *memory);

@@ -23,7 +23,6 @@ const char judge_name[] = "the proved library";
 #define ARGUMENT(n, KIND) , argument_##KIND
 #define CALL(NAME, name, command, weight, arguments, causes) uint32_t proved_##name(CALL_LENT arguments);
 #include "calls.def"
-uint32_t proved_carry(CARRY_LENT);
 uint32_t proved_label_read(LABEL_READ_LENT);
 uint32_t proved_label_write(LABEL_WRITE_LENT, uint64_t code);
 #endif
@@ -32,7 +31,6 @@ const struct interface judge = {
 #define ARGUMENT(n, KIND)
 #define CALL(NAME, name, command, weight, arguments, causes) .name = JUDGE(name),
 #include "calls.def"
-	.carry = JUDGE(carry),
 	.label_read = JUDGE(label_read),
 	.label_write = JUDGE(label_write),
 };
@@ -45,7 +43,6 @@ const struct interface *engine_open(const char *path)
 #define ARGUMENT(n, KIND)
 #define CALL(NAME, name, command, weight, arguments, causes) .name = pt_##name,
 #include "calls.def"
-		.carry = pt_carry,
 		.label_read = pt_label_read,
 		.label_write = pt_label_write,
 	};
@@ -85,7 +82,6 @@ const struct interface *engine_open(const char *path)
 #define ARGUMENT(n, KIND)
 #define CALL(NAME, name, command, weight, arguments, causes) FUNCTION(name)
 #include "calls.def"
-	FUNCTION(carry)
 	FUNCTION(label_read)
 	FUNCTION(label_write)
 	if (missing > 0) {

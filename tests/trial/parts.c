@@ -1,6 +1,6 @@
 /*
  * parts.c - the lists of a trial: the cases of documents 01 and 02, every cause with its neighbours,
- * damaged memories, lengths at the edge of a page, carries, labels, and lists that are drawn.
+ * damaged memories, lengths at the edge of a page, labels, and lists that are drawn.
  */
 #include "trial.h"
 
@@ -14,7 +14,6 @@
 #include "damages.h"
 #include "draw.h"
 #include "layout.h"
-#include "old.h"
 
 #define COUNT(list) (uint32_t)(sizeof(list) / sizeof((list)[0]))
 
@@ -24,92 +23,95 @@ enum { CASE_STEPS = 20 };
 
 /* Cases of document 01, "A listing, and edges", as document 02 changes them, and its own; the answers are the judge's. */
 static const char *const stars[][CASE_STEPS] = {
-	{ "lend 8163", "setup 8 8 1024", "lend 8164", "setup 8 8 1024", "awaited" },
-	{ "setup 1 1 0", "setup 1 1 1025", "setup 8 8 1024" },
-	{ "setup 1 1 4", "add 0 9999999999999 1 1", "add 0 9999999999994 1 1", "add 0 10000000000000 1 1",
+	{ "lend 8167", "setup 1 8 8 1024", "lend 8168", "setup 1 8 8 1024", "awaited" },
+	{ "lend 21670", "setup 8 8 8 1024", "lend 21671", "setup 8 8 8 1024", "awaited" },
+	{ "setup 1 1 1 0", "setup 1 1 1 1025", "setup 1 8 8 1024" },
+	{ "setup 1 1 1 4", "add 0 9999999999999 1 1", "add 0 9999999999994 1 1", "add 0 10000000000000 1 1",
 		"rep 0 9999999999999 1 1", "rep 0 9999999999994 2 2", "del 0 9999999999999", "del 0 9999999999994" },
-	{ "setup 1 1 4", "add 0 99999999999999 1 1", "add 0 99999999999997 1 1", "add 0 100000000000000 1 1",
+	{ "setup 1 1 1 4", "add 0 99999999999999 1 1", "add 0 99999999999997 1 1", "add 0 100000000000000 1 1",
 		"rep 0 99999999999999 1 1", "rep 0 99999999999997 2 2", "rep 0 100000000000000 2 2", "begin 0",
 		"start 0 100000000000000", "start 0 99999999999999", "step 0", "step 0", "step 0",
 		"del 0 100000000000000", "del 0 99999999999999", "del 0 99999999999997" },
-	{ "setup 1 2 2", "clock 2", "clock 1" },
-	{ "setup 1 1 2", "poke 12 4294967295", "poke 13 4294967294", "add 0 17 1 1", "del 0 17",
+	{ "setup 1 1 2 2", "clock 2", "clock 1" },
+	{ "setup 1 1 1 2", "poke 15 4294967295", "poke 16 4294967294", "add 0 17 1 1", "del 0 17",
 		"clock 0", "pass 0 0", "clock 0", "back 0", "add 0 17 1 1", "del 0 17", "clock 0" },
-	{ "setup 1 1 1", "add 0 17 1 1", "rep 0 24 1 1" },
-	{ "setup 1 1 4", "add 0 192 10 1", "add 0 0 20 2", "begin 0", "start 0 192", "del 0 0",
+	{ "setup 1 1 1 1", "add 0 17 1 1", "rep 0 24 1 1" },
+	{ "setup 1 1 1 4", "add 0 192 10 1", "add 0 0 20 2", "begin 0", "start 0 192", "del 0 0",
 		"step 0", "step 0" },
-	{ "setup 1 1 4", "add 0 5901234123457 1 1", "add 0 4006381333931 1 1", "add 0 5901234123458 1 1",
+	{ "setup 1 1 1 4", "add 0 5901234123457 1 1", "add 0 4006381333931 1 1", "add 0 5901234123458 1 1",
 		"add 0 9501234123457 1 1", "add 0 4006831333931 1 1" },
-	{ "setup 1 1 2", "add 0 338 1 1", "poke 123 18", "begin 0", "start 0 18", "step 0", "rep 0 18 1 1",
+	{ "setup 1 1 1 2", "add 0 338 1 1", "poke 126 18", "begin 0", "start 0 18", "step 0", "rep 0 18 1 1",
 		"add 0 18 1 1", "del 0 18", "awaited" }, /* an older record in slot 0 */
 	/* a lookup is dropped at the head, further on, at none, on a deleted slot, on a replaced one */
-	{ "setup 1 1 4", "add 0 0 1 1", "add 0 192 2 2", "begin 0", "start 0 0", "end 0", "step 0", "begin 0",
+	{ "setup 1 1 1 4", "add 0 0 1 1", "add 0 192 2 2", "begin 0", "start 0 0", "end 0", "step 0", "begin 0",
 		"step 0", "start 0 192", "start 0 0", "step 0", "end 0" },
-	{ "setup 1 2 4", "add 0 0 1 1", "add 0 192 2 2", "begin 1", "start 1 0", "step 1", "end 1", "off 1",
+	{ "setup 1 1 2 4", "add 0 0 1 1", "add 0 192 2 2", "begin 1", "start 1 0", "step 1", "end 1", "off 1",
 		"on 1", "begin 1", "start 1 192", "step 1" },
-	{ "setup 1 1 4", "begin 0", "start 0 64424509457", "end 0", "add 0 64424509457 1 1", "begin 0",
+	{ "setup 1 1 1 4", "begin 0", "start 0 64424509457", "end 0", "add 0 64424509457 1 1", "begin 0",
 		"start 0 64424509457", "end 0", "begin 0", "start 0 17", "step 0", "end 0", "begin 0", "step 0" },
-	{ "setup 1 2 4", "add 0 0 1 1", "add 0 192 2 2", "begin 1", "start 1 0", "del 0 192", "clock 0", "clock 1",
+	{ "setup 1 1 2 4", "add 0 0 1 1", "add 0 192 2 2", "begin 1", "start 1 0", "del 0 192", "clock 0", "clock 1",
 		"pass 0 0", "clock 0", "end 1", "pass 1 0", "clock 1", "clock 0", "back 0", "step 1", "awaited" },
-	{ "setup 1 2 4", "add 0 0 1 1", "add 0 192 2 2", "begin 1", "start 1 0", "step 1", "rep 1 0 3 3", "clock 1",
+	{ "setup 1 1 2 4", "add 0 0 1 1", "add 0 192 2 2", "begin 1", "start 1 0", "step 1", "rep 1 0 3 3", "clock 1",
 		"clock 0", "end 1", "off 1", "pass 0 0", "clock 0", "pass 0 0", "clock 0", "back 0", "on 1", "step 1" },
 	/* first places, last places, the eighth cabinet and no lane, while all are awaited, or all but one */
-	{ "setup 8 1 2", "add 0 17 1 1", "del 0 17", "clock 0", "clock 7", "pass 7 0", "clock 7", "clock 1", "pass 1 0",
+	{ "setup 1 8 1 2", "add 0 17 1 1", "del 0 17", "clock 0", "clock 7", "pass 7 0", "clock 7", "clock 1", "pass 1 0",
 		"clock 1", "off 6", "on 6", "clock 6", "pass 8 0", "clock 8", "off 8", "awaited" },
-	{ "setup 8 8 2", "add 0 17 1 1", "del 0 17", "clock 0", "clock 63", "pass 63 3", "clock 63", "clock 56", "pass 56 0",
+	{ "setup 1 8 8 2", "add 0 17 1 1", "del 0 17", "clock 0", "clock 63", "pass 63 3", "clock 63", "clock 56", "pass 56 0",
 		"clock 56", "off 55", "off 8", "on 8", "pass 64 0", "clock 64", "off 64", "awaited" },
-	{ "setup 2 3 2", "off 3", "add 2 17 1 1", "del 2 17", "clock 2", "pass 2 0", "clock 2", "clock 3", "on 3", "clock 3",
+	{ "setup 1 2 3 2", "off 3", "add 2 17 1 1", "del 2 17", "clock 2", "pass 2 0", "clock 2", "clock 3", "on 3", "clock 3",
 		"clock 5", "pass 5 0", "clock 5", "off 4", "clock 6", "clock 4294967295", "awaited" },
-	{ "setup 1 8 2", "add 0 17 1 1", "del 0 17", "clock 0", "clock 7", "pass 7 0", "clock 7", "off 6", "clock 8", "awaited" },
+	{ "setup 1 1 8 2", "add 0 17 1 1", "del 0 17", "clock 0", "clock 7", "pass 7 0", "clock 7", "off 6", "clock 8", "awaited" },
 	/* a lookup takes n + 1 steps: with two records on its chain, of which the others make more, and with none */
-	{ "setup 1 2 8", "add 0 192 1 1", "add 0 512 2 2", "begin 1", "start 1 0", "add 0 1472 3 3", "step 1", "rep 0 192 4 4",
+	{ "setup 1 1 2 8", "add 0 192 1 1", "add 0 512 2 2", "begin 1", "start 1 0", "add 0 1472 3 3", "step 1", "rep 0 192 4 4",
 		"rep 0 512 5 5", "step 1", "del 0 192", "add 0 192 6 6", "step 1", "step 1", "start 1 1472", "end 1" },
-	{ "setup 1 2 4", "begin 1", "start 1 0", "add 0 192 1 1", "add 0 0 2 2", "step 1", "step 1", "start 1 64", "rep 0 0 3 3",
+	{ "setup 1 1 2 4", "begin 1", "start 1 0", "add 0 192 1 1", "add 0 0 2 2", "step 1", "step 1", "start 1 64", "rep 0 0 3 3",
 		"step 1", "del 0 192", "step 1", "step 1", "step 1" },
 	/* two lines joined to one; slots come to a done line that has some; by an off; a lane's own done slots */
-	{ "setup 1 2 4", "add 0 17 1 1", "add 0 24 1 1", "add 0 31 1 1", "del 0 17", "clock 0", "del 0 24", "del 0 31", "off 0",
+	{ "setup 1 1 2 4", "add 0 17 1 1", "add 0 24 1 1", "add 0 31 1 1", "del 0 17", "clock 0", "del 0 24", "del 0 31", "off 0",
 		"awaited", "clock 1", "pass 1 0", "clock 1", "pass 1 0", "clock 1", "back 1", "back 1", "back 1", "back 1" },
-	{ "setup 1 1 8", "add 0 17 1 1", "add 0 24 1 1", "add 0 31 1 1", "del 0 17", "clock 0", "pass 0 0", "clock 0", "del 0 24",
+	{ "setup 1 1 1 8", "add 0 17 1 1", "add 0 24 1 1", "add 0 31 1 1", "del 0 17", "clock 0", "pass 0 0", "clock 0", "del 0 24",
 		"del 0 31", "clock 0", "pass 0 0", "clock 0", "awaited", "back 0", "awaited", "back 0", "back 0", "back 0" },
-	{ "setup 1 3 8", "add 0 17 1 1", "del 2 17", "off 2", "clock 0", "pass 0 0", "clock 0", "off 1", "awaited", "clock 0",
+	{ "setup 1 1 3 8", "add 0 17 1 1", "del 2 17", "off 2", "clock 0", "pass 0 0", "clock 0", "off 1", "awaited", "clock 0",
 		"back 0", "awaited" },
-	{ "setup 1 2 4", "add 0 17 1 1", "add 0 24 1 1", "del 1 17", "clock 1", "clock 0", "pass 0 0", "clock 0", "pass 1 0",
+	{ "setup 1 1 2 4", "add 0 17 1 1", "add 0 24 1 1", "del 1 17", "clock 1", "clock 0", "pass 0 0", "clock 0", "pass 1 0",
 		"clock 1", "del 1 24", "off 1", "clock 0", "pass 0 0", "clock 0", "awaited", "back 0", "back 0", "back 0" },
 	/* a table with the version word of another, and with lengths that do not agree */
-	{ "setup 1 1 2", "poke 0 1", "awaited", "clock 0", "poke 0 2", "awaited", "poke 0 4", "awaited", "poke 0 3", "awaited" },
-	{ "setup 1 1 2", "poke 81 1", "awaited", "poke 81 3", "awaited", "poke 81 2", "poke 113 1", "clock 0", "poke 113 0",
-		"poke 116 1", "clock 0", "poke 116 0", "poke 119 1", "back 0", "poke 119 0", "awaited" },
+	{ "setup 1 1 1 2", "poke 0 1", "awaited", "clock 0", "poke 0 2", "awaited", "poke 0 3", "awaited", "poke 0 5", "awaited",
+		"poke 0 4", "awaited" },
+	{ "setup 1 1 1 2", "poke 84 1", "awaited", "poke 84 3", "awaited", "poke 84 2", "poke 116 1", "clock 0", "poke 116 0",
+		"poke 119 1", "clock 0", "poke 119 0", "poke 122 1", "back 0", "poke 122 0", "awaited" },
 	/* a count carries into its high word, and wraps; one that differs from its snapshot in the high word alone */
-	{ "setup 1 1 2", "add 0 17 1 1", "del 0 17", "poke 94 4294967295", "clock 0", "clock 0", "pass 0 0", "clock 0", "back 0" },
-	{ "setup 1 1 2", "add 0 17 1 1", "del 0 17", "poke 94 4294967295", "poke 95 4294967295", "clock 0", "clock 0",
+	{ "setup 1 1 1 2", "add 0 17 1 1", "del 0 17", "poke 97 4294967295", "clock 0", "clock 0", "pass 0 0", "clock 0", "back 0" },
+	{ "setup 1 1 1 2", "add 0 17 1 1", "del 0 17", "poke 97 4294967295", "poke 98 4294967295", "clock 0", "clock 0",
 		"pass 0 0", "clock 0", "back 0" },
-	{ "setup 1 1 2", "add 0 17 1 1", "del 0 17", "clock 0", "poke 95 1", "clock 0", "back 0" },
-	/* a section open, a lookup on a removed slot, a period running: carried, and all of it ends */
-	{ "old setup 1 2 3", "old add 0 17 25 1", "old add 0 529 30 2", "old begin 1", "old start 1 17", "old step 1",
-		"old del 0 17", "old clock 0", "carry", "awaited", "step 1", "end 1", "clock 1", "pass 1 0", "clock 1", "pass 0 0",
-		"clock 0", "back 0", "awaited" },
-	/* slots in every line, a lane that is off, kinds of counts: carried into a memory that has a list of its own */
-	{ "old setup 1 2 4", "old add 0 17 1 1", "old add 0 24 1 1", "old pass 0 3", "old pass 0 2", "old del 0 17", "old off 0",
-		"old del 1 24", "old clock 1", "setup 1 2 4", "add 0 31 1 1", "begin 0", "carry", "on 0", "pass 1 1", "clock 1",
-		"pass 1 1", "clock 1", "back 1", "awaited" },
-	/* counts are carried as they are: 6 before a snapshot of 7; and one that version 2 would wrap to its snapshot */
-	{ "old setup 1 1 2", "old add 0 17 1 1", "old del 0 17", "old clock 0", "old poke 94 6", "old poke 98 7", "carry", "clock 0",
-		"clock 0" },
-	{ "old setup 1 1 2", "old add 0 17 1 1", "old del 0 17", "old clock 0", "old poke 94 6", "old poke 98 7", "carry", "pass 0 0",
-		"clock 0", "pass 0 0", "clock 0", "back 0" },
-	{ "old setup 1 1 2", "old add 0 17 1 1", "old del 0 17", "old clock 0", "old poke 94 4294967295", "carry", "pass 0 0",
-		"clock 0", "back 0" },
-	{ "old setup 1 1 2", "old add 0 17 1 1", "old poke 94 4294967295", "old poke 97 4294967295", "carry", "del 0 17",
-		"clock 0", "clock 0", "pass 0 0", "clock 0", "back 0" },
-	/* a refused carry changes nothing and ends nothing: a short second memory, and an old one that is not legal */
-	{ "old setup 1 1 2", "setup 1 1 2", "begin 0", "start 0 17", "lend 134", "carry", "lend 135", "step 0", "old poke 0 3",
-		"carry", "lend 134", "carry", "lend 135", "end 0", "answer 4", "carry" },
-	{ "old setup 1 1 2", "old begin 0", "setup 1 1 2", "add 0 17 1 1", "answer 4", "carry", "answer 8", "awaited", "hold",
-		"carry", "lend 134", "carry" },
+	{ "setup 1 1 1 2", "add 0 17 1 1", "del 0 17", "clock 0", "poke 98 1", "clock 0", "back 0" },
+	/* yards: none and nine; the last lane of two yards ends the period; yards and cabinets that differ */
+	{ "setup 0 1 1 1", "setup 9 1 1 1", "setup 8 1 1 1", "begin 7", "begin 8", "awaited" },
+	{ "setup 2 1 1 2", "add 0 17 1 1", "del 0 17", "clock 0", "pass 0 0", "clock 0", "awaited", "clock 1", "pass 1 0",
+		"clock 1", "clock 0", "back 0", "awaited" },
+	{ "setup 2 2 1 2", "add 3 17 1 1", "del 3 17", "clock 3", "awaited", "off 0", "awaited", "off 1", "awaited", "clock 2",
+		"pass 2 0", "clock 2", "awaited", "pass 3 0", "clock 3", "back 3", "begin 4" },
+	{ "setup 3 2 1 2", "off 1", "off 2", "off 3", "add 5 17 1 1", "del 5 17", "clock 5", "awaited", "off 0", "awaited",
+		"off 4", "awaited", "pass 5 0", "clock 5", "on 2", "clock 2", "awaited" },
+	{ "setup 8 8 8 2", "add 0 17 1 1", "del 511 17", "clock 511", "awaited", "clock 64", "pass 64 0", "clock 64", "clock 448",
+		"pass 448 0", "clock 448", "off 63", "off 0", "awaited", "clock 512", "begin 512", "on 512" },
+	/* masks of each level: a bit that is set wrongly, one that is missing, one that is out of range */
+	{ "setup 2 2 1 2", "poke 17 1", "awaited", "poke 17 0", "poke 231 1", "awaited", "poke 231 0", "poke 95 1", "awaited",
+		"poke 95 0", "awaited" },
+	{ "setup 2 2 1 2", "add 0 17 1 1", "del 0 17", "clock 0", "poke 17 2", "awaited", "poke 17 7", "awaited", "poke 17 3",
+		"awaited" },
+	{ "setup 2 2 1 2", "add 0 17 1 1", "del 0 17", "clock 0", "poke 232 2", "awaited", "poke 232 7", "awaited", "poke 232 3",
+		"poke 98 0", "awaited", "poke 98 3", "awaited", "poke 98 1", "awaited" },
 };
 
 /* The files of tests/listing that are lists of calls. */
 static const char *const listings[] = { "document-01", "causes", "dropped-lookups", "line-lengths" };
+
+/* Those that have bad lines, for programs, with what their lines try. */
+static const struct {
+	const char *name;
+	enum sentence sentence;
+} texts[] = { { "bad-lines", SENTENCE_LISTING_PROGRAM }, { "one-yard", SENTENCE_LISTING_YARD } };
 
 static void play_listing(const char *name)
 {
@@ -133,7 +135,7 @@ static bool line_is_call(const char *line)
 {
 	struct step step;
 
-	return step_read(line, &step) && step.kind == STEP_CALL && !step.old;
+	return step_read(line, &step) && step.kind == STEP_CALL;
 }
 
 /* What a program cannot be told is left out of its lists. */
@@ -146,7 +148,7 @@ static void play_star(const char *const *lines)
 
 static uint32_t case_lists(void)
 {
-	return COUNT(listings) + COUNT(stars) + (trial.program != NULL ? 1 : 0);
+	return COUNT(listings) + COUNT(stars) + (trial.program != NULL ? COUNT(texts) : 0);
 }
 
 /* The sentence counts as broken until the list has come to its end. */
@@ -154,8 +156,8 @@ static void play_case(uint32_t n)
 {
 	enum sentence sentence = n == 0 ? SENTENCE_LISTING : SENTENCE_STARS;
 
-	if (n == COUNT(listings) + COUNT(stars)) {
-		program_text("bad-lines");
+	if (n >= COUNT(listings) + COUNT(stars)) {
+		program_text(texts[n - COUNT(listings) - COUNT(stars)].name, texts[n - COUNT(listings) - COUNT(stars)].sentence);
 		return;
 	}
 	shared->tally.tried[sentence]++;
@@ -174,7 +176,7 @@ static void play_case(uint32_t n)
 /* States of a table of two lanes and three slots, one of each group; lane 0 is asked. */
 static const char *const older_states[][CASE_STEPS] = {
 	{ NULL },
-	{ "add 1 338 1 1", "poke 153 18" }, /* slot 0 has an older record: code 18 */
+	{ "add 1 338 1 1", "poke 156 18" }, /* slot 0 has an older record: code 18 */
 };
 static const char *const done_states[][CASE_STEPS] = {
 	{ NULL },
@@ -209,9 +211,10 @@ static uint32_t choices(enum kind kind, uint64_t choice[6])
 		uint32_t count;
 		uint64_t value[6];
 	} of[] = {
-		[KIND_CABINETS] = { 4, { 0, 1, PT_MAX_CABINETS, PT_MAX_CABINETS + 1 } },
+		[KIND_YARDS] = { 4, { 0, 1, PT_MAX_YARDS, PT_MAX_YARDS + 1 } },
+		[KIND_CABINETS] = { 3, { 0, 1, PT_MAX_CABINETS + 1 } },
 		[KIND_LANES] = { 3, { 0, 2, PT_MAX_LANES + 1 } },
-		[KIND_SLOTS] = { 4, { 0, 3, PT_MAX_SLOTS, PT_MAX_SLOTS + 1 } },
+		[KIND_SLOTS] = { 3, { 0, 3, PT_MAX_SLOTS + 1 } },
 		[KIND_LANE] = { 4, { 0, 1, 2, PT_NONE } },
 		[KIND_CODE] = { 5, { 17, 79, 18, PT_MAX_CODE + 1, UINT64_MAX } }, /* 18: a wrong check digit */
 		[KIND_DEPOSIT] = { 3, { 0, PT_MAX_DEPOSIT + 1, PT_NONE } },
@@ -263,7 +266,7 @@ static void play_causes(uint32_t n)
 	player_start(false);
 	if (n == 0)
 		play_all_refused(); /* a memory that is not set up */
-	player_line("setup 1 2 3");
+	player_line("setup 1 1 2 3");
 	play_star(older_states[older]);
 	play_star(done_states[done]);
 	play_star(record_states[rest % COUNT(record_states)]);
@@ -272,7 +275,7 @@ static void play_causes(uint32_t n)
 	if (trial.program == NULL) {
 		uint32_t words = (uint32_t)player.beside.words;
 
-		play_lend((uint32_t)PT_WORDS(1, 2, 3) - 1);
+		play_lend((uint32_t)PT_WORDS(1, 1, 2, 3) - 1);
 		play_all_refused();
 		play_lend(0);
 		play_all_refused();
@@ -285,13 +288,13 @@ static void play_causes(uint32_t n)
 
 /* Calls on a tiny table after each of which every word is changed. */
 static const char *const tiny_calls[] = {
-	"setup 1 2 3", "add 0 0 1 1", "add 0 192 2 2", "begin 1", "start 1 0", "del 0 192", "clock 0",
+	"setup 2 1 1 3", "add 0 0 1 1", "add 0 192 2 2", "begin 1", "start 1 0", "del 0 192", "clock 0",
 	"step 1", "del 1 0", "clock 1", "step 1", "end 1", "pass 0 0", "clock 0", "pass 1 0", "clock 1",
 	"clock 0", "off 1", "clock 0",
 };
 
 static const struct list damaged_list = {
-	DAMAGES_CABINETS, DAMAGES_LANES, DAMAGES_SLOTS, 8, 0, 1
+	{ DAMAGES_YARDS, DAMAGES_CABINETS, DAMAGES_LANES, DAMAGES_SLOTS }, 8, 0, 1
 };
 
 static uint32_t damage_lists(void)
@@ -328,7 +331,7 @@ static void play_sentence(const struct damage *damage, uint64_t *seed)
 /* Every word below the total, each changed to some values; the memory is mended each time. */
 static void play_words(uint32_t calls)
 {
-	uint32_t total = (uint32_t)PT_WORDS(1, 2, 3);
+	uint32_t total = (uint32_t)PT_WORDS(2, 1, 1, 3);
 
 	for (uint32_t n = 0; n < calls; n++)
 		player_line(tiny_calls[n]);
@@ -359,7 +362,9 @@ static void play_damages(uint32_t n)
 
 /* ---- memories and answers of every length, at both edges of a page */
 
-static const uint32_t edge_sizes[][3] = { { 1, 1, 1 }, { 1, 2, 3 }, { 2, 2, 4 }, { 8, 8, 1024 } };
+static const struct sizes edge_sizes[] = {
+	{ 1, 1, 1, 1 }, { 1, 1, 2, 3 }, { 2, 2, 1, 4 }, { 1, 8, 8, 1024 }, { 8, 8, 8, 1024 },
+};
 
 static uint32_t edge_lists(void)
 {
@@ -382,10 +387,9 @@ static void play_lengths(const struct list *list, enum step_kind kind, uint32_t 
 
 static void play_edges(uint32_t n)
 {
-	const uint32_t *size = edge_sizes[n / 2];
-	const struct list list = { size[0], size[1], size[2], 6, 0, 1 };
-	const struct call setup = { CALL_SETUP, { size[0], size[1], size[2] } };
-	uint32_t total = (uint32_t)PT_WORDS(size[0], size[1], size[2]);
+	const struct list list = { edge_sizes[n / 2], 6, 0, 1 };
+	const struct call setup = call_setup(list.sizes);
+	uint32_t total = layout_of(list.sizes).total;
 	uint64_t seed = trial.seed * 1000 + n;
 
 	player_start(false);
@@ -398,84 +402,6 @@ static void play_edges(uint32_t n)
 	play_lengths(&list, STEP_ANSWER, 0, PT_ANSWER_WORDS + 3, &seed);
 	play_lengths(&list, STEP_LEND, total > 200 ? total - 4 : 0, total + 2, &seed);
 	play_lengths(&list, STEP_LEND, 0, 30, &seed);
-}
-
-/* ---- carries: every sentence of legality of the old memory, every length of both, at both edges of a page */
-
-static const uint32_t damaged_sizes[3] = { DAMAGES_CABINETS, DAMAGES_LANES, DAMAGES_SLOTS };
-static const uint32_t halfway_sizes[3] = { 1, 2, 3 };
-
-/* A section open, a lookup halfway, a period running. */
-static const char *const halfway[] = {
-	"setup 1 2 3", "add 0 17 25 1", "add 0 529 30 2", "begin 1", "start 1 17", "step 1", "pass 0 3", "del 0 17", "clock 0",
-};
-
-static uint32_t carry_lists(void)
-{
-	return (uint32_t)damage_count + 2;
-}
-
-static void play_old_lines(const char *const *lines, size_t count)
-{
-	for (size_t n = 0; n < count; n++) {
-		char line[STEP_TEXT];
-
-		snprintf(line, sizeof line, "old %s", lines[n]);
-		player_line(line);
-	}
-}
-
-static void play_carry(void)
-{
-	player_step(&(struct step){ .kind = STEP_CARRY });
-}
-
-/* The words of version 2 that a damage changes; into enough words, and into too few. */
-static void play_damaged_carry(const struct damage *damage)
-{
-	play_old_lines(rich_calls, damage->base == BASE_RICH ? rich_count : 1);
-	for (int n = 0; n < POKES; n++) {
-		uint32_t address = old_address(damaged_sizes, damage->poke[n].address);
-
-		if (address != PT_NONE && (damage->poke[n].address != 0 || damage->poke[n].value != 0))
-			player_step(&(struct step){ .kind = STEP_POKE, .old = true, .number = address,
-				.value = damage->poke[n].value });
-	}
-	play_lend(new_total(damaged_sizes));
-	play_carry();
-	play_lend(new_total(damaged_sizes) - 1);
-	play_carry();
-}
-
-static void play_carry_lengths(void)
-{
-	uint32_t old = old_total(halfway_sizes), total = new_total(halfway_sizes);
-
-	play_old_lines(halfway, COUNT(halfway));
-	for (uint32_t words = 0; words <= total + 3; words++) {
-		play_lend(words);
-		play_carry();
-	}
-	for (uint32_t words = 0; words <= PT_ANSWER_WORDS + 3; words++) {
-		play_poke(CONTENTS_WORDS, words + 2); /* a generation that the carry writes over */
-		player_step(&(struct step){ .kind = STEP_ANSWER, .number = words });
-		play_carry();
-	}
-	for (uint32_t words = 0; words <= old + 3; words++) {
-		player_step(&(struct step){ .kind = STEP_LEND, .old = true, .number = words });
-		play_carry();
-	}
-}
-
-static void play_carries(uint32_t n)
-{
-	player_start(false);
-	player.beside.at_start = n % 2 == 1;
-	player.beside.all_lent = true;
-	if (n < damage_count)
-		play_damaged_carry(&damages[n]);
-	else
-		play_carry_lengths();
 }
 
 /* ---- labels: every length and every byte at every place, codes about every length, at both edges of a page */
@@ -545,7 +471,6 @@ static void play_drawn_list(const struct list *list, uint64_t seed, bool calls_o
 	uint32_t calls = 0;
 
 	drawer_start(&drawer, list, seed, calls_only);
-	drawer.carries = trial.program == NULL;
 	while (calls < DRAWN_CALLS) {
 		struct step step = drawer_next(&drawer, player.beside.memory, player.beside.words);
 
@@ -559,11 +484,12 @@ static void play_drawn(uint32_t n, bool by_ledger, bool calls_only)
 {
 	uint64_t seed = (trial.seed << 32) + n;
 	uint32_t lists = trial.program != NULL ? DRAWN_LISTS_OF_A_PROGRAM : 1;
+	uint32_t sizes = trial.program != NULL ? draw_lists_of_one_yard : draw_lists_count;
 
 	player_start(by_ledger);
 	player.beside.at_start = n % 2 == 1;
 	for (uint32_t m = 0; m < lists; m++)
-		play_drawn_list(&draw_lists[(n * lists + m) % draw_lists_count], seed + m * 7919, calls_only);
+		play_drawn_list(&draw_lists[(n * lists + m) % sizes], seed + m * 7919, calls_only);
 	player_end();
 }
 
@@ -582,9 +508,8 @@ const struct part parts[] = {
 	{ "every cause with each of its neighbours", true, false, cause_lists, play_causes, 0 },
 	{ "damaged memories, a sentence of legality at a time", false, false, damage_lists, play_damages, 0 },
 	{ "every length at the edge of a page", false, false, edge_lists, play_edges, 0 },
-	{ "carries: every sentence of legality, every length", false, false, carry_lists, play_carries, 0 },
 	{ "labels: every length, every byte at every place", false, false, label_lists, play_labels, 0 },
-	{ "drawn lists, on a dozen sizes", true, false, NULL, play_random, 0.75 },
+	{ "drawn lists, on many sizes", true, false, NULL, play_random, 0.75 },
 	{ "drawn lists, judged by the ledger of demand 3", true, true, NULL, play_judged, 0.25 },
 };
 

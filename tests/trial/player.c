@@ -29,10 +29,6 @@ static void count(const struct step *step)
 		tally_label(player.tally, &player.beside, step);
 		return;
 	}
-	if (step->kind == STEP_CARRY) {
-		tally_carry(player.tally, &player.beside);
-		return;
-	}
 	if (player.by_ledger && trial.program == NULL)
 		tally_judged(player.tally, &player.beside.call, player.beside.left.answer, (struct verdict){
 			.fault = player.record->difference != SAME,
@@ -44,10 +40,19 @@ static void count(const struct step *step)
 		tally_call(player.tally, &player.beside);
 }
 
+/* A program that speaks the listing keeps to one yard: what it cannot be told is left out of its lists. */
+static bool told(const struct step *step)
+{
+	return trial.program == NULL || step->kind != STEP_CALL || step->call.name != CALL_SETUP ||
+		call_sizes(&step->call).yards == 1;
+}
+
 void player_step(const struct step *step)
 {
 	enum difference difference;
 
+	if (!told(step))
+		return;
 	shared->ticks++;
 	difference = record_step(player.record, &player.beside, step);
 	shared->ticks++;

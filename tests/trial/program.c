@@ -219,7 +219,7 @@ void program_play(struct player *player)
 		too_few(player, count - 1, in_time);
 }
 
-void program_text(const char *name)
+void program_text(const char *name, enum sentence sentence)
 {
 	char in[PATH], expected[PATH], out[PATH], want[TEXT], got[TEXT];
 	FILE *wanted, *printed;
@@ -233,10 +233,10 @@ void program_text(const char *name)
 	wanted = opened(expected, "r");
 	printed = opened(out, "r");
 	for (; next_line(wanted, want); line++) {
-		shared->tally.tried[SENTENCE_LISTING_PROGRAM]++;
+		shared->tally.tried[sentence]++;
 		if (next_line(printed, got) && strcmp(want, got) == 0)
 			continue;
-		shared->tally.broken[SENTENCE_LISTING_PROGRAM]++;
+		shared->tally.broken[sentence]++;
 		shared->record.difference = DIFFERS_ANSWER;
 		snprintf(shared->record.fault, RECORD_TEXT,
 			"line %" PRIu32 " of tests/listing/%s.in: expected \"%.40s\", the program prints \"%.40s\"",

@@ -276,8 +276,6 @@ static void print_calls(void)
 	print_attained(&shared->tally);
 	printf("  ");
 	print_moved(&shared->tally);
-	printf("  ");
-	print_carried(&shared->tally);
 }
 
 /* How many pairs of a call's causes were met at once, of those that do not exclude each other. */

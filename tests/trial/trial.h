@@ -84,8 +84,8 @@ void player_steps(const struct steps *steps, bool by_ledger);
 /* Runs it on the calls of the record and compares; does not return if it differs. */
 void program_play(struct player *player);
 
-/* Runs it on the lines of a file, and compares with those of another. */
-void program_text(const char *name);
+/* Runs it on the lines of a file, and compares with those of another; each line tries the sentence. */
+void program_text(const char *name, enum sentence sentence);
 
 /* ---- parts: parts.c */
 
