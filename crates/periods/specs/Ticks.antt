@@ -3,7 +3,7 @@ use Prim.Native.Nat.{ℕ, _+_}
 use mathlib.Core.Bool.{cond}
 use mathlib.Core.List.{List}
 use lib.Dec.{eqb}
-use Rattle.model.specs.Layout.{lengthOffset, doneOffset, cabinetMaskAt, globalQueuesAt, queuesAt}
+use Rattle.model.specs.Layout.{lengthOffset, doneOffset, yardMaskAt, globalQueuesAt, queuesAt}
 use Rattle.model.specs.Memory.{at, sizes}
 use Rattle.words.specs.Sums.{plus}
 use Rattle.access.specs.Lanes.{placeOf}
@@ -19,7 +19,7 @@ tickWords m i = clockWords m (sizes m) (placeOf (sizes m) i)
 
 -- 1 if a grace period runs, else 0
 abbrev pub periodWord : List ℕ → ℕ
-periodWord m = cond (eqb (at m cabinetMaskAt) 0) 0 1
+periodWord m = cond (eqb (at m yardMaskAt) 0) 0 1
 
 -- the slots in the done queue of the lane whose record begins at a, and in the global one
 abbrev pub doneWords : List ℕ → ℕ → ℕ

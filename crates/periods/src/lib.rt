@@ -6,7 +6,7 @@ ghost use Rattle.model.specs.Lists.{any};
 ghost use Rattle.model.specs.State.{laneCount};
 ghost use Rattle.model.specs.Engine.{freshLane};
 ghost use Rattle.model.specs.Rules.{isOnline, refusal, off as goingOff, clock as clocking};
-ghost use Rattle.model.specs.Layout.{cabinetMaskAt, masksAt, laneLength};
+ghost use Rattle.model.specs.Layout.{yardMaskAt, masksAt, laneLength};
 ghost use Rattle.model.specs.Memory.{sizes, state};
 ghost use Rattle.model.specs.Calls.{on-state};
 ghost use Rattle.access.specs.Contract.{Does};
@@ -101,10 +101,10 @@ fn tick(m: &mut [u32], lane: access::Lane)
 
 // 1 if a grace period runs, else 0.
 fn is_period(m: &[u32]) -> u32
-    requires { ⌜ cabinetMaskAt < length (now m) ⌝ }
+    requires { ⌜ yardMaskAt < length (now m) ⌝ }
     ensures { λ r. ⌜ r ≡ periodWord (now (m .entry)) ⌝ }
 {
-    if m[words::CABINET_MASK_AT] == 0 { 0 } else { 1 }
+    if m[words::YARD_MASK_AT] == 0 { 0 } else { 1 }
 }
 
 // where the length of the done queue stands: in a lane's record, and of the global one
