@@ -15,7 +15,12 @@ group-fits-requires : tie.Need-group-fits-requires
 group-fits-requires c κs = search needs
 
 returns : tie.Need-returns
-returns c = search (needs, masks-yards, not-true)
+returns c =
+    let at-group-fits : tie.After-group-fits = search in
+    let at-yards-start : tie.After-yards-start = search in
+    let entry : tie.Start = search in
+    let z = entry .args .z in
+    masks-yards _ (z .yards) (z .cabinets) _ _ _ (at-yards-start .yards-start .ensures) _ (at-group-fits .group-fits .ensures) (not-true _ (c .if1 .taken))
 
 cabinets-fit-requires : tie.Need-cabinets-fit-requires
 cabinets-fit-requires c κs = search needs
