@@ -30,7 +30,7 @@ const struct list draw_lists[] = {
 };
 
 const uint32_t draw_lists_count = sizeof draw_lists / sizeof draw_lists[0];
-const uint32_t draw_lists_of_one_yard = 12;
+const uint32_t draw_lists_of_one_yard = 12; /* the first so many */
 
 uint32_t draw_below(uint64_t *seed, uint32_t below)
 {

@@ -1,6 +1,6 @@
 /*
  * program.c - links with the library, as C and as C++: each call once, its answer against
- * the rules of documents 01 and 02, a table in a memory from malloc, a carried one, and labels. Prints
+ * the rules of documents 01 and 02, a table in a memory from malloc, one with two yards, and labels. Prints
  * "linked, " and the shared library's name with the memory's version word, and ends with 0.
  */
 #include <stdio.h>
@@ -59,49 +59,31 @@ static void labels(void)
 		wrong = 1;
 }
 
-enum { OLD_WORDS = 121, NEW_WORDS = 129 }; /* of a table of 1, 1, 1: version 2's, and this one's */
-
-/* A fresh table of version 2: what its set-up left. */
-static void put_old(uint32_t old[OLD_WORDS])
+/* Two yards of one lane each: the grace period waits for both. */
+static void yards(void)
 {
-	static const uint32_t contents[] = { 2, 1, 1, 1, 12, 80, 92, 1, 93, 22, 115, 6, 1, 0, 0 };
-	static const uint32_t zeros[] = { 84, 87, 90, 91, 92, 94, 95, 96, 97, 98, 99, 100, 101, 102, 105, 108, 111, 112,
-		113, 115, 116, 117, 118 };
-	size_t n;
+	uint32_t memory[PT_WORDS(2, 1, 1, 1)];
 
-	for (n = 0; n < OLD_WORDS; n++)
-		old[n] = PT_NONE;
-	memcpy(old, contents, sizeof contents);
-	old[79] = old[80] = 0; /* the free queue: slot 0 */
-	old[81] = old[93] = 1; /* its length; the lane is online */
-	for (n = 0; n < sizeof zeros / sizeof zeros[0]; n++)
-		old[zeros[n]] = 0;
-}
-
-/* The carry takes two memories, and answers the total of the second. */
-static void carry(void)
-{
-	uint32_t old[OLD_WORDS], second[NEW_WORDS];
-
-	put_old(old);
-#define SECOND(words) second, words, answer, PT_ANSWER_WORDS
-	is("carry", pt_carry(old, OLD_WORDS, SECOND(NEW_WORDS)), 0, NEW_WORDS, 0, 0, 0);
-	is("awaited, carried", pt_awaited(SECOND(NEW_WORDS)), 0, 0, PT_NONE, 1, 0);
-	is("carry, version 3", pt_carry(second, NEW_WORDS, SECOND(0)), 3, 0, 0, 0, 0);
-	is("carry, short", pt_carry(old, OLD_WORDS, SECOND(NEW_WORDS - 1)), 19, 0, 0, 0, 0);
-	if (pt_carry(old, OLD_WORDS, second, NEW_WORDS, answer, 4) != PT_SHORT_ANSWER)
-		wrong = 1;
+#define TWO memory, sizeof memory / sizeof memory[0], answer, PT_ANSWER_WORDS
+	is("setup, two yards", pt_setup(TWO, 2, 1, 1, 1), 0, 165, 0, 0, 0);
+	is("setup, nine yards", pt_setup(TWO, 9, 1, 1, 1), 1, 0, 0, 0, 0);
+	is("add", pt_add(TWO, 1, 17, 25, 1), 0, 0, 0, 0, 0);
+	is("delete", pt_delete(TWO, 1, 17), 0, 0, 0, 0, 0);
+	is("clock", pt_clock(TWO, 1), 0, 1, 1, 1, 0);
+	is("off", pt_off(TWO, 0), 0, 0, 0, 0, 0);
+	is("awaited", pt_awaited(TWO), 0, 1, 1, 0, 1);
+	is("clock, no lane", pt_clock(TWO, 2), 4, 0, 0, 0, 0);
 }
 
 int main(void)
 {
-	size_t words = PT_WORDS(1, 2, 3);
+	size_t words = PT_WORDS(1, 1, 2, 3);
 	uint32_t *memory = (uint32_t *)malloc(words * sizeof *memory);
 
 	if (memory == NULL)
 		return 2;
 #define LENT memory, words, answer, PT_ANSWER_WORDS
-	is("setup", pt_setup(LENT, 1, 2, 3), 0, 171, 0, 0, 0);
+	is("setup", pt_setup(LENT, 1, 1, 2, 3), 0, 175, 0, 0, 0);
 	is("add", pt_add(LENT, 0, 17, 25, 1), 0, 0, 0, 0, 0);
 	is("replace", pt_replace(LENT, 0, 17, 30, 2), 0, 1, 0, 0, 0);
 	is("begin", pt_begin(LENT, 1), 0, 0, 0, 0, 0);
@@ -118,7 +100,7 @@ int main(void)
 	is("hand_back", pt_hand_back(LENT, 0), 0, 0, 0, 0, 0);
 	if (pt_awaited(memory, words, answer, 4) != PT_SHORT_ANSWER)
 		wrong = 1;
-	carry();
+	yards();
 	labels();
 	if (!wrong)
 		printf("linked, libproduct_table.so.%lu\n", (unsigned long)memory[0]);

@@ -168,6 +168,8 @@ int main(int argc, char **argv)
 	uint64_t first = argc > 1 ? strtoull(argv[1], NULL, 10) : 2000;
 	uint64_t seed = first;
 
+	for (uint32_t n = 0; n < draw_lists_count; n++)
+		CHECK((draw_lists[n].sizes.yards == 1) == (n < draw_lists_of_one_yard));
 	for (uint32_t n = 0; n < draw_lists_count; n++) {
 		uint32_t calls = argc > 2 ? (uint32_t)strtoul(argv[2], NULL, 10) : draw_lists[n].calls;
 
