@@ -21,7 +21,7 @@ use Rattle.model.specs.Memory.{at, contents, flags, lookupCode, lookupPosition,
 use Rattle.model.specs.Memory.{globalWords, words, walk, readChains, readLane, readProduct, state}
 use Rattle.model.specs.Legal.{sizesFit, contentsAgree, flagsInRange, masksInRange, linksInRange, fieldsInRange, standsOnce, lastsAgree, lengthsAgree}
 use Rattle.model.specs.Legal.{onTheirChains, noCodeTwice, snapshotsAtRest, lookupsAtRest, generationsAtRest, queueLinksAtRest, offLanes, lookupsInSections}
-use Rattle.model.specs.Legal.{snapshotsPending, cabinetBits, freeBlank, largestAgrees, laneGenerations, globalGeneration, legal}
+use Rattle.model.specs.Legal.{snapshotsPending, bitsFit, freeBlank, largestAgrees, laneGenerations, globalGeneration, legal}
 use Rattle.model.specs.Labels.{noLabel, labelCode, readRefusal, readReplyOf, readReply}
 use Rattle.model.specs.Labels.{labelLength, labelText, writeRefusal, writeReplyOf, writtenOf, writeReply, written}
 use Rattle.model.specs.Calls.{Call, set-up, on-state, sized, refusalOf, replyOf, leftOf, reply, left, replies, leftAll}
@@ -42,7 +42,7 @@ unfolding later
     firstOf causes outcomeAnswer outcome continued performed pendingFrom queuedIn result fresh
     contents flags lookupCode lookupPosition snapshotCount laneWords slotWords globalWords words walk readChains readLane readProduct state
     sizesFit contentsAgree flagsInRange masksInRange linksInRange fieldsInRange standsOnce lastsAgree lengthsAgree onTheirChains noCodeTwice
-    snapshotsAtRest lookupsAtRest generationsAtRest queueLinksAtRest offLanes lookupsInSections snapshotsPending cabinetBits freeBlank
+    snapshotsAtRest lookupsAtRest generationsAtRest queueLinksAtRest offLanes lookupsInSections snapshotsPending bitsFit freeBlank
     largestAgrees laneGenerations globalGeneration legal
     refusalOf replyOf leftOf reply left replies
 answered m ks = map fiveWords (replies m ks)
@@ -61,36 +61,39 @@ op k = line (on-state k)
 
 -- ---- set-ups, with the totals that they must answer
 
-abbrev pub setUp111 : Line
-setUp111 = line (set-up 1 1 1) 0 129 0 0 0
+abbrev pub setUp1111 : Line
+setUp1111 = line (set-up (sized 1 1 1 1)) 0 133 0 0 0
 
-abbrev pub setUp112 : Line
-setUp112 = line (set-up 1 1 2) 0 135 0 0 0
+abbrev pub setUp1112 : Line
+setUp1112 = line (set-up (sized 1 1 1 2)) 0 139 0 0 0
 
-abbrev pub setUp122 : Line
-setUp122 = line (set-up 1 2 2) 0 165 0 0 0
+abbrev pub setUp1122 : Line
+setUp1122 = line (set-up (sized 1 1 2 2)) 0 169 0 0 0
 
-abbrev pub setUp123 : Line
-setUp123 = line (set-up 1 2 3) 0 171 0 0 0
+abbrev pub setUp1123 : Line
+setUp1123 = line (set-up (sized 1 1 2 3)) 0 175 0 0 0
 
-abbrev pub setUp124 : Line
-setUp124 = line (set-up 1 2 4) 0 177 0 0 0
+abbrev pub setUp1124 : Line
+setUp1124 = line (set-up (sized 1 1 2 4)) 0 181 0 0 0
 
-abbrev pub setUp138 : Line
-setUp138 = line (set-up 1 3 8) 0 231 0 0 0
+abbrev pub setUp1138 : Line
+setUp1138 = line (set-up (sized 1 1 3 8)) 0 235 0 0 0
 
-abbrev pub setUp811 : Line
-setUp811 = line (set-up 8 1 1) 0 346 0 0 0
+abbrev pub setUp1811 : Line
+setUp1811 = line (set-up (sized 1 8 1 1)) 0 350 0 0 0
 
--- the largest table's
+-- the largest table's, of one yard and of all
+abbrev pub oneYardTotal : ℕ
+oneYardTotal = 8168
+
 abbrev pub largestTotal : ℕ
-largestTotal = 8164
+largestTotal = 21671
 
 -- ---- the listing of document 01
 
 abbrev pub listing : List Line
 listing =
-    setUp123
+    setUp1123
     ∷ op (add 0 17 25 1) 0 0 0 0 0
     ∷ op (begin 1) 0 0 0 0 0
     ∷ op (start 1 17) 0 0 0 0 0
@@ -116,7 +119,7 @@ listing =
 -- lane 1 moved at lane 1's clock
 abbrev pub twoQueuesMoved : List Line
 twoQueuesMoved =
-    setUp138
+    setUp1138
     ∷ op (add 0 17 1 1) 0 0 0 0 0
     ∷ op (add 0 24 1 1) 0 1 0 0 0
     ∷ op (add 0 31 1 1) 0 2 0 0 0
@@ -153,7 +156,7 @@ countedAfter =
 -- the clock after it moved nothing
 abbrev pub offUntold : List Line
 offUntold =
-    setUp138
+    setUp1138
     ∷ op (add 2 17 1 1) 0 0 0 0 0
     ∷ op (delete 2 17) 0 0 0 0 0
     ∷ op (off 2) 0 0 0 0 0
@@ -194,7 +197,7 @@ pub data Row : Type 0 where
 
 -- where the counts of lane 0 of a table 1 1 1 stand, kind 0 first
 abbrev pub countsAt : ℕ
-countsAt = laneAddress (sized 1 1 1) 0 + quiescentAt
+countsAt = laneAddress (sized 1 1 1 1) 0 + quiescentAt
 
 -- a truth as a line of output
 abbrev pub verdict : Bool → List (List ℕ)
@@ -220,7 +223,7 @@ run (poked n ls a w ks) =
     let cs = map callOf ls in
     answered (lentWords n) cs ++ answered (set (leftAll (lentWords n) cs) a w) (map callOf ks)
 run (passes l h l′ h′) =
-    let m = left (sets (leftAll (lentWords 200) (set-up 1 1 1 ∷ [])) countsAt (l ∷ h ∷ [])) (on-state (pass 0 0)) in
+    let m = left (sets (leftAll (lentWords 200) (set-up (sized 1 1 1 1) ∷ [])) countsAt (l ∷ h ∷ [])) (on-state (pass 0 0)) in
     (at m countsAt ∷ at m (countsAt + 1) ∷ []) ∷ []
 run (order a b t) = verdict (later a b)
 run (digit x t) = verdict (rightDigits (map digitOf (bytes x)))

@@ -8,14 +8,14 @@ use lib.ListN.{take, drop}
 use Rattle.model.specs.Rules.{add, replace, delete, begin, end, start, step, pass, clock, on, off, hand-back, awaited}
 use Rattle.model.specs.Layout.{versionAt, codeAt, slotAddress, lookupAt, laneAddress}
 use Rattle.model.specs.Calls.{set-up, sized}
-use Rattle.scripts.specs.Scripts.{Line, line, op, setUp111, setUp112, setUp123, setUp124, setUp811, largestTotal, listing}
+use Rattle.scripts.specs.Scripts.{Line, line, op, setUp1111, setUp1112, setUp1123, setUp1124, setUp1811, oneYardTotal, largestTotal, listing}
 use Rattle.scripts.specs.Scripts.{twoQueuesMoved, countedAfter, offUntold}
 use Rattle.scripts.specs.Scripts.{Row, script, poked, passes, countsAt, order, digit, reads, writes, expected, run}
 
 -- replace with code missing and no free slot
 abbrev pub missingFirst : List Line
 missingFirst =
-    setUp111
+    setUp1111
     ∷ op (add 0 17 25 1) 0 0 0 0 0
     ∷ op (replace 0 24 25 1) 13 0 0 0 0
     ∷ []
@@ -23,7 +23,7 @@ missingFirst =
 -- a lookup stands on a slot that is then deleted, and goes on to what follows it
 abbrev pub deletedUnderway : List Line
 deletedUnderway =
-    setUp112
+    setUp1112
     ∷ op (add 0 192 25 1) 0 0 0 0 0
     ∷ op (add 0 0 30 2) 0 1 0 0 0
     ∷ op (begin 0) 0 0 0 0 0
@@ -36,7 +36,7 @@ deletedUnderway =
 -- the largest codes of thirteen and of fourteen digits, the largest of each with a right check digit, the smallest of fourteen, and one past the range
 abbrev pub codeLimit : List Line
 codeLimit =
-    setUp123
+    setUp1123
     ∷ op (add 0 9999999999999 25 1) 17 0 0 0 0
     ∷ op (add 0 9999999999994 25 1) 0 0 0 0 0
     ∷ op (add 0 10000000000000 25 1) 17 0 0 0 0
@@ -52,7 +52,7 @@ codeLimit =
 -- two right codes; the first with another last digit, and with its first two exchanged; the second with 3 and 8 exchanged, which differ by 5
 abbrev pub typedCodes : List Line
 typedCodes =
-    setUp123
+    setUp1123
     ∷ op (add 0 5901234123457 25 1) 0 0 0 0 0
     ∷ op (add 0 4006381333931 25 1) 0 1 0 0 0
     ∷ op (add 0 5901234123458 25 1) 17 0 0 0 0
@@ -63,7 +63,7 @@ typedCodes =
 -- a wrong check digit is tested after the range, and before what the table holds: code 18 is missing, and later no slot is free
 abbrev pub digitAfterRange : List Line
 digitAfterRange =
-    setUp111
+    setUp1111
     ∷ op (add 0 18 25 8) 11 0 0 0 0
     ∷ op (replace 0 18 25 8) 11 0 0 0 0
     ∷ op (replace 0 18 25 1) 17 0 0 0 0
@@ -76,7 +76,7 @@ digitAfterRange =
 
 -- A full table. Code 338, of chain 18, then becomes 18 in slot 0: a legal memory with an older record
 abbrev pub beforeOlder : List Line
-beforeOlder = setUp112 ∷ op (add 0 338 25 1) 0 0 0 0 0 ∷ op (add 0 17 30 2) 0 1 0 0 0 ∷ []
+beforeOlder = setUp1112 ∷ op (add 0 338 25 1) 0 0 0 0 0 ∷ op (add 0 17 30 2) 0 1 0 0 0 ∷ []
 
 -- it is found; the office does not enter it again, though it is present and no slot is free; delete clears it
 abbrev pub olderRecord : List Line
@@ -96,7 +96,7 @@ olderRecord =
 -- a record and a running lookup of code 99,999,999,999,744
 abbrev pub beforeLimit : List Line
 beforeLimit =
-    setUp111
+    setUp1111
     ∷ op (add 0 99999999999744 25 1) 0 0 0 0 0
     ∷ op (begin 0) 0 0 0 0 0
     ∷ op (start 0 99999999999744) 0 0 0 0 0
@@ -176,7 +176,7 @@ labelsWritten =
 -- the step after it finds no lookup
 abbrev pub droppedAtNone : List Line
 droppedAtNone =
-    setUp111
+    setUp1111
     ∷ op (begin 0) 0 0 0 0 0
     ∷ op (start 0 17) 0 0 0 0 0
     ∷ op (end 0) 0 0 0 0 0
@@ -188,7 +188,7 @@ droppedAtNone =
 -- for another code. Start alone is refused while one runs
 abbrev pub droppedOnChain : List Line
 droppedOnChain =
-    setUp124
+    setUp1124
     ∷ op (add 0 192 25 1) 0 0 0 0 0
     ∷ op (add 0 0 30 2) 0 1 0 0 0
     ∷ op (add 0 512 35 3) 0 2 0 0 0
@@ -228,7 +228,7 @@ droppedInPeriod = take stepLine listing ++ drop (suc stepLine) listing
 -- a lane goes off after a dropped lookup, while a period waits for it; on again it has none
 abbrev pub droppedThenOff : List Line
 droppedThenOff =
-    setUp123
+    setUp1123
     ∷ op (add 0 17 25 1) 0 0 0 0 0
     ∷ op (begin 1) 0 0 0 0 0
     ∷ op (start 1 17) 0 0 0 0 0
@@ -258,14 +258,14 @@ through i n = op (clock i) 0 1 1 1 0 ∷ op (pass i 0) 0 0 0 0 0 ∷ op (clock i
 
 -- the eighth cabinet, by seven subtractions, of which nothing is left, and the seventh; there is no ninth. Two cabinets of four lanes: `cases` Replay
 abbrev pub lastCabinets : List Line
-lastCabinets = setUp811 ∷ (allAwaited ++ through 7 7 ++ through 6 6) ++ (op (clock 8) 4 0 0 0 0 ∷ [])
+lastCabinets = setUp1811 ∷ (allAwaited ++ through 7 7 ++ through 6 6) ++ (op (clock 8) 4 0 0 0 0 ∷ [])
 
 -- ---- request 5: how long a lookup can take
 
 -- two records on the chain: two steps go, and the third answers. `timings` judges the figure, on longer chains and beside other calls too
 abbrev pub lastStepNeeded : List Line
 lastStepNeeded =
-    setUp112
+    setUp1112
     ∷ op (add 0 192 25 1) 0 0 0 0 0
     ∷ op (add 0 512 30 2) 0 1 0 0 0
     ∷ op (begin 0) 0 0 0 0 0
@@ -285,7 +285,7 @@ olderVersion = op awaited 3 0 0 0 0 ∷ op (clock 0) 3 0 0 0 0 ∷ op (add 0 17 
 
 -- Lane 0, alone, has removed a slot and holds a snapshot of counts that are 0
 abbrev pub holdsZeros : List Line
-holdsZeros = setUp111 ∷ op (add 0 17 25 1) 0 0 0 0 0 ∷ op (delete 0 17) 0 0 0 0 0 ∷ op (clock 0) 0 1 1 1 0 ∷ []
+holdsZeros = setUp1111 ∷ op (add 0 17 25 1) 0 0 0 0 0 ∷ op (delete 0 17) 0 0 0 0 0 ∷ op (clock 0) 0 1 1 1 0 ∷ []
 
 -- after 4,294,967,296 passes its count is no 0: the clock lets it go. The count with the largest word in it, and a pass more; or the high word alone
 abbrev pub noWrap : List Line
@@ -309,11 +309,13 @@ countWords =
 abbrev pub stars : List Row
 stars =
     script 16000 listing
-    ∷ script (largestTotal - 1) (line (set-up 8 8 1024) 2 0 0 0 0 ∷ [])
-    ∷ script largestTotal (line (set-up 8 8 1024) 0 largestTotal 0 0 0 ∷ [])
-    ∷ script 16000 (line (set-up 1 2 0) 1 0 0 0 0 ∷ line (set-up 1 2 1025) 1 0 0 0 0 ∷ [])
+    ∷ script (oneYardTotal - 1) (line (set-up (sized 1 8 8 1024)) 2 0 0 0 0 ∷ [])
+    ∷ script oneYardTotal (line (set-up (sized 1 8 8 1024)) 0 oneYardTotal 0 0 0 ∷ [])
+    ∷ script (largestTotal - 1) (line (set-up (sized 8 8 8 1024)) 2 0 0 0 0 ∷ [])
+    ∷ script largestTotal (line (set-up (sized 8 8 8 1024)) 0 largestTotal 0 0 0 ∷ [])
+    ∷ script 16000 (line (set-up (sized 1 1 2 0)) 1 0 0 0 0 ∷ line (set-up (sized 1 1 2 1025)) 1 0 0 0 0 ∷ [])
     ∷ script 16000 codeLimit
-    ∷ script 16000 (setUp123 ∷ op (begin 2) 4 0 0 0 0 ∷ [])
+    ∷ script 16000 (setUp1123 ∷ op (begin 2) 4 0 0 0 0 ∷ [])
     ∷ order 0 4294967295 true
     ∷ order 4294967295 0 false
     ∷ order 0 0 false
@@ -322,11 +324,11 @@ stars =
     ∷ script 16000 deletedUnderway
     ∷ script 200 typedCodes
     ∷ script 200 digitAfterRange
-    ∷ poked 200 beforeOlder (slotAddress (sized 1 1 2) 0 + codeAt) 18 olderRecord
-    ∷ poked 200 beforeLimit (slotAddress (sized 1 1 1) 0 + codeAt) lastLow stillLegal
-    ∷ poked 200 beforeLimit (slotAddress (sized 1 1 1) 0 + codeAt) pastLow notLegal
-    ∷ poked 200 beforeLimit (laneAddress (sized 1 1 1) 0 + lookupAt) lastLow stillLegal
-    ∷ poked 200 beforeLimit (laneAddress (sized 1 1 1) 0 + lookupAt) pastLow notLegal
+    ∷ poked 200 beforeOlder (slotAddress (sized 1 1 1 2) 0 + codeAt) 18 olderRecord
+    ∷ poked 200 beforeLimit (slotAddress (sized 1 1 1 1) 0 + codeAt) lastLow stillLegal
+    ∷ poked 200 beforeLimit (slotAddress (sized 1 1 1 1) 0 + codeAt) pastLow notLegal
+    ∷ poked 200 beforeLimit (laneAddress (sized 1 1 1 1) 0 + lookupAt) lastLow stillLegal
+    ∷ poked 200 beforeLimit (laneAddress (sized 1 1 1 1) 0 + lookupAt) pastLow notLegal
     ∷ script 200 droppedAtNone
     ∷ script 200 droppedOnChain
     ∷ script 200 droppedInPeriod
@@ -335,8 +337,8 @@ stars =
     ∷ script 200 lastStepNeeded
     ∷ script 300 (twoQueuesMoved ++ countedAfter)
     ∷ script 300 offUntold
-    ∷ poked 200 (setUp123 ∷ []) versionAt 1 olderVersion
-    ∷ poked 200 (setUp123 ∷ []) versionAt 2 olderVersion
+    ∷ poked 200 (setUp1123 ∷ []) versionAt 1 olderVersion
+    ∷ poked 200 (setUp1123 ∷ []) versionAt 2 olderVersion
     ∷ poked 200 holdsZeros countsAt 4294967295 noWrap
     ∷ poked 200 holdsZeros (countsAt + 1) 1 highCounts
     ∷ (countWords ++ labelDigits ++ labelsRead ++ labelsWritten)
