@@ -1,16 +1,17 @@
 -- The cases that document 01 marks with a star ("A listing, and edges", last paragraph), in its order and as document 02 changes them, and then
 -- those of document 02's requests.
 use Prim.Native.Nat.{ℕ, suc, _+_, _-_}
-use mathlib.Core.Path.{_≡_, refl}
+use mathlib.Core.Path.{_≡_, refl, sym, _∙_, ap₂}
 use mathlib.Core.Bool.{true, false}
-use mathlib.Core.List.{List, [], _∷_, _++_, map}
+use mathlib.Core.List.{List, [], _∷_, _++_, map, map-append}
 use lib.ListN.{take, drop}
 use Rattle.model.specs.Rules.{add, replace, delete, begin, end, start, step, pass, clock, on, off, hand-back, awaited}
-use Rattle.model.specs.Layout.{versionAt, codeAt, slotAddress, lookupAt, laneAddress}
+use Rattle.model.specs.State.{Sizes}
+use Rattle.model.specs.Layout.{versionAt, yardMaskAt, masksAt, codeAt, slotAddress, lookupAt, laneAddress, yardsBody}
 use Rattle.model.specs.Calls.{set-up, sized}
-use Rattle.scripts.specs.Scripts.{Line, line, op, setUp1111, setUp1112, setUp1123, setUp1124, setUp1811, oneYardTotal, largestTotal, listing}
-use Rattle.scripts.specs.Scripts.{twoQueuesMoved, countedAfter, offUntold}
-use Rattle.scripts.specs.Scripts.{Row, script, poked, passes, countsAt, order, digit, reads, writes, expected, run}
+use Rattle.scripts.specs.Scripts.{Line, line, op, setUp1111, setUp1112, setUp1123, setUp1124, setUp1811, setUp2211, setUp2234, setUp3121, setUp8111}
+use Rattle.scripts.specs.Scripts.{oneYardTotal, largestTotal, listing, twoQueuesMoved, countedAfter, offUntold}
+use Rattle.scripts.specs.Scripts.{Watch, made, stands, Row, script, poked, watched, passes, countsAt, order, digit, reads, writes, expected, run}
 
 -- replace with code missing and no free slot
 abbrev pub missingFirst : List Line
@@ -252,13 +253,17 @@ droppedThenOff =
 abbrev pub allAwaited : List Line
 allAwaited = op (add 0 17 25 1) 0 0 0 0 0 ∷ op (delete 0 17) 0 0 0 0 0 ∷ op (clock 0) 0 1 1 1 0 ∷ []
 
--- lane i is through, and n are awaited still, lane 0 among them
-abbrev pub through : ℕ → ℕ → List Line
-through i n = op (clock i) 0 1 1 1 0 ∷ op (pass i 0) 0 0 0 0 0 ∷ op (clock i) 0 1 1 1 0 ∷ op awaited 0 n 0 0 1 ∷ []
+-- n lanes are awaited, the lowest of them lane l
+abbrev pub awaitedStill : ℕ → ℕ → Line
+awaitedStill n l = op awaited 0 n l 0 1
+
+-- lane i is through, and n are awaited still, the lowest of them lane l
+abbrev pub through : ℕ → ℕ → ℕ → List Line
+through i n l = op (clock i) 0 1 1 1 0 ∷ op (pass i 0) 0 0 0 0 0 ∷ op (clock i) 0 1 1 1 0 ∷ awaitedStill n l ∷ []
 
 -- the eighth cabinet, by seven subtractions, of which nothing is left, and the seventh; there is no ninth. Two cabinets of four lanes: `cases` Replay
 abbrev pub lastCabinets : List Line
-lastCabinets = setUp1811 ∷ (allAwaited ++ through 7 7 ++ through 6 6) ++ (op (clock 8) 4 0 0 0 0 ∷ [])
+lastCabinets = setUp1811 ∷ (allAwaited ++ through 7 7 0 ++ through 6 6 0) ++ (op (clock 8) 4 0 0 0 0 ∷ [])
 
 -- ---- request 5: how long a lookup can take
 
@@ -304,15 +309,92 @@ countWords =
     ∷ passes 4294967295 4294967295 0 0
     ∷ []
 
+-- ---- request 8: yards above cabinets
+
+-- no yards, and nine
+abbrev pub yardRange : List Line
+yardRange = line (set-up (sized 0 1 2 3)) 1 0 0 0 0 ∷ line (set-up (sized 9 1 2 3)) 1 0 0 0 0 ∷ []
+
+-- the fifteen words of contents
+abbrev pub contentsWords : List Watch
+contentsWords = made setUp2234 ∷ stands versionAt (4 ∷ 2 ∷ 3 ∷ 4 ∷ 15 ∷ 80 ∷ 95 ∷ 4 ∷ 99 ∷ 360 ∷ 459 ∷ 24 ∷ 483 ∷ 2 ∷ 2 ∷ []) ∷ []
+
+-- lane 11 is the last of two yards with two cabinets of three lanes
+abbrev pub lastLane : List Line
+lastLane = setUp2234 ∷ op (begin 11) 0 0 0 0 0 ∷ op (begin 12) 4 0 0 0 0 ∷ []
+
+-- the eighth yard, by seven subtractions, of which nothing is left, and the seventh; there is no ninth
+abbrev pub lastYards : List Line
+lastYards = setUp8111 ∷ (allAwaited ++ through 7 7 0 ++ through 6 6 0) ++ (op (clock 8) 4 0 0 0 0 ∷ [])
+
+-- lines on a table of sizes z, and the masks after them: the yard mask, the yards' cabinet masks, and the cabinets' lane masks
+abbrev pub masked : Sizes → List Line → ℕ → List ℕ → List ℕ → List Watch
+masked z ls y cs ps = map made ls ++ (stands yardMaskAt (y ∷ []) ∷ stands (yardsBody z) cs ∷ stands masksAt ps ∷ [])
+
+-- lane 0 began the period: it is through, and n are awaited still, the lowest of them lane l
+abbrev pub firstThrough : ℕ → ℕ → List Line
+firstThrough n l = op (pass 0 0) 0 0 0 0 0 ∷ op (clock 0) 0 1 1 1 0 ∷ awaitedStill n l ∷ []
+
+-- lane i, the last one awaited, ends the period
+abbrev pub lastThrough : ℕ → List Line
+lastThrough i =
+    op (clock i) 0 1 1 1 0
+    ∷ op (pass i 0) 0 0 0 0 0
+    ∷ awaitedStill 1 i
+    ∷ op (clock i) 0 2 1 0 0
+    ∷ op awaited 0 0 4294967295 0 1
+    ∷ []
+
+-- two yards of two cabinets with a lane each
+abbrev pub twoYards : Sizes
+twoYards = sized 2 2 1 1
+
+abbrev pub twoYardsPeriod : List Watch
+twoYardsPeriod =
+    masked twoYards (setUp2211 ∷ allAwaited ++ (awaitedStill 4 0 ∷ [])) 3 (3 ∷ 3 ∷ []) (1 ∷ 1 ∷ 1 ∷ 1 ∷ [])
+    ++ masked twoYards (firstThrough 3 1) 3 (2 ∷ 3 ∷ []) (0 ∷ 1 ∷ 1 ∷ 1 ∷ [])
+    ++ masked twoYards (through 1 2 2) 2 (0 ∷ 3 ∷ []) (0 ∷ 0 ∷ 1 ∷ 1 ∷ [])
+    ++ masked twoYards (through 2 1 3) 2 (0 ∷ 2 ∷ []) (0 ∷ 0 ∷ 0 ∷ 1 ∷ [])
+    ++ masked twoYards (lastThrough 3) 0 (0 ∷ 0 ∷ []) (0 ∷ 0 ∷ 0 ∷ 0 ∷ [])
+
+-- a lane of the first yard's second cabinet is lower than one of the second yard's first
+abbrev pub yardBeforeCabinet : List Watch
+yardBeforeCabinet =
+    masked twoYards (setUp2211 ∷ allAwaited ++ through 3 3 0 ++ firstThrough 2 1) 3 (2 ∷ 1 ∷ []) (0 ∷ 1 ∷ 1 ∷ 0 ∷ [])
+
+-- three yards of a cabinet with two lanes each
+abbrev pub threeYards : Sizes
+threeYards = sized 3 1 2 1
+
+abbrev pub threeYardsPeriod : List Watch
+threeYardsPeriod =
+    masked threeYards (setUp3121 ∷ allAwaited ++ firstThrough 5 1) 7 (1 ∷ 1 ∷ 1 ∷ []) (2 ∷ 3 ∷ 3 ∷ [])
+    ++ masked threeYards (through 1 4 2 ++ through 2 3 3) 6 (0 ∷ 1 ∷ 1 ∷ []) (0 ∷ 2 ∷ 3 ∷ [])
+    ++ masked threeYards (through 3 2 4 ++ through 4 1 5) 4 (0 ∷ 0 ∷ 1 ∷ []) (0 ∷ 0 ∷ 2 ∷ [])
+    ++ masked threeYards (lastThrough 5) 0 (0 ∷ 0 ∷ 0 ∷ []) (0 ∷ 0 ∷ 0 ∷ [])
+
+-- Lane 2 is the only one on in its yard, and lane 1 in its cabinet. Each goes off while the period waits for it, which goes on with lane 0
+abbrev pub offOfYard : List Watch
+offOfYard =
+    masked twoYards (setUp2211 ∷ op (off 3) 0 0 0 0 0 ∷ allAwaited ++ (awaitedStill 3 0 ∷ [])) 3 (3 ∷ 1 ∷ []) (1 ∷ 1 ∷ 1 ∷ 0 ∷ [])
+    ++ masked twoYards (op (off 2) 0 0 0 0 0 ∷ awaitedStill 2 0 ∷ []) 1 (3 ∷ 0 ∷ []) (1 ∷ 1 ∷ 0 ∷ 0 ∷ [])
+    ++ masked twoYards (op (off 1) 0 0 0 0 0 ∷ awaitedStill 1 0 ∷ []) 1 (1 ∷ 0 ∷ []) (1 ∷ 0 ∷ 0 ∷ 0 ∷ [])
+    ++ masked twoYards (op (pass 0 0) 0 0 0 0 0 ∷ op (clock 0) 0 2 1 0 1 ∷ []) 0 (0 ∷ 0 ∷ []) (0 ∷ 0 ∷ 0 ∷ 0 ∷ [])
+
+-- lane 2 again: it goes off as the last one awaited, which ends the period
+abbrev pub offEndsPeriod : List Watch
+offEndsPeriod =
+    masked twoYards (setUp2211 ∷ op (off 3) 0 0 0 0 0 ∷ allAwaited ++ firstThrough 2 1 ++ through 1 1 2) 2 (0 ∷ 1 ∷ []) (0 ∷ 0 ∷ 1 ∷ 0 ∷ [])
+    ++ masked twoYards (op (off 2) 0 0 0 0 0 ∷ op (clock 0) 0 2 1 0 1 ∷ []) 0 (0 ∷ 0 ∷ []) (0 ∷ 0 ∷ 0 ∷ 0 ∷ [])
+
 -- ---- all of them
 
-abbrev pub stars : List Row
-stars =
+-- of document 01, and of requests 1 to 7
+abbrev pub earlierCases : List Row
+earlierCases =
     script 16000 listing
     ∷ script (oneYardTotal - 1) (line (set-up (sized 1 8 8 1024)) 2 0 0 0 0 ∷ [])
     ∷ script oneYardTotal (line (set-up (sized 1 8 8 1024)) 0 oneYardTotal 0 0 0 ∷ [])
-    ∷ script (largestTotal - 1) (line (set-up (sized 8 8 8 1024)) 2 0 0 0 0 ∷ [])
-    ∷ script largestTotal (line (set-up (sized 8 8 8 1024)) 0 largestTotal 0 0 0 ∷ [])
     ∷ script 16000 (line (set-up (sized 1 1 2 0)) 1 0 0 0 0 ∷ line (set-up (sized 1 1 2 1025)) 1 0 0 0 0 ∷ [])
     ∷ script 16000 codeLimit
     ∷ script 16000 (setUp1123 ∷ op (begin 2) 4 0 0 0 0 ∷ [])
@@ -343,7 +425,35 @@ stars =
     ∷ poked 200 holdsZeros (countsAt + 1) 1 highCounts
     ∷ (countWords ++ labelDigits ++ labelsRead ++ labelsWritten)
 
+-- of request 8
+abbrev pub yardCases : List Row
+yardCases =
+    script (largestTotal - 1) (line (set-up (sized 8 8 8 1024)) 2 0 0 0 0 ∷ [])
+    ∷ script largestTotal (line (set-up (sized 8 8 8 1024)) 0 largestTotal 0 0 0 ∷ [])
+    ∷ script 200 yardRange
+    ∷ watched 500 contentsWords
+    ∷ script 500 lastLane
+    ∷ script 400 lastYards
+    ∷ watched 300 twoYardsPeriod
+    ∷ watched 300 yardBeforeCabinet
+    ∷ watched 300 threeYardsPeriod
+    ∷ watched 300 offOfYard
+    ∷ watched 300 offEndsPeriod
+    ∷ poked 200 (setUp1123 ∷ []) versionAt 3 olderVersion
+    ∷ []
+
+abbrev pub stars : List Row
+stars = earlierCases ++ yardCases
+
+-- the two are computed apart, for a computation is bounded in its steps
+pub earlier-hold : map run earlierCases ≡ map expected earlierCases
+unfolding run expected
+earlier-hold = refl
+
+pub yards-hold : map run yardCases ≡ map expected yardCases
+unfolding run expected
+yards-hold = refl
+
 -- each row comes out. That no generation at all is later than itself is a law (`laws` Generations `later-self`)
 pub stars-hold : map run stars ≡ map expected stars
-unfolding run expected
-stars-hold = refl
+stars-hold = map-append run earlierCases yardCases ∙ ap₂ _++_ earlier-hold yards-hold ∙ sym (map-append expected earlierCases yardCases)
