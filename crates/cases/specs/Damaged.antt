@@ -164,7 +164,6 @@ secondChanges =
     ∷ change yardMaskAt 6 maskOutOfRange
     ∷ change (yardsBody twoYards) 0 nothing
     ∷ change (yardsBody twoYards) 2 bitUnfit
-    ∷ change (yardsBody twoYards) 4 bitUnfit
     ∷ change (masksAt + 1) 0 nothing
     ∷ change (masksAt + 1) 1 bitUnfit
     ∷ []
