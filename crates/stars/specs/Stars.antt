@@ -389,9 +389,9 @@ offEndsPeriod =
 
 -- ---- all of them
 
--- of document 01, and of requests 1 to 7
-abbrev pub earlierCases : List Row
-earlierCases =
+-- of document 01, and of requests 1 to 3
+abbrev pub baseCases : List Row
+baseCases =
     script 16000 listing
     ∷ script (oneYardTotal - 1) (line (set-up (sized 1 8 8 1024)) 2 0 0 0 0 ∷ [])
     ∷ script oneYardTotal (line (set-up (sized 1 8 8 1024)) 0 oneYardTotal 0 0 0 ∷ [])
@@ -415,7 +415,12 @@ earlierCases =
     ∷ script 200 droppedOnChain
     ∷ script 200 droppedInPeriod
     ∷ script 200 droppedThenOff
-    ∷ script 400 lastCabinets
+    ∷ (labelDigits ++ labelsRead ++ labelsWritten)
+
+-- of requests 4 to 7
+abbrev pub laterCases : List Row
+laterCases =
+    script 400 lastCabinets
     ∷ script 200 lastStepNeeded
     ∷ script 300 (twoQueuesMoved ++ countedAfter)
     ∷ script 300 offUntold
@@ -423,7 +428,7 @@ earlierCases =
     ∷ poked 200 (setUp1123 ∷ []) versionAt 2 olderVersion
     ∷ poked 200 holdsZeros countsAt 4294967295 noWrap
     ∷ poked 200 holdsZeros (countsAt + 1) 1 highCounts
-    ∷ (countWords ++ labelDigits ++ labelsRead ++ labelsWritten)
+    ∷ countWords
 
 -- of request 8
 abbrev pub yardCases : List Row
@@ -443,17 +448,25 @@ yardCases =
     ∷ []
 
 abbrev pub stars : List Row
-stars = earlierCases ++ yardCases
+stars = baseCases ++ laterCases ++ yardCases
 
--- the two are computed apart, for a computation is bounded in its steps
-pub earlier-hold : map run earlierCases ≡ map expected earlierCases
+-- each part is computed apart, for a computation is bounded in its steps
+pub base-hold : map run baseCases ≡ map expected baseCases
 unfolding run expected
-earlier-hold = refl
+base-hold = refl
+
+pub later-hold : map run laterCases ≡ map expected laterCases
+unfolding run expected
+later-hold = refl
 
 pub yards-hold : map run yardCases ≡ map expected yardCases
 unfolding run expected
 yards-hold = refl
 
+-- two parts of which each row comes out, together
+pub joined : (xs ys : List Row) → map run xs ≡ map expected xs → map run ys ≡ map expected ys → map run (xs ++ ys) ≡ map expected (xs ++ ys)
+joined xs ys p q = map-append run xs ys ∙ ap₂ _++_ p q ∙ sym (map-append expected xs ys)
+
 -- each row comes out. That no generation at all is later than itself is a law (`laws` Generations `later-self`)
 pub stars-hold : map run stars ≡ map expected stars
-stars-hold = map-append run earlierCases yardCases ∙ ap₂ _++_ earlier-hold yards-hold ∙ sym (map-append expected earlierCases yardCases)
+stars-hold = joined baseCases (laterCases ++ yardCases) base-hold (joined laterCases yardCases later-hold yards-hold)
