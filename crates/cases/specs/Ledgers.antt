@@ -8,7 +8,7 @@ use lib.ListN.{take}
 use Rattle.model.specs.Lists.{drops, same}
 use Rattle.model.specs.Rules.{add, replace, delete, begin, end, start, step}
 use Rattle.model.specs.Ledger.{Section, Entry, Search, Out, Ledger, fed, fedCall, Event, ledgerFrom, ledger, searchIn}
-use Rattle.scripts.specs.Scripts.{Line, op, setUp123, listing, fiveWords, eventsOf}
+use Rattle.scripts.specs.Scripts.{Line, op, setUp1123, listing, fiveWords, eventsOf}
 
 -- what the ledger holds at an instant
 pub data Book : Type 0 where
@@ -72,7 +72,7 @@ listed =
 
 abbrev pub edges : List Line
 edges =
-    setUp123
+    setUp1123
     ∷ op (add 0 17 25 1) 0 0 0 0 0
     ∷ op (begin 0) 0 0 0 0 0
     ∷ op (start 0 24) 0 0 0 0 0
@@ -112,7 +112,7 @@ edged =
 
 abbrev pub takenBack : List Line
 takenBack =
-    setUp123
+    setUp1123
     ∷ op (add 0 17 25 1) 0 0 0 0 0
     ∷ op (begin 1) 0 0 0 0 0
     ∷ op (start 1 17) 0 0 0 0 0
@@ -147,7 +147,7 @@ taken =
 
 abbrev pub anotherCode : List Line
 anotherCode =
-    setUp123
+    setUp1123
     ∷ op (add 0 17 25 1) 0 0 0 0 0
     ∷ op (begin 0) 0 0 0 0 0
     ∷ op (begin 1) 0 0 0 0 0

@@ -5,25 +5,25 @@ use mathlib.Core.Path.{_≡_, refl}
 use mathlib.Core.Bool.{Bool, true, false}
 use mathlib.Core.List.{List, [], _∷_, _++_, map}
 use lib.ListN.{length}
-use Rattle.model.specs.Lists.{concatMap}
+use Rattle.model.specs.Lists.{concatMap, bit}
 use Rattle.model.specs.State.{isHeld, Lane, State}
-use Rattle.model.specs.Layout.{currentGenerationAt, largestGenerationAt, cabinetMaskAt}
+use Rattle.model.specs.Layout.{currentGenerationAt, largestGenerationAt, yardMaskAt}
 use Rattle.model.specs.Engine.{laneAt}
 use Rattle.model.specs.Rules.{Op, add, delete, pass, clock, hand-back, answer, next}
-use Rattle.model.specs.Memory.{at, maskWord, state}
+use Rattle.model.specs.Memory.{at, isNotZero, maskWord, yardWord, state}
 use Rattle.model.specs.Legal.{legal}
-use Rattle.model.specs.Calls.{set-up, stored, left}
+use Rattle.model.specs.Calls.{set-up, sized, stored, left}
 use Rattle.scripts.specs.Scripts.{answered, lentWords}
 
 -- of a lane: whether it holds a snapshot, the generation of its current queue, and the lengths of its next, current and done queues
 pub data View : Type 0 where
   view : (lane : ℕ) (snapshot : Bool) (generation next current done : ℕ) → View
 
--- a row: calls, and what the memory shows after them: current and largest generation, cabinet mask, lane mask of cabinet 0, and some lanes
+-- a row: calls, and what the memory shows after them: current and largest generation, the one yard's cabinet mask, lane mask of cabinet 0, and some lanes
 pub data Stage : Type 0 where
   stage : (calls : List Op) (current largest cabinetMask laneMask : ℕ) (views : List View) → Stage
 
--- a table of these sizes, and the rows that it goes through after its set-up
+-- a table of one yard with these sizes, and the rows that it goes through after its set-up
 pub data Walkthrough : Type 0 where
   walkthrough : (cabinets places slots : ℕ) (stages : List Stage) → Walkthrough
 
@@ -43,10 +43,12 @@ shown ks b ws vs = record { statuses = ks; isLegal = b; engine = ws; views = vs 
 abbrev pub statusZero : Op → ℕ
 statusZero k = 0
 
+-- the yard's bit stands while its cabinet mask is not 0
 abbrev pub owed : Stage → Shown
-owed (stage ks c l q p vs) = shown (map statusZero ks) true (c ∷ l ∷ q ∷ p ∷ []) vs
+owed (stage ks c l q p vs) = shown (map statusZero ks) true (c ∷ l ∷ bit (isNotZero q) ∷ q ∷ p ∷ []) vs
 
 unfoldable pub owedBy : Walkthrough → List Shown
+unfolding bit
 owedBy (walkthrough c p n ss) = map owed ss
 
 -- ---- what it shows
@@ -60,7 +62,7 @@ afterCalls s [] = s
 afterCalls s (k ∷ ks) = afterCalls (next s k) ks
 
 abbrev pub engineWords : List ℕ → List ℕ
-engineWords m = at m currentGenerationAt ∷ at m largestGenerationAt ∷ at m cabinetMaskAt ∷ maskWord m 0 ∷ []
+engineWords m = at m currentGenerationAt ∷ at m largestGenerationAt ∷ at m yardMaskAt ∷ yardWord m 0 ∷ maskWord m 0 ∷ []
 
 abbrev pub viewOf : ℕ → Lane → View
 viewOf i l = view i (isHeld (l .snapshot)) (l .queues .generation) (length (l .queues .next)) (length (l .queues .current)) (length (l .queues .done))
@@ -80,7 +82,7 @@ played m (stage ks c l q p vs ∷ ss) =
 
 unfoldable pub playedBy : Walkthrough → List Shown
 unfolding played
-playedBy (walkthrough c p n ss) = played (left (lentWords 16000) (set-up c p n)) ss
+playedBy (walkthrough c p n ss) = played (left (lentWords 16000) (set-up (sized 1 c p n))) ss
 
 -- ---- the rows, with the numbers of the paper's states. Its rc_callback is delete, hardclock clock, rc_intr hand-back; its syncpoint, syscall,
 -- usertrap and swtch are quiescent states of kind 0 to 3

@@ -2,12 +2,12 @@
 use mathlib.Core.Path.{_≡_, refl}
 use mathlib.Core.List.{List, [], _∷_, map}
 use Rattle.model.specs.Rules.{add, replace, delete, begin, start, step, pass, clock, on, off, hand-back, awaited}
-use Rattle.scripts.specs.Scripts.{Line, op, setUp112, setUp123, setUp124, Row, script, expected, run}
+use Rattle.scripts.specs.Scripts.{Line, op, setUp1112, setUp1123, setUp1124, Row, script, expected, run}
 
 -- A lookup stands on a slot, which is then removed, and another slot after it: a queue that goes by the chain link would lead the lookup away
 abbrev pub chainLinkStays : List Line
 chainLinkStays =
-    setUp124
+    setUp1124
     ∷ op (add 0 0 25 1) 0 0 0 0 0
     ∷ op (add 0 192 30 2) 0 1 0 0 0
     ∷ op (add 0 512 35 3) 0 2 0 0 0
@@ -24,7 +24,7 @@ chainLinkStays =
 -- A lookup is past the head when its code is replaced: with the new slot at the head it would meet neither
 abbrev pub replacedInPlace : List Line
 replacedInPlace =
-    setUp124
+    setUp1124
     ∷ op (add 0 0 25 1) 0 0 0 0 0
     ∷ op (add 0 192 30 2) 0 1 0 0 0
     ∷ op (add 0 512 35 3) 0 2 0 0 0
@@ -39,7 +39,7 @@ replacedInPlace =
 -- Lane 1 has passed in the running period before it removes slot 1 inside a section, so the end of that period does not free the slot
 abbrev pub noBatchJoins : List Line
 noBatchJoins =
-    setUp123
+    setUp1123
     ∷ op (add 0 17 25 1) 0 0 0 0 0
     ∷ op (add 0 24 25 1) 0 1 0 0 0
     ∷ op (delete 0 17) 0 0 0 0 0
@@ -59,7 +59,7 @@ noBatchJoins =
 -- Lane 0's clock ends one period and begins the next: its snapshot is taken anew, and what it went through before does not count
 abbrev pub snapshotAnew : List Line
 snapshotAnew =
-    setUp123
+    setUp1123
     ∷ op (add 0 17 25 1) 0 0 0 0 0
     ∷ op (add 0 24 25 1) 0 1 0 0 0
     ∷ op (delete 0 17) 0 0 0 0 0
@@ -78,7 +78,7 @@ snapshotAnew =
 -- a lane goes off while no period runs: it ends none
 abbrev pub offWhileIdle : List Line
 offWhileIdle =
-    setUp123
+    setUp1123
     ∷ op (off 1) 0 0 0 0 0
     ∷ op (clock 0) 0 1 0 0 0
     ∷ op (on 1) 0 0 0 0 0
@@ -88,7 +88,7 @@ offWhileIdle =
 -- A lane goes off with a slot in its current queue: the slot waits anew, in the global queues, and lane 0 gets it after a whole period more
 abbrev pub offWaitsAnew : List Line
 offWaitsAnew =
-    setUp123
+    setUp1123
     ∷ op (add 1 17 25 1) 0 0 0 0 0
     ∷ op (delete 1 17) 0 0 0 0 0
     ∷ op (clock 1) 0 1 1 1 0
@@ -106,7 +106,7 @@ offWaitsAnew =
 -- a slot that is handed back is the last to be used again
 abbrev pub freeInOrder : List Line
 freeInOrder =
-    setUp112
+    setUp1112
     ∷ op (add 0 17 25 1) 0 0 0 0 0
     ∷ op (delete 0 17) 0 0 0 0 0
     ∷ op (clock 0) 0 1 1 1 0
@@ -120,7 +120,7 @@ freeInOrder =
 -- A lookup stands on a slot whose code is then replaced, and goes on to what follows it: the removed slot keeps its chain link
 abbrev pub replacedUnderway : List Line
 replacedUnderway =
-    setUp124
+    setUp1124
     ∷ op (add 0 0 25 1) 0 0 0 0 0
     ∷ op (add 0 192 30 2) 0 1 0 0 0
     ∷ op (begin 1) 0 0 0 0 0
@@ -133,7 +133,7 @@ replacedUnderway =
 -- A lane goes off with a slot in its current queue and one in its next: the current one's comes first, in the global queues and back
 abbrev pub offInOrder : List Line
 offInOrder =
-    setUp123
+    setUp1123
     ∷ op (add 1 17 25 1) 0 0 0 0 0
     ∷ op (add 1 24 25 1) 0 1 0 0 0
     ∷ op (delete 1 17) 0 0 0 0 0
@@ -152,7 +152,7 @@ offInOrder =
 -- both done queues have a slot: the lane's comes back first, though the global one was done before
 abbrev pub ownFirst : List Line
 ownFirst =
-    setUp123
+    setUp1123
     ∷ op (add 1 17 25 1) 0 0 0 0 0
     ∷ op (add 0 24 25 1) 0 1 0 0 0
     ∷ op (delete 1 17) 0 0 0 0 0
@@ -170,7 +170,7 @@ ownFirst =
 -- a slot that had a chain link comes back without it: the memory is legal, and the call after answers
 abbrev pub clearedLink : List Line
 clearedLink =
-    setUp112
+    setUp1112
     ∷ op (add 0 0 25 1) 0 0 0 0 0
     ∷ op (add 0 192 30 2) 0 1 0 0 0
     ∷ op (delete 0 192) 0 1 0 0 0

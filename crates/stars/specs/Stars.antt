@@ -1,21 +1,22 @@
 -- The cases that document 01 marks with a star ("A listing, and edges", last paragraph), in its order and as document 02 changes them, and then
 -- those of document 02's requests.
 use Prim.Native.Nat.{ℕ, suc, _+_, _-_}
-use mathlib.Core.Path.{_≡_, refl}
+use mathlib.Core.Path.{_≡_, refl, sym, _∙_, ap₂}
 use mathlib.Core.Bool.{true, false}
-use mathlib.Core.List.{List, [], _∷_, _++_, map}
+use mathlib.Core.List.{List, [], _∷_, _++_, map, map-append}
 use lib.ListN.{take, drop}
 use Rattle.model.specs.Rules.{add, replace, delete, begin, end, start, step, pass, clock, on, off, hand-back, awaited}
-use Rattle.model.specs.Layout.{versionAt, codeAt, slotAddress, lookupAt, laneAddress}
+use Rattle.model.specs.State.{Sizes}
+use Rattle.model.specs.Layout.{versionAt, yardMaskAt, masksAt, codeAt, slotAddress, lookupAt, laneAddress, yardsBody}
 use Rattle.model.specs.Calls.{set-up, sized}
-use Rattle.scripts.specs.Scripts.{Line, line, op, setUp111, setUp112, setUp123, setUp124, setUp811, largestTotal, listing}
-use Rattle.scripts.specs.Scripts.{twoQueuesMoved, countedAfter, offUntold}
-use Rattle.scripts.specs.Scripts.{Row, script, poked, passes, countsAt, order, digit, reads, writes, expected, run}
+use Rattle.scripts.specs.Scripts.{Line, line, op, setUp1111, setUp1112, setUp1123, setUp1124, setUp1811, setUp2211, setUp2234, setUp3121, setUp8111}
+use Rattle.scripts.specs.Scripts.{oneYardTotal, largestTotal, listing, twoQueuesMoved, countedAfter, offUntold}
+use Rattle.scripts.specs.Scripts.{Watch, made, stands, Row, script, poked, watched, passes, countsAt, order, digit, reads, writes, expected, run}
 
 -- replace with code missing and no free slot
 abbrev pub missingFirst : List Line
 missingFirst =
-    setUp111
+    setUp1111
     ∷ op (add 0 17 25 1) 0 0 0 0 0
     ∷ op (replace 0 24 25 1) 13 0 0 0 0
     ∷ []
@@ -23,7 +24,7 @@ missingFirst =
 -- a lookup stands on a slot that is then deleted, and goes on to what follows it
 abbrev pub deletedUnderway : List Line
 deletedUnderway =
-    setUp112
+    setUp1112
     ∷ op (add 0 192 25 1) 0 0 0 0 0
     ∷ op (add 0 0 30 2) 0 1 0 0 0
     ∷ op (begin 0) 0 0 0 0 0
@@ -36,7 +37,7 @@ deletedUnderway =
 -- the largest codes of thirteen and of fourteen digits, the largest of each with a right check digit, the smallest of fourteen, and one past the range
 abbrev pub codeLimit : List Line
 codeLimit =
-    setUp123
+    setUp1123
     ∷ op (add 0 9999999999999 25 1) 17 0 0 0 0
     ∷ op (add 0 9999999999994 25 1) 0 0 0 0 0
     ∷ op (add 0 10000000000000 25 1) 17 0 0 0 0
@@ -52,7 +53,7 @@ codeLimit =
 -- two right codes; the first with another last digit, and with its first two exchanged; the second with 3 and 8 exchanged, which differ by 5
 abbrev pub typedCodes : List Line
 typedCodes =
-    setUp123
+    setUp1123
     ∷ op (add 0 5901234123457 25 1) 0 0 0 0 0
     ∷ op (add 0 4006381333931 25 1) 0 1 0 0 0
     ∷ op (add 0 5901234123458 25 1) 17 0 0 0 0
@@ -63,7 +64,7 @@ typedCodes =
 -- a wrong check digit is tested after the range, and before what the table holds: code 18 is missing, and later no slot is free
 abbrev pub digitAfterRange : List Line
 digitAfterRange =
-    setUp111
+    setUp1111
     ∷ op (add 0 18 25 8) 11 0 0 0 0
     ∷ op (replace 0 18 25 8) 11 0 0 0 0
     ∷ op (replace 0 18 25 1) 17 0 0 0 0
@@ -76,7 +77,7 @@ digitAfterRange =
 
 -- A full table. Code 338, of chain 18, then becomes 18 in slot 0: a legal memory with an older record
 abbrev pub beforeOlder : List Line
-beforeOlder = setUp112 ∷ op (add 0 338 25 1) 0 0 0 0 0 ∷ op (add 0 17 30 2) 0 1 0 0 0 ∷ []
+beforeOlder = setUp1112 ∷ op (add 0 338 25 1) 0 0 0 0 0 ∷ op (add 0 17 30 2) 0 1 0 0 0 ∷ []
 
 -- it is found; the office does not enter it again, though it is present and no slot is free; delete clears it
 abbrev pub olderRecord : List Line
@@ -96,7 +97,7 @@ olderRecord =
 -- a record and a running lookup of code 99,999,999,999,744
 abbrev pub beforeLimit : List Line
 beforeLimit =
-    setUp111
+    setUp1111
     ∷ op (add 0 99999999999744 25 1) 0 0 0 0 0
     ∷ op (begin 0) 0 0 0 0 0
     ∷ op (start 0 99999999999744) 0 0 0 0 0
@@ -176,7 +177,7 @@ labelsWritten =
 -- the step after it finds no lookup
 abbrev pub droppedAtNone : List Line
 droppedAtNone =
-    setUp111
+    setUp1111
     ∷ op (begin 0) 0 0 0 0 0
     ∷ op (start 0 17) 0 0 0 0 0
     ∷ op (end 0) 0 0 0 0 0
@@ -188,7 +189,7 @@ droppedAtNone =
 -- for another code. Start alone is refused while one runs
 abbrev pub droppedOnChain : List Line
 droppedOnChain =
-    setUp124
+    setUp1124
     ∷ op (add 0 192 25 1) 0 0 0 0 0
     ∷ op (add 0 0 30 2) 0 1 0 0 0
     ∷ op (add 0 512 35 3) 0 2 0 0 0
@@ -228,7 +229,7 @@ droppedInPeriod = take stepLine listing ++ drop (suc stepLine) listing
 -- a lane goes off after a dropped lookup, while a period waits for it; on again it has none
 abbrev pub droppedThenOff : List Line
 droppedThenOff =
-    setUp123
+    setUp1123
     ∷ op (add 0 17 25 1) 0 0 0 0 0
     ∷ op (begin 1) 0 0 0 0 0
     ∷ op (start 1 17) 0 0 0 0 0
@@ -252,20 +253,24 @@ droppedThenOff =
 abbrev pub allAwaited : List Line
 allAwaited = op (add 0 17 25 1) 0 0 0 0 0 ∷ op (delete 0 17) 0 0 0 0 0 ∷ op (clock 0) 0 1 1 1 0 ∷ []
 
--- lane i is through, and n are awaited still, lane 0 among them
-abbrev pub through : ℕ → ℕ → List Line
-through i n = op (clock i) 0 1 1 1 0 ∷ op (pass i 0) 0 0 0 0 0 ∷ op (clock i) 0 1 1 1 0 ∷ op awaited 0 n 0 0 1 ∷ []
+-- n lanes are awaited, the lowest of them lane l
+abbrev pub awaitedStill : ℕ → ℕ → Line
+awaitedStill n l = op awaited 0 n l 0 1
+
+-- lane i is through, and n are awaited still, the lowest of them lane l
+abbrev pub through : ℕ → ℕ → ℕ → List Line
+through i n l = op (clock i) 0 1 1 1 0 ∷ op (pass i 0) 0 0 0 0 0 ∷ op (clock i) 0 1 1 1 0 ∷ awaitedStill n l ∷ []
 
 -- the eighth cabinet, by seven subtractions, of which nothing is left, and the seventh; there is no ninth. Two cabinets of four lanes: `cases` Replay
 abbrev pub lastCabinets : List Line
-lastCabinets = setUp811 ∷ (allAwaited ++ through 7 7 ++ through 6 6) ++ (op (clock 8) 4 0 0 0 0 ∷ [])
+lastCabinets = setUp1811 ∷ (allAwaited ++ through 7 7 0 ++ through 6 6 0) ++ (op (clock 8) 4 0 0 0 0 ∷ [])
 
 -- ---- request 5: how long a lookup can take
 
 -- two records on the chain: two steps go, and the third answers. `timings` judges the figure, on longer chains and beside other calls too
 abbrev pub lastStepNeeded : List Line
 lastStepNeeded =
-    setUp112
+    setUp1112
     ∷ op (add 0 192 25 1) 0 0 0 0 0
     ∷ op (add 0 512 30 2) 0 1 0 0 0
     ∷ op (begin 0) 0 0 0 0 0
@@ -285,7 +290,7 @@ olderVersion = op awaited 3 0 0 0 0 ∷ op (clock 0) 3 0 0 0 0 ∷ op (add 0 17 
 
 -- Lane 0, alone, has removed a slot and holds a snapshot of counts that are 0
 abbrev pub holdsZeros : List Line
-holdsZeros = setUp111 ∷ op (add 0 17 25 1) 0 0 0 0 0 ∷ op (delete 0 17) 0 0 0 0 0 ∷ op (clock 0) 0 1 1 1 0 ∷ []
+holdsZeros = setUp1111 ∷ op (add 0 17 25 1) 0 0 0 0 0 ∷ op (delete 0 17) 0 0 0 0 0 ∷ op (clock 0) 0 1 1 1 0 ∷ []
 
 -- after 4,294,967,296 passes its count is no 0: the clock lets it go. The count with the largest word in it, and a pass more; or the high word alone
 abbrev pub noWrap : List Line
@@ -304,16 +309,95 @@ countWords =
     ∷ passes 4294967295 4294967295 0 0
     ∷ []
 
+-- ---- request 8: yards above cabinets
+
+-- no yards, and nine
+abbrev pub yardRange : List Line
+yardRange = line (set-up (sized 0 1 2 3)) 1 0 0 0 0 ∷ line (set-up (sized 9 1 2 3)) 1 0 0 0 0 ∷ []
+
+-- the fifteen words of contents
+abbrev pub contentsWords : List Watch
+contentsWords = made setUp2234 ∷ stands versionAt (4 ∷ 2 ∷ 3 ∷ 4 ∷ 15 ∷ 80 ∷ 95 ∷ 4 ∷ 99 ∷ 360 ∷ 459 ∷ 24 ∷ 483 ∷ 2 ∷ 2 ∷ []) ∷ []
+
+-- lane 11 is the last of two yards with two cabinets of three lanes
+abbrev pub lastLane : List Line
+lastLane = setUp2234 ∷ op (begin 11) 0 0 0 0 0 ∷ op (begin 12) 4 0 0 0 0 ∷ []
+
+-- the eighth yard, by seven subtractions, of which nothing is left, and the seventh; there is no ninth
+abbrev pub lastYards : List Line
+lastYards = setUp8111 ∷ (allAwaited ++ through 7 7 0 ++ through 6 6 0) ++ (op (clock 8) 4 0 0 0 0 ∷ [])
+
+-- lines on a table of sizes z, and the masks after them: the yard mask, the yards' cabinet masks, and the cabinets' lane masks
+abbrev pub masked : Sizes → List Line → ℕ → List ℕ → List ℕ → List Watch
+masked z ls y cs ps = map made ls ++ (stands yardMaskAt (y ∷ []) ∷ stands (yardsBody z) cs ∷ stands masksAt ps ∷ [])
+
+-- lane 0 began the period: it is through, and n are awaited still, the lowest of them lane l
+abbrev pub firstThrough : ℕ → ℕ → List Line
+firstThrough n l = op (pass 0 0) 0 0 0 0 0 ∷ op (clock 0) 0 1 1 1 0 ∷ awaitedStill n l ∷ []
+
+-- lane i, the last one awaited, ends the period
+abbrev pub lastThrough : ℕ → List Line
+lastThrough i =
+    op (clock i) 0 1 1 1 0
+    ∷ op (pass i 0) 0 0 0 0 0
+    ∷ awaitedStill 1 i
+    ∷ op (clock i) 0 2 1 0 0
+    ∷ op awaited 0 0 4294967295 0 1
+    ∷ []
+
+-- two yards of two cabinets with a lane each
+abbrev pub twoYards : Sizes
+twoYards = sized 2 2 1 1
+
+abbrev pub twoYardsPeriod : List Watch
+twoYardsPeriod =
+    masked twoYards (setUp2211 ∷ allAwaited ++ (awaitedStill 4 0 ∷ [])) 3 (3 ∷ 3 ∷ []) (1 ∷ 1 ∷ 1 ∷ 1 ∷ [])
+    ++ masked twoYards (firstThrough 3 1) 3 (2 ∷ 3 ∷ []) (0 ∷ 1 ∷ 1 ∷ 1 ∷ [])
+    ++ masked twoYards (through 1 2 2) 2 (0 ∷ 3 ∷ []) (0 ∷ 0 ∷ 1 ∷ 1 ∷ [])
+    ++ masked twoYards (through 2 1 3) 2 (0 ∷ 2 ∷ []) (0 ∷ 0 ∷ 0 ∷ 1 ∷ [])
+    ++ masked twoYards (lastThrough 3) 0 (0 ∷ 0 ∷ []) (0 ∷ 0 ∷ 0 ∷ 0 ∷ [])
+
+-- a lane of the first yard's second cabinet is lower than one of the second yard's first
+abbrev pub yardBeforeCabinet : List Watch
+yardBeforeCabinet =
+    masked twoYards (setUp2211 ∷ allAwaited ++ through 3 3 0 ++ firstThrough 2 1) 3 (2 ∷ 1 ∷ []) (0 ∷ 1 ∷ 1 ∷ 0 ∷ [])
+
+-- three yards of a cabinet with two lanes each
+abbrev pub threeYards : Sizes
+threeYards = sized 3 1 2 1
+
+abbrev pub threeYardsPeriod : List Watch
+threeYardsPeriod =
+    masked threeYards (setUp3121 ∷ allAwaited ++ firstThrough 5 1) 7 (1 ∷ 1 ∷ 1 ∷ []) (2 ∷ 3 ∷ 3 ∷ [])
+    ++ masked threeYards (through 1 4 2 ++ through 2 3 3) 6 (0 ∷ 1 ∷ 1 ∷ []) (0 ∷ 2 ∷ 3 ∷ [])
+    ++ masked threeYards (through 3 2 4 ++ through 4 1 5) 4 (0 ∷ 0 ∷ 1 ∷ []) (0 ∷ 0 ∷ 2 ∷ [])
+    ++ masked threeYards (lastThrough 5) 0 (0 ∷ 0 ∷ 0 ∷ []) (0 ∷ 0 ∷ 0 ∷ [])
+
+-- Lane 2 is the only one on in its yard, and lane 1 in its cabinet. Each goes off while the period waits for it, which goes on with lane 0
+abbrev pub offOfYard : List Watch
+offOfYard =
+    masked twoYards (setUp2211 ∷ op (off 3) 0 0 0 0 0 ∷ allAwaited ++ (awaitedStill 3 0 ∷ [])) 3 (3 ∷ 1 ∷ []) (1 ∷ 1 ∷ 1 ∷ 0 ∷ [])
+    ++ masked twoYards (op (off 2) 0 0 0 0 0 ∷ awaitedStill 2 0 ∷ []) 1 (3 ∷ 0 ∷ []) (1 ∷ 1 ∷ 0 ∷ 0 ∷ [])
+    ++ masked twoYards (op (off 1) 0 0 0 0 0 ∷ awaitedStill 1 0 ∷ []) 1 (1 ∷ 0 ∷ []) (1 ∷ 0 ∷ 0 ∷ 0 ∷ [])
+    ++ masked twoYards (op (pass 0 0) 0 0 0 0 0 ∷ op (clock 0) 0 2 1 0 1 ∷ []) 0 (0 ∷ 0 ∷ []) (0 ∷ 0 ∷ 0 ∷ 0 ∷ [])
+
+-- lane 2 again: it goes off as the last one awaited, which ends the period
+abbrev pub offEndsPeriod : List Watch
+offEndsPeriod =
+    masked twoYards (setUp2211 ∷ op (off 3) 0 0 0 0 0 ∷ allAwaited ++ firstThrough 2 1 ++ through 1 1 2) 2 (0 ∷ 1 ∷ []) (0 ∷ 0 ∷ 1 ∷ 0 ∷ [])
+    ++ masked twoYards (op (off 2) 0 0 0 0 0 ∷ op (clock 0) 0 2 1 0 1 ∷ []) 0 (0 ∷ 0 ∷ []) (0 ∷ 0 ∷ 0 ∷ 0 ∷ [])
+
 -- ---- all of them
 
-abbrev pub stars : List Row
-stars =
+-- of document 01, and of requests 1 to 3
+abbrev pub baseCases : List Row
+baseCases =
     script 16000 listing
-    ∷ script (largestTotal - 1) (line (set-up 8 8 1024) 2 0 0 0 0 ∷ [])
-    ∷ script largestTotal (line (set-up 8 8 1024) 0 largestTotal 0 0 0 ∷ [])
-    ∷ script 16000 (line (set-up 1 2 0) 1 0 0 0 0 ∷ line (set-up 1 2 1025) 1 0 0 0 0 ∷ [])
+    ∷ script (oneYardTotal - 1) (line (set-up (sized 1 8 8 1024)) 2 0 0 0 0 ∷ [])
+    ∷ script oneYardTotal (line (set-up (sized 1 8 8 1024)) 0 oneYardTotal 0 0 0 ∷ [])
+    ∷ script 16000 (line (set-up (sized 1 1 2 0)) 1 0 0 0 0 ∷ line (set-up (sized 1 1 2 1025)) 1 0 0 0 0 ∷ [])
     ∷ script 16000 codeLimit
-    ∷ script 16000 (setUp123 ∷ op (begin 2) 4 0 0 0 0 ∷ [])
+    ∷ script 16000 (setUp1123 ∷ op (begin 2) 4 0 0 0 0 ∷ [])
     ∷ order 0 4294967295 true
     ∷ order 4294967295 0 false
     ∷ order 0 0 false
@@ -322,26 +406,67 @@ stars =
     ∷ script 16000 deletedUnderway
     ∷ script 200 typedCodes
     ∷ script 200 digitAfterRange
-    ∷ poked 200 beforeOlder (slotAddress (sized 1 1 2) 0 + codeAt) 18 olderRecord
-    ∷ poked 200 beforeLimit (slotAddress (sized 1 1 1) 0 + codeAt) lastLow stillLegal
-    ∷ poked 200 beforeLimit (slotAddress (sized 1 1 1) 0 + codeAt) pastLow notLegal
-    ∷ poked 200 beforeLimit (laneAddress (sized 1 1 1) 0 + lookupAt) lastLow stillLegal
-    ∷ poked 200 beforeLimit (laneAddress (sized 1 1 1) 0 + lookupAt) pastLow notLegal
+    ∷ poked 200 beforeOlder (slotAddress (sized 1 1 1 2) 0 + codeAt) 18 olderRecord
+    ∷ poked 200 beforeLimit (slotAddress (sized 1 1 1 1) 0 + codeAt) lastLow stillLegal
+    ∷ poked 200 beforeLimit (slotAddress (sized 1 1 1 1) 0 + codeAt) pastLow notLegal
+    ∷ poked 200 beforeLimit (laneAddress (sized 1 1 1 1) 0 + lookupAt) lastLow stillLegal
+    ∷ poked 200 beforeLimit (laneAddress (sized 1 1 1 1) 0 + lookupAt) pastLow notLegal
     ∷ script 200 droppedAtNone
     ∷ script 200 droppedOnChain
     ∷ script 200 droppedInPeriod
     ∷ script 200 droppedThenOff
-    ∷ script 400 lastCabinets
+    ∷ (labelDigits ++ labelsRead ++ labelsWritten)
+
+-- of requests 4 to 7
+abbrev pub laterCases : List Row
+laterCases =
+    script 400 lastCabinets
     ∷ script 200 lastStepNeeded
     ∷ script 300 (twoQueuesMoved ++ countedAfter)
     ∷ script 300 offUntold
-    ∷ poked 200 (setUp123 ∷ []) versionAt 1 olderVersion
-    ∷ poked 200 (setUp123 ∷ []) versionAt 2 olderVersion
+    ∷ poked 200 (setUp1123 ∷ []) versionAt 1 olderVersion
+    ∷ poked 200 (setUp1123 ∷ []) versionAt 2 olderVersion
     ∷ poked 200 holdsZeros countsAt 4294967295 noWrap
     ∷ poked 200 holdsZeros (countsAt + 1) 1 highCounts
-    ∷ (countWords ++ labelDigits ++ labelsRead ++ labelsWritten)
+    ∷ countWords
+
+-- of request 8
+abbrev pub yardCases : List Row
+yardCases =
+    script (largestTotal - 1) (line (set-up (sized 8 8 8 1024)) 2 0 0 0 0 ∷ [])
+    ∷ script largestTotal (line (set-up (sized 8 8 8 1024)) 0 largestTotal 0 0 0 ∷ [])
+    ∷ script 200 yardRange
+    ∷ watched 500 contentsWords
+    ∷ script 500 lastLane
+    ∷ script 400 lastYards
+    ∷ watched 300 twoYardsPeriod
+    ∷ watched 300 yardBeforeCabinet
+    ∷ watched 300 threeYardsPeriod
+    ∷ watched 300 offOfYard
+    ∷ watched 300 offEndsPeriod
+    ∷ poked 200 (setUp1123 ∷ []) versionAt 3 olderVersion
+    ∷ []
+
+abbrev pub stars : List Row
+stars = baseCases ++ laterCases ++ yardCases
+
+-- each part is computed apart, for a computation is bounded in its steps
+pub base-hold : map run baseCases ≡ map expected baseCases
+unfolding run expected
+base-hold = refl
+
+pub later-hold : map run laterCases ≡ map expected laterCases
+unfolding run expected
+later-hold = refl
+
+pub yards-hold : map run yardCases ≡ map expected yardCases
+unfolding run expected
+yards-hold = refl
+
+-- two parts of which each row comes out, together
+pub joined : (xs ys : List Row) → map run xs ≡ map expected xs → map run ys ≡ map expected ys → map run (xs ++ ys) ≡ map expected (xs ++ ys)
+joined xs ys p q = map-append run xs ys ∙ ap₂ _++_ p q ∙ sym (map-append expected xs ys)
 
 -- each row comes out. That no generation at all is later than itself is a law (`laws` Generations `later-self`)
 pub stars-hold : map run stars ≡ map expected stars
-unfolding run expected
-stars-hold = refl
+stars-hold = joined baseCases (laterCases ++ yardCases) base-hold (joined laterCases yardCases later-hold yards-hold)

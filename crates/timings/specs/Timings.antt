@@ -7,9 +7,9 @@ use mathlib.Core.List.{List, [], _∷_, _++_, map}
 use lib.ListN.{take, drop, replicate}
 use Rattle.model.specs.Lists.{tail, drops, bit}
 use Rattle.model.specs.Rules.{Answer, accepted, refused, zeros, add, replace, delete, begin, start, step, pass, clock, hand-back}
-use Rattle.model.specs.Calls.{set-up}
+use Rattle.model.specs.Calls.{set-up, sized}
 use Rattle.model.specs.Ledger.{Event, fed, fedCall, ledgerFrom, ledger, recordsOn, isStepOf, stepAnswers, inTime, onTime}
-use Rattle.scripts.specs.Scripts.{Line, line, op, setUp122, setUp124, fiveWords, outputOf, eventsOf}
+use Rattle.scripts.specs.Scripts.{Line, line, op, setUp1122, setUp1124, fiveWords, outputOf, eventsOf}
 
 -- ---- what a list must give, and what it gives
 
@@ -52,8 +52,8 @@ run (timed ls ts) = results (eventsOf ls) ts
 
 -- ---- the figure is attained: lookups of code 0, which has no record, with 0 to 6 records on its chain
 
-abbrev pub setUp116 : Line
-setUp116 = line (set-up 1 1 6) 0 159 0 0 0
+abbrev pub setUp1116 : Line
+setUp1116 = line (set-up (sized 1 1 1 6)) 0 163 0 0 0
 
 -- lane i's step that goes, and that finds the code absent
 abbrev pub goes : ℕ → Line
@@ -68,7 +68,7 @@ wholeLookup n = op (start 0 0) 0 0 0 0 0 ∷ replicate n (goes 0) ++ (isAbsent 0
 
 abbrev pub alone : List Line
 alone =
-    setUp116
+    setUp1116
     ∷ op (begin 0) 0 0 0 0 0
     ∷ wholeLookup 0
     ++ (op (add 0 192 1 1) 0 0 0 0 0 ∷ wholeLookup 1)
@@ -99,7 +99,7 @@ startsAt1 = op (start 1 0) 0 0 0 0 0
 
 abbrev pub besideAdds : List Line
 besideAdds =
-    setUp124
+    setUp1124
     ∷ op (add 0 192 1 1) 0 0 0 0 0
     ∷ beginsAt1
     ∷ startsAt1
@@ -113,7 +113,7 @@ besideAdds =
 
 abbrev pub besideReplaces : List Line
 besideReplaces =
-    setUp124
+    setUp1124
     ∷ op (add 0 192 1 1) 0 0 0 0 0
     ∷ op (add 0 512 1 1) 0 1 0 0 0
     ∷ beginsAt1
@@ -129,7 +129,7 @@ besideReplaces =
 
 abbrev pub besideDeletes : List Line
 besideDeletes =
-    setUp124
+    setUp1124
     ∷ op (add 0 192 1 1) 0 0 0 0 0
     ∷ op (add 0 512 1 1) 0 1 0 0 0
     ∷ beginsAt1
@@ -145,7 +145,7 @@ besideDeletes =
 
 abbrev pub besideHandBack : List Line
 besideHandBack =
-    setUp122
+    setUp1122
     ∷ op (add 0 192 1 1) 0 0 0 0 0
     ∷ op (delete 0 192) 0 0 0 0 0
     ∷ op (clock 0) 0 1 1 1 0
@@ -168,7 +168,7 @@ besideHandBack =
 
 abbrev pub besideOthers : List Line
 besideOthers =
-    setUp124
+    setUp1124
     ∷ op (add 0 17 25 1) 0 0 0 0 0
     ∷ op (add 0 24 26 2) 0 1 0 0 0
     ∷ op (add 0 192 1 1) 0 2 0 0 0
