@@ -115,7 +115,7 @@ module _ (m : List ℕ) (z : Sizes) (k : TableIn m z) where
     lanes-next h = lane-at i (omega (arith, lanes-are)) e (c .ends)
 
     pub lanes-small : i < b → e + laneLength < wordLimit
-    lanes-small h = omega (arith, c .ends, lanes-are, inRange m (k .sound) .fewCabinets, inRange m (k .sound) .fewLanes)
+    lanes-small h = omega (arith, c .ends, lanes-are, inRange m (k .sound) .allCabinets, inRange m (k .sound) .fewLanes)
 
     pub lanes-on : i < b → (v : ℕ) → v ≡ ownerLength m e → LanesCounted m (e + laneLength) (n + v) (i + 1)
     lanes-on h v ev = record {

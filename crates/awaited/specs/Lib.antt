@@ -1,2 +1,3 @@
--- What awaited counts: the pending lanes, and the slots of the queues.
+-- What awaited counts: the pending lanes and the lowest of them, and the slots of the queues.
+pub mod Lowest
 pub mod Lengths

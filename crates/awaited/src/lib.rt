@@ -1,9 +1,7 @@
 // The call awaited on a legal memory: how many lanes are pending and the lowest of them, how many slots are free and how many stand
 // in the other queues, by the queues' lengths. It walks no queue and changes no word.
 ghost use mathlib.Core.Path.{_≡_};
-ghost use Prim.Native.Nat.{_+_, _*_, _<_};
 ghost use lib.ListN.{length};
-ghost use Rattle.model.specs.Word.{wordLimit};
 ghost use Rattle.model.specs.Lists.{first as Lists·first};
 ghost use Rattle.model.specs.Rules.{pendingFrom, queuedIn, awaited as awaiting};
 ghost use Rattle.model.specs.Memory.{state};
@@ -11,6 +9,7 @@ ghost use Rattle.model.specs.Calls.{on-state};
 ghost use Rattle.representation.specs.Sound.{Sound};
 ghost use Rattle.access.specs.Contract.{Does};
 ghost use Rattle.access.specs.TableSizes.{TableIn};
+ghost use Rattle.awaited.specs.Lowest.{lowestIn, MaskAt};
 ghost use Rattle.awaited.specs.Lengths.{ownerLength, retiredLength, OwnerAt};
 
 // ---- lanes
@@ -20,7 +19,7 @@ fn pending_count(m: &[u32], z: words::Sizes) -> u32
     requires { ⌜ TableIn (now m) z ⌝ }
     ensures { λ r. ⌜ r ≡ length (pendingFrom 0 (state (now (m .entry)) .engine .lanes)) ⌝ }
 {
-    let cabinets = words::index(z.cabinets);
+    let cabinets = words::index(words::cabinet_count(z));
     let mut n: u32 = 0;
     let mut c: usize = 0;
     while c < cabinets {
@@ -30,27 +29,28 @@ fn pending_count(m: &[u32], z: words::Sizes) -> u32
     n
 }
 
-// The number of the lane at a place of a cabinet.
-fn lane_number(cabinet: u32, places: u32, place: u32) -> u32
-    requires { ⌜ cabinet * places + place < wordLimit ⌝ }
-    ensures { λ r. ⌜ r ≡ cabinet * places + place ⌝ }
+// The lowest set bit of a mask, number `group` of those that stand from `first` on, by its number among the bits of all.
+fn lowest_in(m: &[u32], first: usize, group: u32, wide: u32) -> u32
+    requires { ⌜ MaskAt (now m) first group wide ⌝ }
+    ensures { λ r. ⌜ r ≡ lowestIn (now (m .entry)) first group wide ⌝ }
 {
-    cabinet * places + place
+    let place = masks::lowest(m[first + words::index(group)]);
+    group * wide + place
 }
 
-// The lowest pending lane, none where no period runs: the cabinet of the lowest set bit of the cabinet mask, and the place of the
-// lowest one of its lane mask.
+// The lowest pending lane, none where no period runs: the yard of the lowest set bit of the yard mask, its cabinet by the lowest
+// one of its cabinet mask, and that one's lane by the lowest one of its lane mask.
 fn lowest_pending(m: &[u32], z: words::Sizes) -> u32
     requires { ⌜ TableIn (now m) z ⌝ }
     ensures { λ r. ⌜ r ≡ Lists·first (pendingFrom 0 (state (now (m .entry)) .engine .lanes)) ⌝ }
 {
-    let cabinets = m[words::CABINET_MASK_AT];
-    if cabinets == 0 {
+    let yards = m[words::YARD_MASK_AT];
+    if yards == 0 {
         return words::NONE;
     }
-    let c = masks::lowest(cabinets);
-    let p = masks::lowest(m[words::MASKS_AT + words::index(c)]);
-    lane_number(c, z.places, p)
+    let y = masks::lowest(yards);
+    let c = lowest_in(m, words::yards_start(z), y, z.cabinets);
+    lowest_in(m, words::MASKS_AT, c, z.places)
 }
 
 // ---- slots

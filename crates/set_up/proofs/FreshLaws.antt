@@ -1,19 +1,20 @@
 -- The words of a fresh table are those of the fresh state, and so is the memory once they are written, body after body.
 use Prim.Native.Nat.{ℕ, zero, suc, _+_, _*_, _-_, _≤_, _<_}
 use mathlib.Core.Path.{_≡_, refl, ap, ap₂, sym, _∙_}
-use mathlib.Core.List.{List, [], _∷_, _++_, map}
+use mathlib.Core.Bool.{Bool, false}
+use mathlib.Core.List.{List, [], _∷_, _++_}
 use native.Mathlib.Omega.{arith}
 use lib.ListN.{length, drop, replicate, length-append, length-replicate}
 use borrow.Author.Tests.{lt-ltb, le-ltb}
 use Rattle.model.specs.Word.{none}
-use Rattle.model.specs.Lists.{first, last, from, successor, successorIn, mask, bit}
-use Rattle.model.specs.State.{Sizes, laneCount, Lane}
-use Rattle.model.specs.Layout.{chainCount, total, contentsLength, globalBody, globalLength, masksAt, laneLength, slotLength}
+use Rattle.model.specs.Lists.{first, last, from, successor, successorIn}
+use Rattle.model.specs.State.{Sizes, cabinetCount, laneCount, Lane}
+use Rattle.model.specs.Layout.{chainCount, total, contentsLength, globalBody, globalLength, masksAt, laneLength, slotLength, slotsBody, yardsBody}
 use Rattle.model.specs.Engine.{freshLane, laneAt}
 use Rattle.model.specs.Table.{blank, linkOf}
 use Rattle.model.specs.Rules.{fresh}
-use Rattle.model.specs.Memory.{words, contents, queueWords, globalWords, laneMask, laneMasks, pendingAt, cabinetMask, isNotZero, laneWords, laneWordsAt}
-use Rattle.model.specs.Memory.{allQueues, slotWords}
+use Rattle.model.specs.Memory.{words, contents, queueWords, globalWords, isNotZero, groupMask, standing, laneBit, cabinetBit, yardBit}
+use Rattle.model.specs.Memory.{laneMask, laneMasks, cabinetMask, cabinetMasks, yardMask, laneWords, laneWordsAt, allQueues, slotWords}
 use Rattle.model.specs.Calls.{stored}
 use Rattle.laws.specs.Tests.{same, other, decide}
 use Rattle.laws.specs.ListLaws.{length-from, getD-replicate-default, map-constant, last-from}
@@ -40,24 +41,37 @@ successor-from a (suc n) i d h k =
           rw t (successor-from (suc a) n i d (omega arith) (omega arith) ∙ ap (λ (x : ℕ). linkAfter x i) q)
     ]
 
-mask-of-zeros : (n : ℕ) → mask (map isNotZero (replicate n 0)) ≡ 0
-unfolding mask bit
-mask-of-zeros zero = refl
-mask-of-zeros (suc n) = rw (mask-of-zeros n)
+-- where no flag stands, none of the level above does
+no-group : (w : ℕ) (f : ℕ → Bool) → ((i : ℕ) → f i ≡ false) → (g : ℕ) → groupMask w f g ≡ 0
+no-group w f h g = mask-from-none (λ (p : ℕ). f (g * w + p)) w (λ p b. h (g * w + p))
+
+none-standing : (w : ℕ) (f : ℕ → Bool) → ((i : ℕ) → f i ≡ false) → (g : ℕ) → standing w f g ≡ false
+none-standing w f h g = ap isNotZero (no-group w f h g)
 
 module _ (z : Sizes) where
   lane-is : (i : ℕ) → laneAt (fresh z .engine) i ≡ freshLane
   unfolding fresh
   lane-is = getD-replicate-default freshLane (laneCount z)
 
-  masks-are : replicate (z .cabinets) 0 ≡ laneMasks (fresh z)
-  unfolding fresh
-  masks-are =
-      map-constant (laneMask (fresh z)) 0 (z .cabinets) 0
-      (λ c. mask-from-none (pendingAt (fresh z) c) (z .places) (λ p b. ap (λ (l : Lane). l .pending) (lane-is (c * z .places + p))))
+  no-lane : (i : ℕ) → laneBit (fresh z) i ≡ false
+  no-lane i = ap (λ (l : Lane). l .pending) (lane-is i)
 
-  no-cabinet : cabinetMask (fresh z) ≡ 0
-  no-cabinet = ap (λ (ws : List ℕ). mask (map isNotZero ws)) (sym masks-are) ∙ mask-of-zeros (z .cabinets)
+  no-cabinet : (c : ℕ) → cabinetBit (fresh z) c ≡ false
+  no-cabinet = none-standing (fresh z .sizes .places) (laneBit (fresh z)) no-lane
+
+  no-yard : (y : ℕ) → yardBit (fresh z) y ≡ false
+  no-yard = none-standing (fresh z .sizes .cabinets) (cabinetBit (fresh z)) no-cabinet
+
+  masks-are : replicate (cabinetCount z) 0 ≡ laneMasks (fresh z)
+  unfolding fresh
+  masks-are = map-constant (laneMask (fresh z)) 0 (cabinetCount z) 0 (no-group (z .places) (laneBit (fresh z)) no-lane)
+
+  yards-are : replicate (z .yards) 0 ≡ cabinetMasks (fresh z)
+  unfolding fresh
+  yards-are = map-constant (cabinetMask (fresh z)) 0 (z .yards) 0 (no-group (z .cabinets) (cabinetBit (fresh z)) no-cabinet)
+
+  no-mask : yardMask (fresh z) ≡ 0
+  no-mask = no-group (fresh z .sizes .yards) (yardBit (fresh z)) no-yard 0
 
   lanes-are : rows freshLaneWords (laneCount z) ≡ rows (laneWordsAt (fresh z)) (laneCount z)
   unfolding freshLaneWords
@@ -92,15 +106,20 @@ module _ (z : Sizes) where
   global-is h =
       ap₂
       (λ (c : ℕ) (ws : List ℕ). (freshGeneration ∷ 0 ∷ c ∷ []) ++ replicate chainCount none ++ ws ++ emptyQueues ++ (0 ∷ []))
-      (sym no-cabinet)
+      (sym no-mask)
       (free-words (z .slots) h)
 
   -- the words of the fresh state, one body after another
   pub fresh-words : 1 ≤ z .slots
-      → contents z ++ freshGlobal (z .slots) ++ replicate (z .cabinets) 0 ++ rows freshLaneWords (laneCount z) ++ rows (freshSlotWords (z .slots)) (z .slots)
+      → contents z
+      ++ freshGlobal (z .slots)
+      ++ replicate (cabinetCount z) 0
+      ++ rows freshLaneWords (laneCount z)
+      ++ rows (freshSlotWords (z .slots)) (z .slots)
+      ++ replicate (z .yards) 0
       ≡ words (fresh z)
   unfolding words fresh
-  fresh-words h = ap₂ _++_ (ap₂ _++_ (ap₂ _++_ (ap (λ (ws : List ℕ). contents z ++ ws) (global-is h)) masks-are) lanes-are) slots-are
+  fresh-words h = ap₂ _++_ (ap₂ _++_ (ap₂ _++_ (ap₂ _++_ (ap (λ (ws : List ℕ). contents z ++ ws) (global-is h)) masks-are) lanes-are) slots-are) yards-are
 
   pub length-contents : length (contents z) ≡ contentsLength
   unfolding contents
@@ -125,17 +144,19 @@ set-up-done {m} {n} z w h =
     let e : length (words (fresh z)) ≡ total z = length-words (fresh z) in
     written-front w (omega arith) ∙ ap (λ (k : ℕ). words (fresh z) ++ drop k m) e
 
--- the bodies, written one after another: masks is the number of lane masks, records that of lanes
-pub all-written : {m n₁ n₂ n₃ n₄ n₅ : List ℕ} (z : Sizes) (masks records : ℕ)
-    → masks ≡ z .cabinets → records ≡ laneCount z → 1 ≤ z .slots → total z ≤ length m
+-- the bodies, written one after another: the numbers of lane masks, of lanes and of cabinet masks, and where the slots and the cabinet masks begin
+pub all-written : {m n₁ n₂ n₃ n₄ n₅ n₆ : List ℕ} (z : Sizes) (masks records yards firstSlot firstYard : ℕ)
+    → masks ≡ cabinetCount z → records ≡ laneCount z → yards ≡ z .yards → firstSlot ≡ slotsBody z → firstYard ≡ yardsBody z
+    → 1 ≤ z .slots → total z ≤ length m
     → Written m 0 (contents z) n₁
     → Written n₁ globalBody (freshGlobal (z .slots)) n₂
     → Written n₂ masksAt (replicate masks 0) n₃
     → Written n₃ (masksAt + masks) (rows freshLaneWords records) n₄
-    → Written n₄ (masksAt + masks + laneLength * records) (rows (freshSlotWords (z .slots)) (z .slots)) n₅
-    → n₅ ≡ stored (fresh z) m
-all-written z masks records e f some long w₁ w₂ w₃ w₄ w₅ =
-    set-up-done z (renamed (after (after (after (after w₁ w₂ l₁) w₃ l₂) w₄ l₃) w₅ l₄) (rw (e, f) (fresh-words z some))) long
+    → Written n₄ firstSlot (rows (freshSlotWords (z .slots)) (z .slots)) n₅
+    → Written n₅ firstYard (replicate yards 0) n₆
+    → n₆ ≡ stored (fresh z) m
+all-written z masks records yards firstSlot firstYard e f g es ey some long w₁ w₂ w₃ w₄ w₅ w₆ =
+    set-up-done z (renamed (after (after (after (after (after w₁ w₂ l₁) w₃ l₂) w₄ l₃) w₅ l₄) w₆ l₅) (rw (e, f, g) (fresh-words z some))) long
   where
     l₁ : globalBody ≡ 0 + length (contents z)
     l₁ = omega (arith, length-contents z)
@@ -146,7 +167,16 @@ all-written z masks records e f some long w₁ w₂ w₃ w₄ w₅ =
     l₃ : masksAt + masks ≡ 0 + length (contents z ++ freshGlobal (z .slots) ++ replicate masks 0)
     l₃ = omega (arith, l₂, length-append (contents z ++ freshGlobal (z .slots)) (replicate masks 0), length-replicate {A = ℕ} masks 0)
 
-    l₄ : masksAt + masks + laneLength * records ≡ 0 + length (contents z ++ freshGlobal (z .slots) ++ replicate masks 0 ++ rows freshLaneWords records)
+    upToLanes : List ℕ
+    upToLanes = contents z ++ freshGlobal (z .slots) ++ replicate masks 0 ++ rows freshLaneWords records
+
+    l₄ : firstSlot ≡ 0 + length upToLanes
     l₄ =
         let front = length-append (contents z ++ freshGlobal (z .slots) ++ replicate masks 0) (rows freshLaneWords records) in
         omega (arith, l₃, front, length-rows freshLaneWords laneLength records length-lane)
+
+    slots : List ℕ
+    slots = rows (freshSlotWords (z .slots)) (z .slots)
+
+    l₅ : firstYard ≡ 0 + length (upToLanes ++ slots)
+    l₅ = omega (arith, l₄, length-append upToLanes slots, length-rows (freshSlotWords (z .slots)) slotLength (z .slots) (length-slot (z .slots)))

@@ -11,7 +11,7 @@ use Rattle.model.specs.Rules.{accepted, refused, firstOf, fresh}
 use Rattle.model.specs.Legal.{sizesFit}
 use Rattle.access.specs.declared.Answer.{Answer}
 use Rattle.access.specs.Contract.{five, Does}
-use Rattle.model.specs.Calls.{set-up, sized, stored, refusalOf, replyOf, leftOf, reply, left}
+use Rattle.model.specs.Calls.{set-up, stored, refusalOf, replyOf, leftOf, reply, left}
 
 module _ (m : List ℕ) (z : Sizes) where
   refusal-1 : sizesFit z ≡ false → refusalOf m (set-up z) ≡ 1

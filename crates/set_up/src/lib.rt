@@ -6,13 +6,13 @@ ghost use lib.ListN.{length, replicate};
 ghost use Rattle.model.specs.Layout.{queuesWidth, globalBody, freeAt, globalQueuesAt, masksAt, laneLength, slotLength, total};
 ghost use Rattle.model.specs.Rules.{fresh};
 ghost use Rattle.model.specs.Legal.{sizesFit};
-ghost use Rattle.model.specs.Calls.{stored, set-up};
+ghost use Rattle.model.specs.Calls.{stored, set-up, sized};
 ghost use Rattle.set_up.specs.Written.{Written, rows};
 ghost use Rattle.words.specs.Lent.{sizesOf};
 ghost use Rattle.access.specs.Contract.{Does};
 ghost use Rattle.set_up.specs.FreshWords.{emptyQueues, allFree, freshGlobal, freshLaneWords, linkAfter, freshSlotWords};
 
-// the largest generation and the cabinet mask
+// the largest generation and the yard mask
 const REST_LENGTH: usize = words::HEADS_AT - words::LARGEST_GENERATION_AT;
 
 // a fresh lane is on
@@ -129,17 +129,17 @@ fn write_fresh(m: &mut [u32], z: words::Sizes)
     requires { ⌜ (sizesFit (sizesOf z) ≡ true) × (total (sizesOf z) ≤ length (now m)) ⌝ }
     ensures { λ _. ⌜ now (m .exit) ≡ stored (fresh (sizesOf z)) (now (m .entry)) ⌝ }
 {
-    let masks = words::index(z.cabinets);
+    let masks = words::index(words::cabinet_count(z));
     let records = words::index(words::lane_count(z));
+    let yards = words::index(z.yards);
+    let first_slot = words::slots_start(z);
+    let first_yard = words::yards_start(z);
     words::contents::write(m, z);
     write_global(m, z.slots);
     fill(m, words::MASKS_AT, masks, 0);
     write_lanes(m, words::MASKS_AT + masks, records);
-    write_slots(
-        m,
-        words::MASKS_AT + masks + words::LANE_LENGTH * records,
-        z.slots,
-    );
+    write_slots(m, first_slot, z.slots);
+    fill(m, first_yard, yards, 0);
 }
 
 // The number of words of a table of these sizes.
@@ -153,10 +153,11 @@ fn total_words(z: words::Sizes) -> u32
 
 // Set-up: refused where the sizes are out of range (cause 1) or the memory is too short (cause 2), and
 // then no word changes; otherwise the fresh table is written, and its total answered.
-pub fn set_up(m: &mut [u32], cabinets: u32, places: u32, slots: u32) -> access::Answer
-    ensures { λ r. ⌜ Does (set-up cabinets places slots) (now (m .entry)) r (now (m .exit)) ⌝ }
+pub fn set_up(m: &mut [u32], yards: u32, cabinets: u32, places: u32, slots: u32) -> access::Answer
+    ensures { λ r. ⌜ Does (set-up (sized yards cabinets places slots)) (now (m .entry)) r (now (m .exit)) ⌝ }
 {
     let z = words::Sizes {
+        yards,
         cabinets,
         places,
         slots,

@@ -12,6 +12,9 @@ Inv-loop m cabinets n₀ c₀ n c = MasksCounted m cabinets c n
 abbrev μ-loop : tie.MeasureT-loop
 μ-loop m cabinets n₀ c₀ n c = cabinets - c
 
+cabinet-count-requires : tie.Need-cabinet-count-requires Inv-loop μ-loop
+cabinet-count-requires c κs = search needs
+
 index-requires : tie.Need-index-requires Inv-loop μ-loop
 index-requires c κs = search needs
 
@@ -35,9 +38,10 @@ add-n c =
     let at-loop-test : tie.In-loop Inv-loop μ-loop = search in
     let at-loop : tie.At-loop Inv-loop μ-loop = search in
     let at-index : tie.After-index Inv-loop μ-loop = search in
+    let at-cabinet-count : tie.After-cabinet-count Inv-loop μ-loop = search in
     let entry : tie.Start Inv-loop μ-loop = search in
     let next = masks-on _ _ _ _ (at-loop .loop .inv) (omega (arith, at-loop-test .loop-test .taken)) _ (c .ones .ensures) in
-    omega (arith, next .few, at-index .index .ensures, entry .pre .lent .few .cabinets)
+    omega (arith, next .few, at-index .index .ensures, at-cabinet-count .cabinet-count .ensures, entry .pre .lent .few .allCabinets)
 
 add-c : tie.Need-add-c Inv-loop μ-loop
 add-c c = search needs
@@ -57,6 +61,7 @@ pending-count-spec =
     (tie.spec
     Inv-loop
     μ-loop
+    cabinet-count-requires
     index-requires
     loop-holds
     add-ones

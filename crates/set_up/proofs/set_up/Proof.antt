@@ -3,6 +3,7 @@ use mathlib.Core.Path.{sym, _∙_}
 use native.Mathlib.Omega.{arith}
 use denote.Ref.{now}
 use borrow.Author.Tests.{not-true, not-false}
+use Rattle.model.specs.Calls.{sized}
 use Rattle.set_up.proofs.SetUpLaws.{out-of-range, too-short, written}
 use borrow.Author.Needs.{needs}
 use Rattle.set_up.proofs.set_up.Statement.{statement}
@@ -21,7 +22,7 @@ returns c =
     let entry : tie.Start = search in
     let a = entry .args in
     let unfit = sym (at-sizes-fit .sizes-fit .ensures) ∙ not-true _ (at-if1 .if1 .taken) in
-    out-of-range (now (a .m)) (a .cabinets) (a .places) (a .slots) _ unfit (c .refused .ensures)
+    out-of-range (now (a .m)) (sized (a .yards) (a .cabinets) (a .places) (a .slots)) _ unfit (c .refused .ensures)
 
 total-words-requires : tie.Need-total-words-requires
 total-words-requires c κs =
@@ -43,7 +44,7 @@ returns-2 c =
     let entry : tie.Start = search in
     let a = entry .args in
     let fit = sym (at-sizes-fit .sizes-fit .ensures) ∙ not-false _ (at-if1 .if1 .left) in
-    too-short (now (a .m)) (a .cabinets) (a .places) (a .slots) _ fit
+    too-short (now (a .m)) (sized (a .yards) (a .cabinets) (a .places) (a .slots)) _ fit
     (omega (arith, (at-total-words .total-words .ensures), (at-index .index .ensures)))
     (c .refused2 .ensures)
 
@@ -72,7 +73,7 @@ returns-3 c =
     let entry : tie.Start = search in
     let a = entry .args in
     let fit = sym (at-sizes-fit .sizes-fit .ensures) ∙ not-false _ (at-if1 .if1 .left) in
-    written (now (a .m)) (a .cabinets) (a .places) (a .slots) _ _ _ fit
+    written (now (a .m)) (sized (a .yards) (a .cabinets) (a .places) (a .slots)) _ _ _ fit
     (omega (arith, (at-total-words .total-words .ensures), (at-index .index .ensures)))
     (at-total-words .total-words .ensures)
     (c .accepted .ensures)
