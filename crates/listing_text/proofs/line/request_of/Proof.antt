@@ -24,7 +24,10 @@ request-of-spec =
     (λ c. search needs)
     (λ c. search needs)
     (λ c. search needs)
-    (λ c. rw (c .match .keys1) (record { few = lit≤ tt; limits = refl; asked = refl }))
+    (λ c κs. search needs)
+    (λ c.
+    let at-one-yard : tie.After-one-yard = search in
+    rw (at-one-yard .before .match .keys1) (record { few = lit≤ tt; limits = refl; asked = at-one-yard .one-yard .ensures }))
     (λ c. rw (c .match .keys2) (record { few = lit≤ tt; limits = refl; asked = refl }))
     (λ c. rw (c .match .keys3) (record { few = lit≤ tt; limits = refl; asked = refl }))
     (λ c. rw (c .match .keys4) (record { few = lit≤ tt; limits = refl; asked = refl }))
