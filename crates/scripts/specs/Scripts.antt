@@ -200,9 +200,9 @@ pub data Watch : Type 0 where
   stands : (address : ℕ) (words : List ℕ) → Watch
 
 -- a row of a table. `script`: the number of words lent, and the lines. `poked`: the same, with a word put at an address between the first lines and the
--- others. `watched`: the number of words lent, and lines with words that then stand in the memory. `passes`: the two words of a pass count before a pass of its kind, and after it. `order`: whether generation a is later than b. `digit`: whether a
--- text of digits ends with a right check digit. `reads`: a text, and the status and two words of the reader's answer. `writes`: a text and a code, the status
--- and a word of the writer's answer, and the text after it
+-- others. `watched`: the number of words lent, and lines with words that then stand in the memory. `passes`: the two words of a pass count before a pass of
+-- its kind, and after it. `order`: whether generation a is later than b. `digit`: whether a text of digits ends with a right check digit. `reads`: a text, and
+-- the status and two words of the reader's answer. `writes`: a text and a code, the status and a word of the writer's answer, and the text after it
 pub data Row : Type 0 where
   script : (lent : ℕ) (lines : List Line) → Row
   poked : (lent : ℕ) (lines : List Line) (address word : ℕ) (others : List Line) → Row

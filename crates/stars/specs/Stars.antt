@@ -349,6 +349,7 @@ lastThrough i =
 abbrev pub twoYards : Sizes
 twoYards = sized 2 2 1 1
 
+-- lane after lane is through: bits go at all levels, then the lowest lane is in the second yard, and the period ends with its last lane
 abbrev pub twoYardsPeriod : List Watch
 twoYardsPeriod =
     masked twoYards (setUp2211 ∷ allAwaited ++ (awaitedStill 4 0 ∷ [])) 3 (3 ∷ 3 ∷ []) (1 ∷ 1 ∷ 1 ∷ 1 ∷ [])
@@ -366,6 +367,7 @@ yardBeforeCabinet =
 abbrev pub threeYards : Sizes
 threeYards = sized 3 1 2 1
 
+-- the same: the period ends with the last lane of the third yard
 abbrev pub threeYardsPeriod : List Watch
 threeYardsPeriod =
     masked threeYards (setUp3121 ∷ allAwaited ++ firstThrough 5 1) 7 (1 ∷ 1 ∷ 1 ∷ []) (2 ∷ 3 ∷ 3 ∷ [])
@@ -435,7 +437,7 @@ abbrev pub yardCases : List Row
 yardCases =
     script (largestTotal - 1) (line (set-up (sized 8 8 8 1024)) 2 0 0 0 0 ∷ [])
     ∷ script largestTotal (line (set-up (sized 8 8 8 1024)) 0 largestTotal 0 0 0 ∷ [])
-    ∷ script 200 yardRange
+    ∷ script 16000 yardRange
     ∷ watched 500 contentsWords
     ∷ script 500 lastLane
     ∷ script 400 lastYards
