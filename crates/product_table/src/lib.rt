@@ -4,7 +4,7 @@ ghost use mathlib.Core.List.{_++_};
 ghost use Prim.Native.Nat.{_≤_};
 ghost use lib.ListN.{length, drop};
 ghost use Rattle.model.specs.Rules.{add, replace, delete, begin, end, start, step, pass, clock, on, off, hand-back, awaited};
-ghost use Rattle.model.specs.Calls.{set-up, on-state};
+ghost use Rattle.model.specs.Calls.{set-up, on-state, sized};
 ghost use Rattle.access.specs.Contract.{five};
 ghost use Rattle.calls.specs.CallOf.{callOf};
 ghost use Rattle.product_table.specs.Called.{answerLength, answerWords, Called, LabelRead, LabelWritten};
@@ -46,13 +46,14 @@ fn answer_call(memory: &mut [u32], answer: &mut [u32], k: Call) -> u32
 pub extern "C" fn pt_setup(
     memory: &mut [u32],
     answer: &mut [u32],
+    yards: u32,
     cabinets: u32,
     lanes: u32,
     slots: u32,
 ) -> u32
-    ensures { λ s. ⌜ Called (set-up cabinets lanes slots) (now (memory .entry)) (now (answer .entry)) (now (memory .exit)) (now (answer .exit)) s ⌝ }
+    ensures { λ s. ⌜ Called (set-up (sized yards cabinets lanes slots)) (now (memory .entry)) (now (answer .entry)) (now (memory .exit)) (now (answer .exit)) s ⌝ }
 {
-    answer_call(memory, answer, Call::SetUp(cabinets, lanes, slots))
+    answer_call(memory, answer, Call::SetUp(yards, cabinets, lanes, slots))
 }
 
 // Enters a record for a code that has none.

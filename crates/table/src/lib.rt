@@ -57,7 +57,9 @@ pub fn make_call(m: &mut [u32], k: Call) -> access::Answer
     ensures { λ r. ⌜ Does (callOf k) (now (m .entry)) r (now (m .exit)) ⌝ }
 {
     match k {
-        Call::SetUp(cabinets, places, slots) => set_up::set_up(m, cabinets, places, slots),
+        Call::SetUp(yards, cabinets, places, slots) => {
+            set_up::set_up(m, yards, cabinets, places, slots)
+        }
         Call::OnState(op) => make_op(m, op),
     }
 }
