@@ -47,8 +47,8 @@ pub belt-holds : Figure
 belt-holds = record {
   list = on-lists (λ (h : List Event) (m : List ℕ). Belt h) belt;
   chained = on-lists ChainsCounted chains-counted;
-  least = λ z m a m₀ b h xs ran ups i k none ys more calls r es is z.
+  least = λ z m a m₀ b h xs ran ups i k none ys more calls r es is fine.
       let e = alone-events (lastMemory m₀ xs) ys more i k (recordsOn k (ledger (eventsOf xs) .entries)) calls r es is in
       ap (stepAnswers i) (e .1)
-      ∙ on-lists Attained attained z m a m₀ b h xs ran ups i k (ap (λ (r : Answer). r .status) (sym (e .0)) ∙ z) none;
+      ∙ on-lists Attained attained z m a m₀ b h xs ran ups i k (ap (λ (r : Answer). r .status) (sym (e .0)) ∙ fine) none;
 }
