@@ -25,7 +25,7 @@ head-address-requires c κs = search needs
 add-ends : tie.Need-add-ends
 add-ends c =
     let entry : tie.Start = search in
-    omega (arith, entry .pre .address, few _ (entry .pre .sound) .cabinets)
+    omega (arith, entry .pre .address, few _ (entry .pre .sound) .allCabinets)
 
 search-requires : tie.Need-search-requires
 search-requires c κs = search needs
