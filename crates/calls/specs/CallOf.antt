@@ -1,6 +1,6 @@
 -- Which call of the model a call of the code is: the one of the same name, with the same numbers.
 use Rattle.model.specs.Rules.{Op, add, replace, delete, begin, end, start, step, pass, clock, on, off, hand-back, awaited}
-use Rattle.model.specs.Calls.{Call, set-up, on-state}
+use Rattle.model.specs.Calls.{Call, set-up, sized, on-state}
 use Rattle.calls.specs.declared.Op as code-op
 use Rattle.calls.specs.declared.Op.the-variants.{Add, Replace, Delete, Begin, End, Start, Step, Pass, Clock, On, Off, HandBack, Awaited}
 use Rattle.calls.specs.declared.Call as code
@@ -22,5 +22,5 @@ opOf (HandBack i) = hand-back i
 opOf Awaited = awaited
 
 abbrev pub callOf : code.Call → Call
-callOf (SetUp c p n) = set-up c p n
+callOf (SetUp y c p n) = set-up (sized y c p n)
 callOf (OnState k) = on-state (opOf k)

@@ -22,7 +22,7 @@ pub enum Op {
 }
 
 pub enum Call {
-    // cabinets, lanes per cabinet, slots
-    SetUp(u32, u32, u32),
+    // yards, cabinets of a yard, lanes of a cabinet, slots
+    SetUp(u32, u32, u32, u32),
     OnState(Op),
 }
