@@ -3,6 +3,7 @@ ghost use mathlib.Core.Path.{_≡_};
 ghost use Prim.Native.Nat.{suc, _≤_, _<_};
 ghost use mathlib.Core.List.{[]};
 ghost use lib.ListN.{getD};
+ghost use Rattle.listing_text.specs.Call.{setUpOf};
 ghost use Rattle.listing_text.specs.Machine.{refused, lettered, counted, argued, ended, grown, commandOf, limitsOf, room, within, askedOf};
 ghost use Rattle.listing_text.specs.LineReading.{Reads, parsedOf, Requests, Feeds, Finishes, BlockFeeds};
 use crate::NEWLINE;
@@ -24,6 +25,9 @@ const BASE: u64 = 10;
 
 // How many arguments a line has room for.
 const ROOM: usize = 4;
+
+// The yards of a listing's table.
+const ONE_YARD: u32 = 1;
 
 // The base in which a command's letters are one number. Below SEVENTH they leave room for one more: no command has more than seven.
 const LETTER_BASE: u64 = 256;
@@ -289,6 +293,17 @@ fn asked_of(word: u64, given: usize, values: [u64; ROOM]) -> Asked
     }
 }
 
+// What `setup` asks for: a listing has one yard.
+fn set_up_of(yards: u32, cabinets: u32, places: u32, slots: u32) -> Asked
+    ensures { λ r. ⌜ parsedOf r ≡ setUpOf yards cabinets places slots ⌝ }
+{
+    if yards == ONE_YARD {
+        Asked::Call(Call::SetUp(yards, cabinets, places, slots))
+    } else {
+        Asked::Bad
+    }
+}
+
 // The commands, each with its call. An argument is cut to 32 bits, which changes none that fits; the second may be a code, which is not cut.
 fn request_of(word: u64, values: [u64; ROOM]) -> Request
     ensures { λ r. ⌜ Requests (commandOf word) values r ⌝ }
@@ -299,7 +314,7 @@ fn request_of(word: u64, values: [u64; ROOM]) -> Request
     let deposit = (values[2] % WORDS) as u32;
     let material = (values[3] % WORDS) as u32;
     match word {
-        SETUP => Request(3, WORD, Asked::Call(Call::SetUp(lane, kind, deposit))),
+        SETUP => Request(4, WORD, set_up_of(lane, kind, deposit, material)),
         ADD => Request(
             4,
             CODE,
