@@ -101,7 +101,8 @@ module _ (m : List ℕ) (l : Lane) (k : Named m l) where
 pub lane-again : (m n : List ℕ) (l : Lane) → LaneIn m l → Sound n → sizes n ≡ sizes m → LaneIn n l
 unfolding state
 lane-again m n l k v e =
-    let here : l .sizes ≡ sizesIn n = k .named .sizes ∙ ap (λ (z : Sizes). record { yards = z .yards; cabinets = z .cabinets; places = z .places; slots = z .slots }) (sym e) in
+    let here : l .sizes ≡ sizesIn n =
+    k .named .sizes ∙ ap (λ (z : Sizes). record { yards = z .yards; cabinets = z .cabinets; places = z .places; slots = z .slots }) (sym e) in
     lane-known n l (record {
       sound = v;
       address = k .named .address ∙ ap (λ (z : Sizes). laneAddress z (l .number)) (sym e);

@@ -1,6 +1,6 @@
 -- The pending lanes by the words of a legal memory: their count, and the lowest of them.
 use Prim.Native.Nat.{ℕ, _+_, _*_, _≤_, _<_}
-use mathlib.Core.Path.{_≡_, refl, ap, ap₂, sym, _∙_}
+use mathlib.Core.Path.{_≡_, ap, ap₂, sym, _∙_}
 use mathlib.Core.Bool.{Bool, true, false, not}
 use mathlib.Core.List.{List, [], _∷_}
 use native.Mathlib.Omega.{arith}
@@ -16,7 +16,8 @@ use Rattle.model.specs.State.{cabinetCount, laneCount, State}
 use Rattle.model.specs.Layout.{masksAt, yardMaskAt, yardsBody}
 use Rattle.model.specs.Engine.{runs}
 use Rattle.model.specs.Rules.{pendingFrom}
-use Rattle.model.specs.Memory.{at, flag, contents, maskWord, yardWord, isNotZero, groupMask, standing, laneBit, cabinetBit, yardBit, laneMask, cabinetMask, yardMask, sizes, state}
+use Rattle.model.specs.Memory.{at, flag, contents, maskWord, yardWord, isNotZero, groupMask, standing, sizes, state}
+use Rattle.model.specs.Memory.{cabinetBit, yardBit, laneMask, cabinetMask, yardMask}
 use Rattle.laws.specs.ListLaws.{length-map-from, getD-map-below}
 use Rattle.laws.specs.Masks.{some}
 use Rattle.laws.specs.Loops.{sumBelow, sumBelow-alike, Summed, summed-start, summed-on, summed-done}

@@ -1,6 +1,6 @@
 -- Which call of the model a call of the code is: the one of the same name, with the same numbers.
 use Rattle.model.specs.Rules.{Op, add, replace, delete, begin, end, start, step, pass, clock, on, off, hand-back, awaited}
-use Rattle.model.specs.Calls.{Call, set-up, on-state, sized}
+use Rattle.model.specs.Calls.{Call, set-up, sized, on-state}
 use Rattle.calls.specs.declared.Op as code-op
 use Rattle.calls.specs.declared.Op.the-variants.{Add, Replace, Delete, Begin, End, Start, Step, Pass, Clock, On, Off, HandBack, Awaited}
 use Rattle.calls.specs.declared.Call as code

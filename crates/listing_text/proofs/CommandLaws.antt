@@ -1,4 +1,4 @@
--- The command word: its letters as one number find the command that the word names, and a word that the machine refuses names none.
+-- The command word: its letters as one number find the command that the word names, and a word that the machine refuses names none. What set-up asks for.
 use Prim.Native.Nat.{ℕ, zero, suc, _+_, _*_, _/_, _%_, _^_, _≤_, _<_}
 use mathlib.Core.Bool.{Bool, true, false, not, cond, _&&_}
 use mathlib.Core.List.{List, [], _∷_, _++_, append-nil}
@@ -12,7 +12,8 @@ use lib.Dec.{ltb, eqb}
 use borrow.Author.Tests.{lt-ltb, ltb-true, eq-eqb, eqb-true, ne-eqb}
 use Rattle.model.specs.Lists.{all, same}
 use Rattle.model.specs.Digits.{bytes}
-use Rattle.listing_text.specs.Call.{Command, commands, unknown, lookup}
+use Rattle.model.specs.Calls.{set-up, sized}
+use Rattle.listing_text.specs.Call.{bad, call, Command, oneYard, setUpOf, commands, unknown, lookup}
 use Rattle.listing_text.specs.Machine.{naming, refused, lettered, grown, packedFrom, lookupPacked, commandOf}
 use Rattle.listing_text.proofs.Bools.{either, true-false, and-left, and-right, and-true}
 use Rattle.listing_text.proofs.MachineLaws.{grownAll, grownAll-bad, lettered-below, lettered-above, lettered-letter, lettered-full, grown-unnamed}
@@ -132,6 +133,15 @@ lookup-differs A p (c ∷ cs) d =
 pub command-differs : (A : Type 0) (p : ℕ) → Differs A p commands → commandOf p ≡ unknown
 unfolding commandOf
 command-differs A p d = lookup-differs A p commands d
+
+-- ---- set-up, by its yards
+
+module _ (y c p n : ℕ) where
+  pub one-yard : y ≡ oneYard → call (set-up (sized y c p n)) ≡ setUpOf y c p n
+  one-yard e = rw (eq-eqb y oneYard e)
+
+  pub other-yards : (y ≡ oneYard → ⊥) → bad ≡ setUpOf y c p n
+  other-yards e = rw (ne-eqb y oneYard e)
 
 -- ---- the machine at the command word
 

@@ -3,7 +3,7 @@ use mathlib.Core.Path.{_≡_, refl}
 use Prim.Native.String.{String}
 use Rattle.model.specs.Lists.{isEmpty, all, same}
 use Rattle.model.specs.Rules.{add, delete, start, pass, step, begin, awaited, accepted}
-use Rattle.model.specs.Calls.{set-up, on-state, sized}
+use Rattle.model.specs.Calls.{set-up, sized, on-state}
 use Rattle.model.specs.Digits.{numberFrom, bytes, value, valueFrom}
 use Rattle.listing_text.specs.Number.{isNumber, decimal, decimalIn}
 use Rattle.listing_text.specs.Call.{Parsed, bad, call, longer, wordsOf, commands, lookup, taken, asked, ofWords, parsed}
@@ -18,10 +18,11 @@ unfolding reads
 setup = refl
 
 -- one yard, by value
-setup-zero : reads "setup 01 1 2 3" ≡ call (set-up (sized 1 1 2 3))
+setup-by-value : reads "setup 01 1 2 3" ≡ call (set-up (sized 1 1 2 3))
 unfolding reads
-setup-zero = refl
+setup-by-value = refl
 
+-- any other is bad, as is set-up without its yards; what the other numbers may be is the call's to judge
 two-yards : reads "setup 2 1 1 1" ≡ bad
 unfolding reads
 two-yards = refl
@@ -30,14 +31,17 @@ no-yard : reads "setup 0 1 1 1" ≡ bad
 unfolding reads
 no-yard = refl
 
--- three numbers, and five
-three-sizes : reads "setup 1 1 1" ≡ bad
+yards-left-out : reads "setup 1 1 1" ≡ bad
 unfolding reads
-three-sizes = refl
+yards-left-out = refl
 
-five-sizes : reads "setup 1 1 1 1 1" ≡ bad
+five-sizes : reads "setup 1 2 3 4 5" ≡ bad
 unfolding reads
 five-sizes = refl
+
+no-cabinet : reads "setup 1 0 1 1" ≡ call (set-up (sized 1 0 1 1))
+unfolding reads
+no-cabinet = refl
 
 added : reads "add 0 17 25 1" ≡ call (on-state (add 0 17 25 1))
 unfolding reads

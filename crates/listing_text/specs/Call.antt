@@ -1,4 +1,5 @@
--- The call that a line of a listing asks for (document 01, "A listing, and edges"; document 02, request 8): `parsed`. A line is a list of bytes, without its newline.
+-- The call that a line of a listing asks for (document 01, "A listing, and edges", and document 02, request 8): `parsed`. A line is a list of bytes, without its
+-- newline.
 use Prim.Native.Nat.{ℕ, _^_}
 use Prim.Native.String.{String}
 use mathlib.Core.Bool.{cond}
@@ -6,7 +7,7 @@ use mathlib.Core.List.{List, [], _∷_, map}
 use lib.Dec.{ltb, eqb}
 use Rattle.model.specs.Lists.{all, same}
 use Rattle.model.specs.Rules.{add, replace, delete, start, pass, begin, end, step, clock, on, off, hand-back, awaited}
-use Rattle.model.specs.Calls.{Call, set-up, on-state, sized}
+use Rattle.model.specs.Calls.{Call, set-up, sized, on-state}
 use Rattle.model.specs.Digits.{bytes, value}
 use Rattle.listing_text.specs.Number.{space, isNumber}
 
@@ -50,13 +51,16 @@ pub record Command : Type 0 where
 abbrev pub command : String → (ls : List ℕ) → Takes ls → Command
 command s ls k = record { name = bytes s; limits = ls; makes = k }
 
--- a listing keeps to one yard (document 02, request 8): any other number of yards is bad
-abbrev pub oneYard : (yards cabinets lanes slots : ℕ) → Parsed
-oneYard y c p n = cond (eqb y 1) (call (set-up (sized y c p n))) bad
+-- a listing has one yard: set-up is a call only where it asks for that
+abbrev pub oneYard : ℕ
+oneYard = 1
+
+abbrev pub setUpOf : (yards cabinets places slots : ℕ) → Parsed
+setUpOf y c p n = cond (eqb y oneYard) (call (set-up (sized y c p n))) bad
 
 unfoldable pub commands : List Command
 commands =
-    command "setup" (word ∷ word ∷ word ∷ word ∷ []) oneYard
+    command "setup" (word ∷ word ∷ word ∷ word ∷ []) setUpOf
     ∷ command "add" (word ∷ code ∷ word ∷ word ∷ []) (λ i c d m. call (on-state (add i c d m)))
     ∷ command "rep" (word ∷ code ∷ word ∷ word ∷ []) (λ i c d m. call (on-state (replace i c d m)))
     ∷ command "del" (word ∷ code ∷ []) (λ i c. call (on-state (delete i c)))

@@ -3,7 +3,7 @@ ghost use mathlib.Core.Path.{_≡_};
 ghost use Prim.Native.Nat.{suc, _≤_, _<_};
 ghost use mathlib.Core.List.{[]};
 ghost use lib.ListN.{getD};
-ghost use Rattle.listing_text.specs.Call.{oneYard};
+ghost use Rattle.listing_text.specs.Call.{setUpOf};
 ghost use Rattle.listing_text.specs.Machine.{refused, lettered, counted, argued, ended, grown, commandOf, limitsOf, room, within, askedOf};
 ghost use Rattle.listing_text.specs.LineReading.{Reads, parsedOf, Requests, Feeds, Finishes, BlockFeeds};
 use crate::NEWLINE;
@@ -26,7 +26,7 @@ const BASE: u64 = 10;
 // How many arguments a line has room for.
 const ROOM: usize = 4;
 
-// How many yards a listing's set-up may name.
+// The yards of a listing's table.
 const ONE_YARD: u32 = 1;
 
 // The base in which a command's letters are one number. Below SEVENTH they leave room for one more: no command has more than seven.
@@ -293,12 +293,12 @@ fn asked_of(word: u64, given: usize, values: [u64; ROOM]) -> Asked
     }
 }
 
-// Set-up, where there is one yard; a listing keeps to one.
-fn one_yard(yards: u32, cabinets: u32, lanes: u32, slots: u32) -> Asked
-    ensures { λ r. ⌜ parsedOf r ≡ oneYard yards cabinets lanes slots ⌝ }
+// What `setup` asks for: a listing has one yard.
+fn set_up_of(yards: u32, cabinets: u32, places: u32, slots: u32) -> Asked
+    ensures { λ r. ⌜ parsedOf r ≡ setUpOf yards cabinets places slots ⌝ }
 {
     if yards == ONE_YARD {
-        Asked::Call(Call::SetUp(yards, cabinets, lanes, slots))
+        Asked::Call(Call::SetUp(yards, cabinets, places, slots))
     } else {
         Asked::Bad
     }
@@ -314,7 +314,7 @@ fn request_of(word: u64, values: [u64; ROOM]) -> Request
     let deposit = (values[2] % WORDS) as u32;
     let material = (values[3] % WORDS) as u32;
     match word {
-        SETUP => Request(4, WORD, one_yard(lane, kind, deposit, material)),
+        SETUP => Request(4, WORD, set_up_of(lane, kind, deposit, material)),
         ADD => Request(
             4,
             CODE,

@@ -1,5 +1,5 @@
--- Each key is the letters of a name in base 256, and its arm asks for what the command of that name does: both sides compute. A word that is no key is
--- not the letters of any name.
+-- Each key is the letters of a name in base 256, and its arm asks for what the command of that name does: both sides compute, or `set_up_of` ensures it. A word
+-- that is no key is not the letters of any name.
 use borrow.Author.Needs.{needs}
 use mathlib.Core.Path.{refl}
 use lib.Dec.{lit≤}
@@ -25,9 +25,7 @@ request-of-spec =
     (λ c. search needs)
     (λ c. search needs)
     (λ c κs. search needs)
-    (λ c.
-    let at-one-yard : tie.After-one-yard = search in
-    rw (at-one-yard .before .match .keys1) (record { few = lit≤ tt; limits = refl; asked = at-one-yard .one-yard .ensures }))
+    (λ c. rw (c .before .match .keys1) (record { few = lit≤ tt; limits = refl; asked = c .set-up-of .ensures }))
     (λ c. rw (c .match .keys2) (record { few = lit≤ tt; limits = refl; asked = refl }))
     (λ c. rw (c .match .keys3) (record { few = lit≤ tt; limits = refl; asked = refl }))
     (λ c. rw (c .match .keys4) (record { few = lit≤ tt; limits = refl; asked = refl }))
