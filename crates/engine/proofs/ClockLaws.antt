@@ -1,20 +1,17 @@
 -- The clock of a lane that no cause refuses: the words after it are those of the state after the call, and its answer is read from them.
-use Prim.Native.Nat.{ℕ, _+_, _*_, _/_, _%_, _<_}
+use Prim.Native.Nat.{ℕ, _+_, _*_, _<_}
 use mathlib.Core.Bool.{Bool, true, false, not, cond}
 use mathlib.Core.Path.{_≡_, refl, ap, ap₂, sym, _∙_}
 use mathlib.Core.List.{List}
 use native.Mathlib.Omega.{arith}
-use native.Mathlib.Nat.{mod-lt, div-add-mod'}
 use lib.Dec.{eqb}
 use Rattle.model.specs.State.{cabinetCount, Sizes, State}
 use Rattle.model.specs.Layout.{currentGenerationAt, largestGenerationAt, yardMaskAt}
 use Rattle.model.specs.Engine.{runs, clockMoves}
-use Rattle.model.specs.Rules.{clock, accepted, clockAnswer, causes, refusal, performed, result}
+use Rattle.model.specs.Rules.{clock, accepted, clockAnswer, performed, result}
 use Rattle.model.specs.Memory.{at}
 use Rattle.model.specs.Calls.{stored}
-use Rattle.representation.proofs.Causes.Passed.{clear, within}
 use Rattle.representation.proofs.FromState.Periods.{yardMask-runs}
-use Rattle.representation.proofs.FromState.Standing.{fit}
 use Rattle.representation.proofs.WellFormed.{WellFormed}
 use Rattle.changes.proofs.Shows.{Shows, shows-then}
 use Rattle.changes.proofs.Shape.{Shape, LaneAtEach}

@@ -1,6 +1,6 @@
 -- The masks of a table as a tree of levels: a memory that shows a state shows the tree of its lanes' bits, and a memory that shows another tree in place of it,
 -- and is the same elsewhere, is that of the state with those bits.
-use Prim.Native.Nat.{ℕ, zero, suc, _+_, _*_, _<_, _≤_}
+use Prim.Native.Nat.{ℕ, zero, suc, _+_, _<_, _≤_}
 use mathlib.Core.Bool.{Bool, cond}
 use mathlib.Core.Path.{_≡_, refl, ap, sym, _∙_}
 use mathlib.Core.List.{List, [], _∷_}
@@ -21,7 +21,7 @@ use Rattle.mask_tree.specs.Tree.{Level, Masked, Apart, Inside, Stacked}
 use Rattle.mask_tree.proofs.TreeLaws.{Off}
 use Rattle.changes.proofs.Shows.{Shows}
 use Rattle.changes.proofs.OfLanes.EngineWords.{withPending, maskedValue, value-withPending}
-use Rattle.engine.specs.Levels.{laneLevel, cabinetLevel, yardLevel, upperLevels}
+use Rattle.engine.specs.Levels.{laneLevel, upperLevels}
 
 module _ (z : Sizes) where
   abbrev pub allLevels : List Level

@@ -1,15 +1,12 @@
 -- Which change of the state the words of Off are: lane c × places + p goes off, as the model's rules say.
-use Prim.Native.Nat.{ℕ, _+_, _*_, _<_, _≤_}
-use mathlib.Core.Path.{_≡_, refl, ap, sym, _∙_}
+use Prim.Native.Nat.{ℕ, _+_, _*_, _<_}
+use mathlib.Core.Path.{_≡_, refl, ap, _∙_}
 use mathlib.Core.List.{List}
 use native.Mathlib.Omega.{arith}
-use native.Mathlib.Nat.{mul-le-mul-right}
-use native.Mathlib.Decide.{decLt}
 use Rattle.model.specs.State.{cabinetCount, Sizes, laneCount, State}
 use Rattle.model.specs.Engine.{released, advancedGlobal, wentOff}
-use Rattle.model.specs.Rules.{off, causes, refusal, withEngine, performed}
+use Rattle.model.specs.Rules.{off, withEngine, performed}
 use Rattle.model.specs.Calls.{stored}
-use Rattle.representation.proofs.Causes.Passed.{clear, within}
 use Rattle.representation.proofs.WellFormed.{WellFormed}
 use Rattle.representation.proofs.FromState.Standing.{fit}
 use Rattle.lanes.specs.declared.Change.the-variants.{Leave}

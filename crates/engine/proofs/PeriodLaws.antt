@@ -14,7 +14,7 @@ use Rattle.model.specs.Engine.{withCurrent, withLargest, runs, started, ended, 
 use Rattle.model.specs.Rules.{withEngine}
 use Rattle.model.specs.Memory.{at, contents, yardMask}
 use Rattle.model.specs.Calls.{stored}
-use Rattle.representation.proofs.Addresses.Fields.{top, end}
+use Rattle.representation.proofs.Addresses.Fields.{top}
 use Rattle.representation.proofs.FromState.Periods.{yardMask-runs}
 use Rattle.changes.proofs.Shows.{Shows, stored-shown, shows-then, stored-then}
 use Rattle.changes.proofs.Shape.{LaneAtEach, Shape}

@@ -1,5 +1,5 @@
 -- Which change of the state the words of Release are: lane c × places + p drops its snapshot and its bit.
-use Prim.Native.Nat.{ℕ, zero, suc, _+_, _*_, _<_, _≤_}
+use Prim.Native.Nat.{ℕ, zero, suc, _+_, _*_, _<_}
 use mathlib.Core.Bool.{Bool, true, false, not, cond, _&&_}
 use mathlib.Core.Path.{_≡_, refl, ap, ap₂, _∙_}
 use mathlib.Core.List.{List, [], _∷_, _++_}
@@ -11,7 +11,6 @@ use Rattle.model.specs.Rules.{withEngine, withLane}
 use Rattle.model.specs.Memory.{laneQueues, queuesOf}
 use Rattle.model.specs.Calls.{stored}
 use Rattle.laws.specs.ListLaws.{getD-update-same, update-update, length-update}
-use Rattle.representation.proofs.Addresses.Fields.{lane}
 use Rattle.representation.proofs.Sentences.Facts.{SizesFit}
 use Rattle.changes.proofs.Shows.{Shows, shows-then, stored-then}
 use Rattle.changes.proofs.Shape.{LaneAtEach, Shape}

@@ -1,5 +1,5 @@
 -- The stores of a release to the masks, as the change of the state in which the lane's bit goes.
-use Prim.Native.Nat.{ℕ, _+_, _*_, _/_, _%_, _<_}
+use Prim.Native.Nat.{ℕ, _+_, _*_, _/_, _<_}
 use mathlib.Core.Bool.{Bool, true, false, not, cond, _&&_}
 use mathlib.Core.Path.{_≡_, refl, ap, sym, _∙_}
 use mathlib.Core.List.{List}
@@ -13,7 +13,6 @@ use Rattle.model.specs.Engine.{freshLane, laneAt, setPending, withLanes, runs, 
 use Rattle.model.specs.Rules.{withEngine}
 use Rattle.model.specs.Memory.{at, flag, laneBit}
 use Rattle.model.specs.Calls.{stored}
-use Rattle.laws.specs.Tests.{same, other, decide}
 use Rattle.laws.specs.ListLaws.{length-update, getD-update}
 use Rattle.laws.specs.Updates.{update-same}
 use Rattle.representation.proofs.Addresses.Fields.{mask}

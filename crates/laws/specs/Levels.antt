@@ -1,15 +1,14 @@
--- Levels of masks: rows of flags, and above them a mask with a flag a row. Clearing a flag, counting flags and finding the first of them, by the masks of
--- both levels. The level above may itself be parted into rows, so that each law serves at every depth.
+-- A level of masks: rows of flags, and above them a flag a row. Flags counted and the first of them, row by row; MaskTree goes from level to level.
 use Prim.Native.Nat.{ℕ, zero, suc, _+_, _*_, _<_}
-use mathlib.Core.Bool.{Bool, true, false, cond, _||_}
+use mathlib.Core.Bool.{Bool, true, false, _||_}
 use mathlib.Core.Path.{_≡_, refl, ap, sym, _∙_}
 use mathlib.Core.List.{List, [], _∷_, _++_, map, append-nil, append-assoc}
 use native.Mathlib.Omega.{arith}
 use native.Mathlib.Nat.{mul-suc, suc-mul}
-use lib.ListN.{length, getD, set}
+use lib.ListN.{length, getD}
 use lib.Count.{ones}
 use lib.Seq.{ext-getD}
-use Rattle.model.specs.Lists.{update, any, concat, from, mask, bit}
+use Rattle.model.specs.Lists.{any, concat, from, mask, bit}
 use Rattle.laws.specs.Tests.{clash}
 use Rattle.laws.specs.ListLaws.{getD-map-below, length-map-from, map-from-suc, getD-map-from}
 use Rattle.laws.specs.Elements.{Each, any-append}
@@ -96,26 +95,3 @@ firstTrue-concat n (r ∷ rows) e h = go (some r) refl (λ q. firstTrue-concat n
         → firstTrue (concat (r ∷ rows)) ≡ n * firstTrue (upper (r ∷ rows)) + firstTrue (getD (r ∷ rows) (firstTrue (upper (r ∷ rows))) [])
     go true q ih = rw q (omega (arith, firstTrue-left r (concat rows) q))
     go false q ih = rw q (omega (arith, firstTrue-right r (concat rows) q, e .0, ih (rw q at h), mul-suc n (firstTrue (upper rows))))
-
-some-set : (bs : List Bool) (p : ℕ) → some (set bs p false) ≡ true → some bs ≡ true
-unfolding any
-some-set [] p h = h
-some-set (true ∷ bs) p h = refl
-some-set (false ∷ bs) zero h = h
-some-set (false ∷ bs) (suc p) h = some-set bs p h
-
--- a flag of row c cleared: the flag above goes when it was the row's last
-pub upper-clear : (rows : List (List Bool)) (c p : ℕ)
-    → upper (update rows c (λ r. set r p false)) ≡ cond (some (set (getD rows c []) p false)) (upper rows) (set (upper rows) c false)
-unfolding any update
-upper-clear [] c p = refl
-upper-clear (r ∷ rows) zero p = go (some (set r p false)) refl
-  where
-    go : (b : Bool) → some (set r p false) ≡ b → some (set r p false) ∷ upper rows ≡ cond (some (set r p false)) (some r ∷ upper rows) (false ∷ upper rows)
-    go true q = rw (q, some-set r p q)
-    go false q = rw q
-upper-clear (r ∷ rows) (suc c) p = ap (λ (bs : List Bool). some r ∷ bs) (upper-clear rows c p) ∙ go (some (set (getD rows c []) p false))
-  where
-    go : (b : Bool) → some r ∷ cond b (upper rows) (set (upper rows) c false) ≡ cond b (some r ∷ upper rows) (some r ∷ set (upper rows) c false)
-    go true = refl
-    go false = refl

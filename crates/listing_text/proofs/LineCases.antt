@@ -2,7 +2,7 @@
 use mathlib.Core.Path.{_≡_, refl}
 use Prim.Native.String.{String}
 use Rattle.model.specs.Lists.{isEmpty, all, same}
-use Rattle.model.specs.Rules.{add, delete, start, pass, step, begin, awaited, accepted}
+use Rattle.model.specs.Rules.{add, delete, start, step, begin, awaited, accepted}
 use Rattle.model.specs.Calls.{set-up, sized, on-state}
 use Rattle.model.specs.Digits.{numberFrom, bytes, value, valueFrom}
 use Rattle.listing_text.specs.Number.{isNumber, decimal, decimalIn}

@@ -13,8 +13,8 @@ use lib.Dec.{eqb}
 use Rattle.model.specs.Lists.{any, from, mask, bit}
 use Rattle.model.specs.Memory.{flag}
 use Rattle.laws.specs.Tests.{bool-cases, clash}
-use Rattle.laws.specs.ListLaws.{length-map-from, getD-map-below, getD-set, map-from-set}
-use Rattle.laws.specs.Masks.{mask-flags, mask-lt, mask-from-lt, mask-from-suc, flag-mask, some}
+use Rattle.laws.specs.ListLaws.{length-map-from, map-from-set}
+use Rattle.laws.specs.Masks.{mask-flags, mask-lt, mask-from-lt, mask-from-suc, some}
 use Rattle.laws.specs.MaskFlags.{shl-bit, shr-and-one, or-set, and-clear, trues, firstTrue, ones-mask, trailing-mask, trailing-none}
 use Rattle.masks.specs.Bits.{width, bits, withBit, withoutBit}
 

@@ -1,5 +1,5 @@
-// Lane masks and the cabinet mask, by shifts and masks: a bit tested, set and cleared, the set bits counted, the
-// lowest of them. Generations, which wrap.
+// Masks, by shifts and masks: a bit tested, set and cleared, the set bits counted, the lowest of them. Generations, which
+// wrap.
 ghost use mathlib.Core.Path.{_≡_};
 ghost use Prim.Native.Nat.{_<_};
 ghost use Rattle.model.specs.Word.{up as Word·up, down as Word·down, later as Word·later};

@@ -6,7 +6,7 @@ use mathlib.Core.List.{List}
 use native.Mathlib.Omega.{arith}
 use lib.Dec.{eqb}
 use Rattle.model.specs.Word.{wordLimit}
-use Rattle.model.specs.State.{Sizes, Engine, State}
+use Rattle.model.specs.State.{Engine, State}
 use Rattle.model.specs.Layout.{currentGenerationAt, largestGenerationAt, yardMaskAt, total}
 use Rattle.model.specs.Engine.{laneAt, runs}
 use Rattle.model.specs.Memory.{sizes, contents, state}
@@ -29,9 +29,6 @@ module _ (m : List ℕ) (l : Legal m) (word : WordsTo (total (sizes m)) m) where
 
   abbrev e : Engine
   e = s .engine
-
-  abbrev z : Sizes
-  z = sizes m
 
   abbrev f : Facts m s
   f = l .facts

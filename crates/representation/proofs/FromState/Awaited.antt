@@ -17,7 +17,7 @@ use Rattle.laws.specs.Tests.{_&_}
 use Rattle.laws.specs.Sums.{sum}
 use Rattle.laws.specs.Masks.{some}
 use Rattle.laws.specs.MaskFlags.{trues, firstTrue}
-use Rattle.laws.specs.MaskTree.{span, leaves, trues-leaves, Narrow, lowest, lowest-first}
+use Rattle.laws.specs.MaskTree.{span, trues-leaves, Narrow, lowest, lowest-first}
 use Rattle.representation.proofs.Sentences.Facts.{SizesFit}
 use Rattle.representation.proofs.FromState.Periods.{widths, span-cabinets, leaves-lanes, some-lanes, raised-runs}
 

@@ -13,7 +13,7 @@ use Rattle.model.specs.Layout.{depositAt, materialAt, lastOffset, lengthOffset,
 use Rattle.model.specs.Layout.{freeAt, snapshotBit, flagsAt, queuesAt, positionAt, chainLinkAt, queueLinkAt, laneLength, laneAddress, slotAddress, total}
 use Rattle.model.specs.Engine.{laneAt, runs}
 use Rattle.model.specs.Table.{productAt}
-use Rattle.model.specs.Memory.{at, sizes, wide, flag, flags, contents, lookupCode, laneBit, cabinetBit, yardBit, yardMask}
+use Rattle.model.specs.Memory.{at, sizes, wide, flag, flags, contents, lookupCode, cabinetBit, yardBit, yardMask}
 use Rattle.model.specs.Memory.{isNotZero, queueWords, laneWords, slotWords, slotWord, allQueues, readProduct}
 use Rattle.model.specs.Rules.{wrongCode, wrongProduct}
 use Rattle.model.specs.Legal.{legal, codeOf, periodRuns}

@@ -7,10 +7,10 @@ use native.Mathlib.Omega.{arith}
 use native.Mathlib.Nat.{mod-lt, div-add-mod', div-lt-iff-lt-mul, one-mul}
 use lib.ListN.{length, length-map, List·getD-map}
 use lib.Dec.{eqb}
-use Rattle.model.specs.Lists.{any, from, mask, bit}
-use Rattle.model.specs.State.{Sizes, Engine, State, Lane, cabinetCount, laneCount}
+use Rattle.model.specs.Lists.{from, mask, bit}
+use Rattle.model.specs.State.{Sizes, State, Lane, cabinetCount, laneCount}
 use Rattle.model.specs.Engine.{freshLane, isPending, runs}
-use Rattle.model.specs.Memory.{flag, isNotZero, groupMask, laneBit, cabinetBit, yardBit, laneMask, cabinetMask, yardMask}
+use Rattle.model.specs.Memory.{flag, isNotZero, groupMask, laneBit, yardBit, cabinetMask, yardMask}
 use Rattle.laws.specs.Tests.{not-not}
 use Rattle.laws.specs.ListLaws.{map-from-alike, map-from-getD}
 use Rattle.laws.specs.Elements.{any-map}

@@ -2,11 +2,11 @@
 use Prim.Native.Nat.{ℕ, _+_, _/_, _%_, _^_, _<_}
 use mathlib.Core.Path.{_≡_, refl, ap}
 use mathlib.Core.Logic.{inl, inr}
-use mathlib.Core.Bool.{Bool, true, false, not, cond, _&&_, _||_}
+use mathlib.Core.Bool.{Bool, true, false, not, _&&_, _||_}
 use mathlib.Core.List.{List, [], _∷_}
 use native.Mathlib.Omega.{arith}
 use lib.ListN.{length, getD}
-use lib.Dec.{eqb, ltb}
+use lib.Dec.{eqb}
 use borrow.Author.Tests.{eq-eqb, eqb-true, ne-eqb, ltb-true, not-true}
 use Rattle.model.specs.Word.{none, up, down, later}
 use Rattle.model.specs.Lists.{all, every, isEmpty, last, concat, member}
@@ -22,7 +22,7 @@ use Rattle.model.specs.Legal.{masksInRange, linkSentences, linksInRange, fields
 use Rattle.model.specs.Legal.{lengthsAgree, onTheirChains, noCodeTwice, snapshotsAtRest, lookupsAtRest, generationAtRest, generationsAtRest, queueLinksAtRest}
 use Rattle.model.specs.Legal.{noneQueued, offLanes, lookupsInSections, snapshotsPending, bitFits, bitsFit, freeBlank, laneGenerationFits}
 use Rattle.model.specs.Legal.{globalGenerationFits, periodRuns, largestAgrees, laneGenerations, globalGeneration, sentences}
-use Rattle.laws.specs.Tests.{_&_, clash, and-true, and-intro, or-cases, or-else, Every, every-true, every-intro, all-from, all-below, all-getD}
+use Rattle.laws.specs.Tests.{_&_, clash, and-true, and-intro, or-cases, or-else, Every, every-true, all-from, all-below, all-getD}
 use Rattle.laws.specs.Elements.{isEmpty-true}
 use Rattle.laws.specs.Counts.{all-count, member-false}
 use Rattle.representation.proofs.ExtraWords.{extra-said}
