@@ -123,7 +123,9 @@ lowest-first (w ∷ ws) n f g h = down (lowest-first ws (n .1) (standing w f) g 
 
     some-there : some (row w ws f g j) ≡ true
     some-there =
-        sym (ap (λ (bs : List Bool). getD bs j false) (map-map-from some (row w ws f g) 0 (span ws)) ∙ getD-map-below (λ (c : ℕ). some (row w ws f g c)) (span ws) j false below)
+        sym
+        (ap (λ (bs : List Bool). getD bs j false) (map-map-from some (row w ws f g) 0 (span ws))
+        ∙ getD-map-below (λ (c : ℕ). some (row w ws f g c)) (span ws) j false below)
         ∙ getD-firstTrue us some-us
 
     length-row : (c : ℕ) → length (row w ws f g c) ≡ w

@@ -1,5 +1,5 @@
--- Each number of document 01's "The memory" and its ranges, as document 02's requests moved them, once. An offset is the one before it plus that field's width, so a field more, or a
--- wider one, moves what follows it.
+-- Each number of document 01's "The memory" and its ranges, as document 02's requests moved them, once. An offset is the one before it plus that field's
+-- width, so a field more, or a wider one, moves what follows it.
 use Prim.Native.Nat.{ℕ, _+_, _*_, _-_}
 use Rattle.model.specs.Word.{wordLimit}
 use Rattle.model.specs.State.{Sizes, cabinetCount, laneCount}

@@ -1,5 +1,5 @@
--- When a memory is legal: document 01, "The memory", last paragraph, and document 02, requests 6 and 8: a definition a sentence, in their order. Sentences that speak of chains,
--- queues and lanes are about the state that the memory reads as; the others are about its words.
+-- When a memory is legal: document 01, "The memory", last paragraph, and document 02, requests 6 and 8: a definition a sentence, in their order. Sentences
+-- that speak of chains, queues and lanes are about the state that the memory reads as; the others are about its words.
 use Prim.Native.Nat.{ℕ, _+_, _/_, _%_, _^_}
 use mathlib.Core.Bool.{Bool, false, not, cond, _&&_, _||_}
 use mathlib.Core.List.{List, [], _∷_, _++_, map}

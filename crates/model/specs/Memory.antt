@@ -1,4 +1,5 @@
--- A state as the words of a memory, and back (document 01, "The memory", the four bodies; document 02, request 8, the fifth). Where the words stand is Layout.antt's.
+-- A state as the words of a memory, and back (document 01, "The memory", the four bodies; document 02, request 8, the fifth). Where the words stand is
+-- Layout.antt's.
 use Prim.Native.Nat.{ℕ, zero, suc, _+_, _*_, _/_, _%_, _^_, _<_}
 use mathlib.Core.Bool.{Bool, true, false, not, cond}
 use mathlib.Core.List.{List, [], _∷_, _++_, map}
