@@ -23,9 +23,10 @@ int LLVMFuzzerTestOneInput(const uint8_t *bytes, size_t count);
 
 enum {
 	LONGEST = 400,	/* operations of one stream */
-	ROUND_LANES = 64, /* that take part in a round, at most */
-	ROUND_STEPS = 3 * ROUND_LANES,
-	SHRINK_TESTS = 20000
+	ROUND_LANES = 100, /* that make calls in a round, at most: the next round goes on behind them */
+	ROUND_STEPS = 1 + 3 * ROUND_LANES,
+	SHRINK_TESTS = 20000,
+	AWAITED_LOWEST = 2 /* of the answer to awaited, the lowest pending lane */
 };
 
 static struct beside beside;
@@ -181,12 +182,21 @@ static void count_last(struct stream *stream)
 	take_other(STEP_POKE, at + COUNT_HIGH, byte & 4u ? PT_NONE : 0);
 }
 
+/* The lowest lane that the running grace period waits for; 0 where there is none. */
+static uint32_t lowest_pending(void)
+{
+	take_call(&(struct call){ .name = CALL_AWAITED });
+	if (beside.left.status != 0 || beside.expected_answer[AWAITED_LOWEST] == PT_NONE)
+		return 0;
+	return beside.expected_answer[AWAITED_LOWEST];
+}
+
 /* Grace periods end and begin where no lane reads. */
 static void round_of_lanes(void)
 {
-	uint32_t lanes = lanes_of_table();
+	uint32_t lanes = lanes_of_table(), first = lowest_pending();
 
-	for (uint32_t lane = 0; lane < lanes && lane < ROUND_LANES; lane++) {
+	for (uint32_t lane = first; lane < lanes && lane - first < ROUND_LANES; lane++) {
 		take_call(&(struct call){ CALL_CLOCK, { lane } });
 		if (beside.left.status == PT_NOT_LEGAL)
 			return;

@@ -9,7 +9,8 @@
  *     many more than the total less 8, below 32 that many less 16, else the number;
  *   ANSWER, a byte: how many words of answer are lent from here on;
  *   MEND: what the last accepted call left is put back, and everything is lent again;
- *   ROUND: each lane, of more than 64 the first 64, makes the calls clock, pass 0 and clock;
+ *   ROUND: an awaited, then lanes from the lowest pending one on, at most 100, make the calls
+ *     clock, pass 0 and clock;
  *   READ, a byte: a label of so many bytes, modulo LABEL_MOST and one, is read, and then its
  *     bytes follow: one below BYTES is a digit by its last, one from there on comes before
  *     the byte that is meant;
