@@ -1,5 +1,7 @@
 // What every call starts from on a legal memory: the five words of its answer, a lane's record and flags, the causes of every
 // call of a lane, and where the chains stand.
+#![tactic(auto)]
+
 pub mod causes;
 
 ghost use Rattle.std.specs.Prelude.{◌≡◌, [], ◌+◌, ◌<◌, leb};
@@ -20,7 +22,7 @@ ghost use Rattle.access.specs.Lanes.{lane_named, Named, LaneIn, Standing, most_s
 // ---- answers
 
 // The five words of an answer.
-#[derive(Drop)]
+#[derive(Clone, Copy)]
 pub struct Answer {
     pub status: u32,
     pub a: u32,
@@ -58,7 +60,7 @@ pub fn accepted(a: u32, b: u32, c: u32, d: u32) -> Answer
 // ---- lanes
 
 // A lane by its number: where its record would begin, and the sizes of the table. Worked out once a call and handed on.
-#[derive(Drop)]
+#[derive(Clone, Copy)]
 pub struct Lane {
     pub number: u32,
     pub address: usize,
@@ -80,7 +82,7 @@ pub fn lane_at(m: &[u32], number: u32) -> Lane
 }
 
 // How often a size was subtracted from a number, and what is left.
-#[derive(Drop)]
+#[derive(Clone, Copy)]
 struct Split {
     times: u32,
     left: u32,

@@ -1,5 +1,7 @@
 // The call awaited on a legal memory: how many lanes are pending and the lowest of them, how many slots are free and how many stand
 // in the other queues, by the queues' lengths. It walks no queue and changes no word.
+#![tactic(auto)]
+
 ghost use Rattle.std.specs.Prelude.{◌≡◌, length};
 ghost use Rattle.model.specs.Lists.{first as lists_first};
 ghost use Rattle.model.specs.Rules.{pending_from, queued_in, awaited as awaiting};

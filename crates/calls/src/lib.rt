@@ -1,7 +1,8 @@
 // The calls as the code hands them on, in the model's shape: set-up, or a call on a table's state.
+#![tactic(auto)]
 
 // A call on a state. The first number is the lane.
-#[derive(Drop)]
+#[derive(Clone, Copy)]
 pub enum Op {
     // lane, code, deposit, material
     Add(u32, u64, u32, u32),
@@ -22,7 +23,7 @@ pub enum Op {
     Awaited,
 }
 
-#[derive(Drop)]
+#[derive(Clone, Copy)]
 pub enum Call {
     // yards, cabinets of a yard, lanes of a cabinet, slots
     SetUp(u32, u32, u32, u32),

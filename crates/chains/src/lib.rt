@@ -1,5 +1,7 @@
 // Hash chains in the lent words: the head of each chain, and each slot's chain link, which is the next slot of its
 // chain. Lookups take one step a call.
+#![tactic(auto)]
+
 ghost use Rattle.std.specs.Prelude.{◌≡◌, ◌+◌, ◌<◌, length};
 ghost use Rattle.model.specs.Word.{none};
 ghost use Rattle.model.specs.Layout.{slot_address};
@@ -10,14 +12,14 @@ ghost use Rattle.chains.specs.Chain.{link_address, code_words, seek, pointed, li
 ghost use Rattle.chains.specs.Outcome.{outcome_of, outcome_at, answer_words};
 
 // A code's slot and the one before it in its chain; none for no slot.
-#[derive(Drop)]
+#[derive(Clone, Copy)]
 pub struct Found {
     pub slot: u32,
     pub prev: u32,
 }
 
 // What a lookup finds.
-#[derive(Drop)]
+#[derive(Clone, Copy)]
 pub struct FoundRecord {
     pub slot: u32,
     pub deposit: u32,
@@ -25,7 +27,7 @@ pub struct FoundRecord {
 }
 
 // The outcome of a step: still going, found with its record, or absent.
-#[derive(Drop)]
+#[derive(Clone, Copy)]
 pub enum Step {
     Going,
     Found(FoundRecord),

@@ -1,4 +1,6 @@
 // The check digit of a code, GS1's.
+#![tactic(auto)]
+
 ghost use Rattle.std.specs.Prelude.{◌≡◌};
 ghost use Rattle.model.specs.CheckDigit.{right_check_digit};
 

@@ -1,1 +1,2 @@
 // No code: specs/ says of the functions that run what the three demands ask for.
+#![tactic(auto)]

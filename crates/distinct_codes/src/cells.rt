@@ -21,7 +21,7 @@ const HIGH_FACTOR: u64 = 1969992241;
 
 const DROPPED: u64 = 1048576;
 
-#[derive(Drop)]
+#[derive(Clone, Copy)]
 pub struct Met {
     pub ok: bool,
     pub count: usize,

@@ -1,6 +1,8 @@
 // No code twice among slots, in two steps: cells that hold the first slot of each, and for the slots put
 // aside there a tree of the codes' digits, so that each code is met in a few cells however many slots
 // there are and whatever their codes (document 01, "The memory": "no code twice").
+#![tactic(auto)]
+
 pub mod cells;
 
 ghost use Rattle.std.specs.Prelude.{◌≡◌, ℕ, ◌+◌, ◌*◌, ◌/◌, ◌<◌, ◌≤◌, map, length, get_or, take};

@@ -1,5 +1,7 @@
 // The legality check's part that looks at no slot: the contents, the global words, the masks and the
 // lanes. It follows no link, for these sentences speak of words at known places.
+#![tactic(auto)]
+
 pub mod contents;
 mod generations;
 mod globals;

@@ -1,1 +1,2 @@
 // No code: specs/ proves demand 3 of the model's rules.
+#![tactic(auto)]

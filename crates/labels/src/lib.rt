@@ -1,4 +1,6 @@
 // Labels of eight, thirteen and fourteen digits: a text of ASCII digits turned into a code, and the shortest text of a code.
+#![tactic(auto)]
+
 ghost use Rattle.std.specs.Prelude.{◌≡◌, true, false, ◌++◌, map, ◌≤◌, length, drop};
 ghost use Rattle.model.specs.Lists.{any};
 ghost use Rattle.model.specs.Digits.{digits, is_digit, digit_of, byte_of};

@@ -1,5 +1,7 @@
 // A lane's record as a struct, taken apart from its words and written to them, and what the rules do to it: the
 // count of a quiescent state, by value and in a record that is lent, and the snapshot taken, compared and dropped.
+#![tactic(auto)]
+
 ghost use Rattle.std.specs.Prelude.{◌≡◌, ◌+◌, ◌<◌, ◌≤◌, [], ◌∷◌, length};
 ghost use Rattle.std.proofs.lemmas.List.Edits.{sets};
 ghost use Rattle.model.specs.Word.{up_to};
@@ -14,7 +16,7 @@ ghost use Rattle.lanes.specs.RecordChanges.{Fits, changed_record};
 pub mod cabinet;
 
 // The words of a queue: its first slot, its last, and how many there are.
-#[derive(Drop)]
+#[derive(Clone, Copy)]
 pub struct Queue {
     pub first: u32,
     pub last: u32,
@@ -22,7 +24,7 @@ pub struct Queue {
 }
 
 // A lookup: the two words of its code, and the slot at which it stands.
-#[derive(Drop)]
+#[derive(Clone, Copy)]
 pub struct Lookup {
     pub low: u32,
     pub high: u32,
@@ -31,7 +33,7 @@ pub struct Lookup {
 
 // Flags, counts and snapshot counts by kind, the current queue's generation, the lane's
 // three queues, and its lookup.
-#[derive(Drop)]
+#[derive(Clone, Copy)]
 pub struct LaneRecord {
     pub flags: u32,
     pub quiescent: [u64; 4],
@@ -45,7 +47,7 @@ pub struct LaneRecord {
 
 // Where a lane stands: its yard, the number of its cabinet there (bay) and of all cabinets, its place in the cabinet, where
 // the cabinet's part of the words begins, and where the lane's record does. It is worked out once a call and handed on.
-#[derive(Drop)]
+#[derive(Clone, Copy)]
 pub struct Place {
     pub yard: u32,
     pub bay: u32,
@@ -276,7 +278,7 @@ fn offline(r: LaneRecord) -> LaneRecord
 }
 
 // A change of a lane's record.
-#[derive(Drop)]
+#[derive(Clone, Copy)]
 pub enum Change {
     // a quiescent state of a kind is counted
     Pass(usize),

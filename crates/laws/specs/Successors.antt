@@ -72,7 +72,7 @@ successor-append (x ∷ (y ∷ xs)) ys i d n u v =
     elim (decide x i) [
       | same e t t' ↦
           let u' : 1 + count i (y ∷ xs) ≤ 1 = rw t' at u in
-          rw (t, ne_eqb i (last (y ∷ xs)) (λ r. let k : 0 < count i (y ∷ xs) = rw r (count-last-cons y xs) in omega arith))
+          rw (t, ne_eqb i (last (y ∷ xs)) (λ r. let k : 0 < count i (y ∷ xs) = count-last (y ∷ xs) i n r in omega arith))
       | other e t t' ↦ rw t (successor-append (y ∷ xs) ys i d n (let u' : 0 + count i (y ∷ xs) ≤ 1 = rw t' at u in omega arith) v)
     ]
 

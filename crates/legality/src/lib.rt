@@ -1,6 +1,8 @@
 // The legality check: whether a memory is legal (document 01, "The memory", last paragraph), for any
 // words and any number of them. It reads no word past the total and follows no link out of range; a
 // walk that comes round again meets a marked slot and ends.
+#![tactic(auto)]
+
 ghost use Rattle.std.specs.Prelude.{◌≡◌, ◌+◌, ◌*◌, ◌≤◌, true, length};
 ghost use Rattle.model.specs.Layout.{masks_at, lane_length};
 ghost use Rattle.model.specs.Memory.{sizes};

@@ -13,14 +13,14 @@ use listing_text::{Asked, Line};
 pub const LONGEST: usize = 55;
 
 // The line that is being read, and whether it has a byte yet.
-#[derive(Drop)]
+#[derive(Clone, Copy)]
 pub struct Unended {
     pub line: Line,
     pub begun: bool,
 }
 
 // How far a block has been answered: the line that has not ended, where to go on, and the end of the text in the buffer.
-#[derive(Drop)]
+#[derive(Clone, Copy)]
 pub struct Place {
     pub unended: Unended,
     pub next: usize,

@@ -1,5 +1,7 @@
 // The listing program: one call a line, from the file that its argument names or from standard input, and one line
 // printed for each. It lends 16,000 words, all 0 at first.
+#![tactic(auto)]
+
 mod answers;
 
 ghost use Rattle.listing.specs.ProgramContract.{ServesBlock, EndsInput};
@@ -8,7 +10,7 @@ use answers::{Place, Unended};
 use libc::{STDERR_FILENO, STDIN_FILENO, STDOUT_FILENO};
 
 // What a read came to: the line that has not ended, and whether to go on.
-#[derive(Drop)]
+#[derive(Clone, Copy)]
 struct Turn {
     unended: Unended,
     going: bool,

@@ -1,4 +1,6 @@
 // The text of a listing: a line, fed byte by byte, to a call or bad, and the five words of an answer to a line.
+#![tactic(auto)]
+
 mod answer;
 mod line;
 

@@ -60,7 +60,7 @@ const BACK: u64 = 0x6261636b;
 const AWAITED: u64 = 0x61776169746564;
 
 // What has been read of a line.
-#[derive(Drop)]
+#[derive(Clone, Copy)]
 pub struct Line {
     // Whatever follows, the line is bad.
     bad: bool,
@@ -77,18 +77,18 @@ pub struct Line {
 }
 
 // What a line asks for.
-#[derive(Drop)]
+#[derive(Clone, Copy)]
 pub enum Asked {
     Bad,
     Call(Call),
 }
 
 // What a command asks for: how many arguments, the largest that the second may be, where the others have 32 bits, and the call with them.
-#[derive(Drop)]
+#[derive(Clone, Copy)]
 struct Request(usize, u64, Asked);
 
 // A part of a block, fed: the line, where to go on, and whether a newline ended the line.
-#[derive(Drop)]
+#[derive(Clone, Copy)]
 pub struct Fed {
     pub line: Line,
     pub next: usize,

@@ -1,11 +1,13 @@
 // A tree of masks in lent words: a bit cleared, and a level's masks set by those of the level below. A caller names the levels
 // and climbs them.
+#![tactic(auto)]
+
 ghost use Rattle.std.specs.Prelude.{◌≡◌, ◌+◌, ◌*◌, ◌<◌, ◌≤◌, length};
 ghost use Rattle.masks.specs.Bits.{width};
 ghost use Rattle.mask_tree.specs.Tree.{level_of, Cleared, standing_mask, raised_to};
 
 // A level: where its masks stand, the flags of a mask, and how many masks.
-#[derive(Drop)]
+#[derive(Clone, Copy)]
 pub struct Level {
     pub first: usize,
     pub wide: u32,

@@ -1,5 +1,7 @@
 // Masks, by shifts and masks: a bit tested, set and cleared, the set bits counted, the lowest of them. Generations, which
 // wrap.
+#![tactic(auto)]
+
 ghost use Rattle.std.specs.Prelude.{◌≡◌, ◌<◌};
 ghost use Rattle.model.specs.Word.{up as word_up, down as word_down, later as word_later};
 ghost use Rattle.model.specs.Memory.{flag};

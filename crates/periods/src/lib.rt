@@ -1,4 +1,6 @@
 // The calls that drive grace periods, on a legal memory: clock and off.
+#![tactic(auto)]
+
 ghost use Rattle.std.specs.Prelude.{◌≡◌, ◌+◌, ◌<◌, ◌≤◌, length, get_or};
 ghost use Rattle.model.specs.Lists.{any};
 ghost use Rattle.model.specs.State.{lane_count};

@@ -1,4 +1,6 @@
 // The static library: the functions for C, as include/product_table.h declares them. A slice is a pointer and a length.
+#![tactic(auto)]
+
 ghost use Rattle.std.specs.Prelude.{◌≡◌, ◌++◌, ◌≤◌, length, drop};
 ghost use Rattle.model.specs.Rules.{add, replace, delete, begin, end, start, step, pass, clock, on, off, hand_back, awaited};
 ghost use Rattle.model.specs.Calls.{set_up, on_state, sized};

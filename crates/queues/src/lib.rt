@@ -1,5 +1,7 @@
 // Queues of slots in the lent words: first, last and length stand from `ends` on, and each slot's queue link is the
 // next slot of its queue. A queue is empty when its first is none. Lengths wrap, so that no word is refused.
+#![tactic(auto)]
+
 ghost use Rattle.std.specs.Prelude.{not, ◌≡◌, ◌+◌, ◌≤◌, ◌<◌, ltb, length};
 ghost use Rattle.model.specs.Layout.{queue_width};
 ghost use Rattle.model.specs.Memory.{at};

@@ -1,5 +1,7 @@
 // The calls of a reader on a legal memory: begin, end, start, step and pass, and on. Each answers five words and leaves the memory as the
 // model's rules say, a refused one every word of it. The lane is worked out before the call, and its address and the sizes are handed on.
+#![tactic(auto)]
+
 ghost use Rattle.std.specs.Prelude.{◌≡◌};
 ghost use Rattle.model.specs.Rules.{lane_of, wrong_kind, refusal, begin as beginning, end as ending, on as goingOn, start as starting};
 ghost use Rattle.model.specs.Rules.{step as stepping, pass as passing, outcome, outcome_answer};

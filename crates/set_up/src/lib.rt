@@ -1,4 +1,6 @@
 // The call set-up: the words of a fresh table, written one body after another as runs of one word.
+#![tactic(auto)]
+
 ghost use Rattle.std.specs.Prelude.{◌≡◌, true, ◌+◌, ◌*◌, ◌≤◌, length, replicate};
 ghost use Rattle.model.specs.Layout.{queues_width, global_body, free_at, global_queues_at, masks_at, lane_length, slot_length, total};
 ghost use Rattle.model.specs.Rules.{fresh};

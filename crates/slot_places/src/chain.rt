@@ -7,7 +7,7 @@ ghost use Rattle.slot_places.specs.WalkSteps.{chain_steps, several, Counted, Rea
 const MET: u8 = 1;
 
 // what is left: slots not met, and how many are put aside
-#[derive(Drop)]
+#[derive(Clone, Copy)]
 pub struct Chained {
     pub ok: bool,
     pub left: u32,

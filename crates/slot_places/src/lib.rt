@@ -1,5 +1,7 @@
 // One walk along the links: each slot is met where it stands, on its chain or in its queue, tested, marked
 // and, on a chain, entered by its code. A slot that is met twice is refused, so that every walk ends.
+#![tactic(auto)]
+
 pub mod chain;
 pub mod queue;
 mod slots;

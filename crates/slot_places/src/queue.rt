@@ -10,7 +10,7 @@ const MET: u8 = 1;
 // the queues of a lane, and the global ones: next, current and done
 pub const QUEUES: usize = 3;
 
-#[derive(Drop)]
+#[derive(Clone, Copy)]
 pub struct Walked {
     pub ok: bool,
     pub left: u32,
@@ -18,7 +18,7 @@ pub struct Walked {
 }
 
 // what is left: slots not met
-#[derive(Drop)]
+#[derive(Clone, Copy)]
 pub struct Queued {
     pub ok: bool,
     pub left: u32,

@@ -8,7 +8,7 @@ ghost use Rattle.slot_places.specs.Slots.{SlotAt, chained_at, free_at, retired_a
 const CHAINS: u64 = words::CHAIN_COUNT as u64;
 
 // the words of a slot: its product, and its links
-#[derive(Drop)]
+#[derive(Clone, Copy)]
 struct Slot {
     code: u64,
     deposit: u32,

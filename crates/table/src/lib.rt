@@ -1,5 +1,7 @@
 // The common way in: one function from a call to its answer, for any memory and any numbers. A call other than
 // set-up on a memory that is not legal is refused here, once for all calls.
+#![tactic(auto)]
+
 ghost use Rattle.model.specs.Calls.{on_state};
 ghost use Rattle.representation.specs.Sound.{Sound};
 ghost use Rattle.calls.specs.CallOf.{op_of, call_of};

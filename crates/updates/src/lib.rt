@@ -1,5 +1,7 @@
 // The calls of an updater on a legal memory: add, replace, delete and hand-back. Each answers five words and leaves the memory as the
 // model's rules say, a refused one every word of it. Every address is read before the first store.
+#![tactic(auto)]
+
 ghost use Rattle.std.specs.Prelude.{◌≡◌, [], ◌<◌};
 ghost use Rattle.model.specs.Lists.{is_empty};
 ghost use Rattle.model.specs.Layout.{free_at};

@@ -41,7 +41,7 @@ const SLOT_LENGTH: u32 = crate::SLOT_LENGTH as u32;
 
 // The length of the cabinets' body, first word and length of the lanes' and of the slots', the first word
 // of the yards', and the total.
-#[derive(Drop)]
+#[derive(Clone, Copy)]
 pub struct Bodies {
     pub masks_long: u32,
     pub lanes: u32,

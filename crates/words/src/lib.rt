@@ -1,6 +1,8 @@
 // The lent words as the code meets them: where each word stands (the numbers of the model's Layout), and
 // 64-bit numbers in two words. Each number of the layout stands here alone: the other crates cite these
 // constants, or make theirs of them.
+#![tactic(auto)]
+
 pub mod contents;
 pub mod links;
 
@@ -135,7 +137,7 @@ pub const SLOT_LENGTH: usize = QUEUE_LINK_AT + 1;
 // ---- sizes
 
 // The sizes of a table, handed on by value.
-#[derive(Drop)]
+#[derive(Clone, Copy)]
 pub struct Sizes {
     pub yards: u32,
     pub cabinets: u32,
