@@ -1,0 +1,23 @@
+-- The loop's invariant: the code is on its `Way`, in cell p, which holds v. The measure: the cells left.
+use Prim.Native.Nat.{ℕ, ◌+◌, ◌*◌, ◌-◌, ◌%◌, ◌<◌, ◌≤◌}
+use mathlib.Core.Path.{◌≡◌, ap, sym, ◌∙◌}
+use native.Mathlib.Omega.{arith}
+use lib.ListN.{get_or}
+use Rattle.distinct_codes.specs.Cells.{cells_of, many_cells, code_at}
+use Rattle.distinct_codes.specs.Tree.{branches}
+use Rattle.distinct_codes.proofs.TreeLaws.{Way, way-begin, step-on, step-below, step-old, step-new}
+use borrow.Author.Rules.{rules}
+use Rattle.distinct_codes.proofs.enter.Given as goal
+
+abbrev pub invariant-loop-v : goal.invariant-loop-v
+invariant-loop-v l =
+    (l.code ≡ code_at l.m l.base (get_or l.aside l.i 0))
+    × (l.from ≡ cells_of l.few)
+    × (l.from ≤ many_cells)
+    × (l.v ≡ get_or l.cells l.p 0)
+    × (l.p < l.from + branches * l.i)
+    × (l.v ≤ l.i)
+    × Way (cells_of l.few) (λ (t : ℕ). code_at l.m l.base (get_or l.aside t 0)) l.i l.cells l.p l.digits
+
+abbrev pub decreases-loop-v : goal.decreases-loop-v
+decreases-loop-v l = l.from + branches * l.i - l.p
