@@ -3,17 +3,17 @@
 use Prim.Native.Nat.{ℕ, suc, ◌≤◌, ◌<◌}
 use mathlib.Core.Path.{◌≡◌, refl, ap, ◌∙◌}
 use mathlib.Core.Logic.{◌≢◌}
-use mathlib.Core.Bool.{Bool, true, false, cond, not, ◌||◌}
+use mathlib.Core.Bool.{Bool, true, false, cond, not}
 use mathlib.Core.List.{List, []}
 use native.Mathlib.Omega.{arith}
 use lib.ListN.{length, get_or, set, length-set}
-use lib.Dec.{leb, ltb}
+use lib.Dec.{leb}
 use borrow.Author.Tests.{le-ltb}
 use Rattle.model.specs.State.{State, lane_count}
 use Rattle.model.specs.Layout.{max_code, max_deposit, max_material}
 use Rattle.model.specs.Digits.{ten, number}
 use Rattle.model.specs.CheckDigit.{code_digits, right_digits, right_check_digit}
-use Rattle.model.specs.Rules.{Op, add, replace, refused, Cause, first_cause, wrong_product, lane_of, of_lane, of_entry, causes, answer_of, answer}
+use Rattle.model.specs.Rules.{add, replace, refused, Cause, first_cause, wrong_product, lane_of, of_lane, of_entry, causes, answer_of, answer}
 use Rattle.check_digits.proofs.Digits.{Decimal, decimal-set}
 use Rattle.check_digits.proofs.Caught.{exchange, length-exchange, five_apart, mistyped-wrong, exchanged-caught, right-number, number_fits}
 

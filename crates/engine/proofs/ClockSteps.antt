@@ -3,7 +3,6 @@ use Prim.Native.Nat.{ℕ, ◌+◌, ◌*◌, ◌<◌}
 use mathlib.Core.Bool.{Bool, true, false, cond}
 use mathlib.Core.Path.{◌≡◌, refl, ap, sym, ◌∙◌}
 use mathlib.Core.List.{List}
-use native.Mathlib.Omega.{arith}
 use Rattle.model.specs.State.{cabinet_count, Sizes, lane_count, Engine, State}
 use Rattle.model.specs.Layout.{generation_at, queues_at}
 use Rattle.model.specs.Engine.{lane_at, released, advanced_lane, advanced_global, quiesced, sampled, clocked}

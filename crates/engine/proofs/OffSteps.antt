@@ -12,7 +12,6 @@ use Rattle.model.specs.Engine.{fresh_lane, lane_at, set_online, with_lanes, with
 use Rattle.model.specs.Rules.{with_engine, with_lane}
 use Rattle.model.specs.Calls.{stored}
 use Rattle.laws.specs.ListLaws.{get_or-update-same, update-update}
-use Rattle.representation.proofs.Causes.Passed.{within}
 use Rattle.lanes.specs.declared.Change.TheVariants.{Leave}
 use Rattle.lanes.specs.RecordChanges.{changed_at}
 use Rattle.changes.proofs.Shows.{Shows, shows_then, stored-then}

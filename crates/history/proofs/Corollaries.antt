@@ -9,8 +9,7 @@ use mathlib.Core.List.{List, [], append-nil, Memᴰ}
 use native.Mathlib.Omega.{arith}
 use lib.ListN.{length, length-append}
 use Rattle.model.specs.State.{Sizes, State}
-use Rattle.model.specs.Rules.{Op, Answer, answer, fresh}
-use Rattle.model.specs.Memory.{state}
+use Rattle.model.specs.Rules.{Op, Answer, fresh}
 use Rattle.model.specs.Calls.{Call, set_up, on_state, reply, left, left_all}
 use Rattle.model.specs.Ledger.{Section, Search, Ledger, Event, ledger_from, ledger, is_answer, search, events}
 use Rattle.model.specs.Ledger.{Came, Explained, Holds, step_event, RefusesSetUps}

@@ -1,5 +1,5 @@
 -- An offset as successors: the form in which `sets` and `from` count.
-use Rattle.std.proofs.Common.{◌≡◌, ℕ, zero, suc, ◌+◌, ap, ◌∙◌, arith}
+use Rattle.std.proofs.Common.{◌≡◌, ℕ, zero, suc, ◌+◌, arith}
 
 abbrev pub after : ℕ → ℕ → ℕ
 after zero x = x

@@ -1,5 +1,5 @@
 -- Masks of any width: bits, the mask built from a list of flags, a mask built flag by flag, and no flag.
-use Rattle.std.specs.Prelude.{ℕ, zero, suc, ◌+◌, ◌*◌, ◌-◌, ◌/◌, ◌%◌, ◌^◌, ◌<◌, Bool, true, false, not, cond, ◌≡◌, refl, List, [], ◌∷◌, ◌++◌, map, length, get_or, set, eqb, ltb}
+use Rattle.std.specs.Prelude.{ℕ, zero, suc, ◌+◌, ◌*◌, ◌/◌, ◌%◌, ◌^◌, ◌<◌, Bool, true, false, not, cond, ◌≡◌, refl, List, [], ◌∷◌, ◌++◌, map, length, get_or, eqb, ltb}
 use Rattle.std.proofs.Common.{ap, ap₂, sym, ◌∙◌, arith, div-one, mod-eq_of_lt, mul_assoc, div-lt_iff_lt-mul, pow-add, pow_pos, shr-shr, eq-eqb, ne_eqb, lt-ltb, le-ltb}
 use Rattle.std.proofs.Math.Decide.{dec_lt}
 use Rattle.std.proofs.Math.Nat.{zero-div, div-eq_of_lt}

@@ -1,5 +1,5 @@
 -- A word as a mask of 32 flags, by the model's `mask` and `flag`. Contracts cite these, and `trues` and `first_true` of the laws of masks.
-use Rattle.std.specs.Prelude.{ℕ, Bool, true, false, List, map, set, slice_set}
+use Rattle.std.specs.Prelude.{ℕ, Bool, true, false, List, map, slice_set}
 use Rattle.model.specs.Word.{word_bits}
 use Rattle.model.specs.Lists.{from, mask}
 use Rattle.model.specs.Memory.{flag}

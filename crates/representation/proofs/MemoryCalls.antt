@@ -10,7 +10,7 @@ use borrow.Author.Tests.{ltb-false, not-false}
 use Rattle.model.specs.State.{Sizes}
 use Rattle.model.specs.Layout.{total}
 use Rattle.model.specs.Rules.{Op, refused, cause, first_cause, answer, answer_of, next, next_of, refusal, fresh}
-use Rattle.model.specs.Memory.{Words, sizes, state}
+use Rattle.model.specs.Memory.{Words, state}
 use Rattle.model.specs.Legal.{sizes_fit, legal}
 use Rattle.model.specs.Calls.{Call, set_up, on_state, stored, refusal_of, reply_of, left_of, reply, left}
 use Rattle.representation.proofs.WellFormed.{WellFormed}

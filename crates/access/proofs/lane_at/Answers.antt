@@ -1,7 +1,7 @@
 -- The sizes are read from the contents, and the address is that of the layout.
 use native.Mathlib.Omega.{arith}
 use Rattle.access.proofs.Ways.{long}
-use Rattle.access.proofs.LaneLaws.{few-read, named_by}
+use Rattle.access.proofs.LaneLaws.{few-read}
 use borrow.Author.Rules.{rules}
 use Rattle.access.proofs.lane_at.Goals as goal
 

@@ -1,5 +1,5 @@
 -- The tests are the causes of a lane, in their order.
-use Rattle.access.proofs.LaneLaws.{unknown-by, lane-tested}
+use Rattle.access.proofs.LaneLaws.{unknown-by}
 use Rattle.access.proofs.Refusals.{refusals}
 use borrow.Author.Rules.{rules}
 use Rattle.access.proofs.lane_refusal.Goals as goal

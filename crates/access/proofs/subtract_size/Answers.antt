@@ -1,7 +1,5 @@
-use Prim.Native.Nat.{◌-◌}
 use native.Mathlib.Omega.{arith}
-use Rattle.laws.specs.Subtractions.{Subtracting, subtracting-start, subtracting-on, subtracting-most, subtracting-below}
-use Rattle.access.specs.Lanes.{most_subtractions}
+use Rattle.laws.specs.Subtractions.{subtracting-on, subtracting-most, subtracting-below}
 use Rattle.access.proofs.subtract_size.Goals as goal
 
 pub returns-then-left-size : goal.returns-then-left-size

@@ -1,7 +1,6 @@
 -- The loop's invariant: what was subtracted and what is left make the whole (`Subtracting`). The measure: the subtractions that are left.
 use Prim.Native.Nat.{◌-◌}
-use native.Mathlib.Omega.{arith}
-use Rattle.laws.specs.Subtractions.{Subtracting, subtracting-start, subtracting-on, subtracting-most, subtracting-below}
+use Rattle.laws.specs.Subtractions.{Subtracting}
 use Rattle.access.specs.Lanes.{most_subtractions}
 use Rattle.access.proofs.subtract_size.Given as goal
 

@@ -1,10 +1,6 @@
 use borrow.Author.Rules.{rules}
-use Prim.Native.Nat.{◌≤◌, ◌+◌}
-use mathlib.Core.Path.{◌≡◌, refl, sym, ◌∙◌}
+use mathlib.Core.Path.{sym, ◌∙◌}
 use native.Mathlib.Omega.{arith}
-use Rattle.model.specs.Word.{none}
-use Rattle.words.specs.Lent.{sizes_of}
-use Rattle.chains.specs.Chain.{seek}
 use Rattle.chains.proofs.SeekLaws.{seek-end, seek-none, seek_found, seek-on}
 use Rattle.chains.proofs.find.Goals as goal
 

@@ -1,13 +1,10 @@
 -- `chains::find`. The loop's invariant: the steps that are left are slots + 1 at most, and the search from here finds what the whole search finds. The
 -- measure is the steps that are left.
-use borrow.Author.Rules.{rules}
 use Prim.Native.Nat.{◌≤◌, ◌+◌}
-use mathlib.Core.Path.{◌≡◌, refl, sym, ◌∙◌}
-use native.Mathlib.Omega.{arith}
+use mathlib.Core.Path.{◌≡◌}
 use Rattle.model.specs.Word.{none}
 use Rattle.words.specs.Lent.{sizes_of}
 use Rattle.chains.specs.Chain.{seek}
-use Rattle.chains.proofs.SeekLaws.{seek-end, seek-none, seek_found, seek-on}
 use Rattle.chains.proofs.find.Given as goal
 
 abbrev pub invariant-loop-left : goal.invariant-loop-left

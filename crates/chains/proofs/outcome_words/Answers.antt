@@ -1,6 +1,5 @@
 -- `chains::outcome_words`: at each case of the enum `outcome_answer` computes to the words returned.
 use mathlib.Core.Path.{sym, ap}
-use borrow.Author.Rules.{rules}
 use Rattle.model.specs.Rules.{outcome_answer}
 use Rattle.chains.specs.Outcome.{outcome_of, answer_words}
 use Rattle.chains.specs.declared.Step.{Step}

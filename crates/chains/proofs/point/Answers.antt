@@ -1,5 +1,4 @@
 -- `chains::point`: its test is that of `pointed`, and each arm stores what that says.
-use borrow.Author.Rules.{rules}
 use borrow.Author.Tests.{lt-ltb, le-ltb}
 use Rattle.chains.specs.Chain.{pointed}
 use Rattle.chains.proofs.point.Goals as goal

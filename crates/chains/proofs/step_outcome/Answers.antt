@@ -1,6 +1,5 @@
 -- `chains::step_outcome`: its tests are those of `outcome_at`, in its order.
 use mathlib.Core.Path.{sym, ◌∙◌}
-use borrow.Author.Rules.{rules}
 use borrow.Author.Tests.{le-leb, lt-leb, eq-eqb, ne_eqb}
 use Rattle.chains.specs.Outcome.{outcome_of, outcome_at}
 use Rattle.chains.proofs.step_outcome.Goals as goal

@@ -1,7 +1,7 @@
 -- Changes of chains and slots keep the shape of a state.
 use Prim.Native.Nat.{ℕ, ◌+◌, ◌<◌}
 use mathlib.Core.Path.{◌≡◌, ◌∙◌}
-use mathlib.Core.List.{[], ◌∷◌}
+use mathlib.Core.List.{[]}
 use native.Mathlib.Omega.{arith}
 use lib.ListN.{get_or, length-set}
 use Rattle.model.specs.Word.{none}
@@ -11,9 +11,9 @@ use Rattle.model.specs.Layout.{chain_count}
 use Rattle.model.specs.Table.{blank, link_of}
 use Rattle.laws.specs.Tests.{same, other, decide}
 use Rattle.laws.specs.ListLaws.{length-update}
-use Rattle.laws.specs.Counts.{mark, mark-self, mark-other, count-concat-update}
+use Rattle.laws.specs.Counts.{mark, mark-self, mark-other}
 use Rattle.changes.proofs.Shape.{Shape, chained, queued}
-use Rattle.changes.proofs.OfChains.ChainStates.{head_added, chain_less, chain_swapped, with_link, with_product, slot_cleared}
+use Rattle.changes.proofs.OfChains.ChainStates.{chain_less, chain_swapped, with_link, with_product, slot_cleared}
 use Rattle.changes.proofs.OfChains.ChainLinks.{count_less, count-swapped-all}
 
 pub shape-product : (s : State) → Shape s → (o : ℕ) (p : Product) → Shape (with_product o p s)

@@ -1,12 +1,11 @@
 -- The words of a queue as fields: where they stand, what they hold, and that they differ from each other and from the slots' fields. Of those after its
 -- first one law speaks, over their offset.
 use Prim.Native.Nat.{ℕ, ◌+◌, ◌<◌}
-use mathlib.Core.Bool.{Bool, false, ◌&&◌}
+use mathlib.Core.Bool.{false}
 use mathlib.Core.Path.{◌≡◌, refl, ap, ◌∙◌}
 use mathlib.Core.List.{List, [], ◌∷◌, ◌++◌}
 use native.Mathlib.Omega.{arith}
 use lib.ListN.{length, get_or, get_or-append}
-use lib.Dec.{eqb}
 use borrow.Author.Tests.{ne_eqb}
 use Rattle.model.specs.Lists.{first, last}
 use Rattle.model.specs.State.{Sizes, State}

@@ -7,7 +7,6 @@ use mathlib.Core.List.{List, [], ◌∷◌, ◌++◌}
 use native.Mathlib.Omega.{arith}
 use Rattle.model.specs.Lists.{first, tail, is_empty, count}
 use Rattle.model.specs.State.{State}
-use Rattle.laws.specs.Tests.{same, other, decide}
 use Rattle.laws.specs.Counts.{mark-self, count-first, count-append}
 use Rattle.changes.proofs.Shape.{Shape, chained, queued}
 use Rattle.changes.specs.Queues.{Queue, Named, queue_of, with_queue, joined_state}

@@ -1,5 +1,5 @@
 use native.Mathlib.Omega.{arith}
-use Rattle.check_digits.proofs.AddingLaws.{Adding, adding-start, adding-few, adding-weight, adding-on, adding-done}
+use Rattle.check_digits.proofs.AddingLaws.{adding-on, adding-done}
 use borrow.Author.Rules.{rules}
 use Rattle.check_digits.proofs.is_right.Goals as goal
 

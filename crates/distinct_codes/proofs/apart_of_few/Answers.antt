@@ -5,7 +5,6 @@ use lib.ListN.{length-replicate}
 use Rattle.distinct_codes.specs.Cells.{few_cells}
 use Rattle.distinct_codes.specs.Tree.{branches}
 use Rattle.distinct_codes.proofs.TreeLaws.{empty-cells}
-use borrow.Author.Rules.{rules}
 use Rattle.distinct_codes.proofs.apart_of_few.Goals as goal
 
 pub enter_all-requires : goal.enter_all-requires

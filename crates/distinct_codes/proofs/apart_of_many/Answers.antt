@@ -6,7 +6,6 @@ use Rattle.model.specs.Layout.{max_slots}
 use Rattle.distinct_codes.specs.Cells.{many_cells}
 use Rattle.distinct_codes.specs.Tree.{branches}
 use Rattle.distinct_codes.proofs.TreeLaws.{empty-cells}
-use borrow.Author.Rules.{rules}
 use Rattle.distinct_codes.proofs.apart_of_many.Goals as goal
 
 pub enter_all-requires : goal.enter_all-requires

@@ -1,11 +1,9 @@
-use Prim.Native.Nat.{ℕ, ◌+◌, ◌*◌, ◌-◌, ◌%◌, ◌<◌, ◌≤◌}
-use mathlib.Core.Path.{◌≡◌, ap, sym, ◌∙◌}
+use Prim.Native.Nat.{ℕ, ◌+◌, ◌*◌, ◌-◌, ◌%◌}
+use mathlib.Core.Path.{ap, sym, ◌∙◌}
 use native.Mathlib.Omega.{arith}
-use lib.ListN.{get_or}
-use Rattle.distinct_codes.specs.Cells.{cells_of, many_cells, code_at}
+use Rattle.distinct_codes.specs.Cells.{cells_of, code_at}
 use Rattle.distinct_codes.specs.Tree.{branches}
-use Rattle.distinct_codes.proofs.TreeLaws.{Way, way-begin, step-on, step-below, step-old, step-new}
-use borrow.Author.Rules.{rules}
+use Rattle.distinct_codes.proofs.TreeLaws.{step-on, step-below, step-new}
 use Rattle.distinct_codes.proofs.enter.Goals as goal
 
 pub loop-v-smaller : goal.loop-v-smaller

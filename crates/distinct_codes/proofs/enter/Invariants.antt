@@ -1,12 +1,10 @@
 -- The loop's invariant: the code is on its `Way`, in cell p, which holds v. The measure: the cells left.
-use Prim.Native.Nat.{ℕ, ◌+◌, ◌*◌, ◌-◌, ◌%◌, ◌<◌, ◌≤◌}
-use mathlib.Core.Path.{◌≡◌, ap, sym, ◌∙◌}
-use native.Mathlib.Omega.{arith}
+use Prim.Native.Nat.{ℕ, ◌+◌, ◌*◌, ◌-◌, ◌<◌, ◌≤◌}
+use mathlib.Core.Path.{◌≡◌}
 use lib.ListN.{get_or}
 use Rattle.distinct_codes.specs.Cells.{cells_of, many_cells, code_at}
 use Rattle.distinct_codes.specs.Tree.{branches}
-use Rattle.distinct_codes.proofs.TreeLaws.{Way, way-begin, step-on, step-below, step-old, step-new}
-use borrow.Author.Rules.{rules}
+use Rattle.distinct_codes.proofs.TreeLaws.{Way}
 use Rattle.distinct_codes.proofs.enter.Given as goal
 
 abbrev pub invariant-loop-v : goal.invariant-loop-v

@@ -1,11 +1,6 @@
-use Prim.Native.Nat.{ℕ, ◌-◌, ◌≤◌}
-use mathlib.Core.Path.{refl}
 use native.Mathlib.Omega.{arith}
-use lib.ListN.{get_or, length}
 use borrow.Author.Tests.{not-true, not-false}
-use Rattle.distinct_codes.specs.Cells.{cells_of, code_at}
-use Rattle.distinct_codes.proofs.TreeLaws.{Sofar, sofar-start, sofar-on, sofar-fails, sofar-end}
-use borrow.Author.Rules.{rules}
+use Rattle.distinct_codes.proofs.TreeLaws.{sofar-on, sofar-fails, sofar-end}
 use Rattle.distinct_codes.proofs.enter_all.Goals as goal
 
 pub returns-then-not-enter : goal.returns-then-not-enter

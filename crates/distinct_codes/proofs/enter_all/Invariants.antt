@@ -1,12 +1,8 @@
 -- The loop's invariant: the numbers below i stand in the cells and have different codes. The measure: the numbers left.
 use Prim.Native.Nat.{ℕ, ◌-◌, ◌≤◌}
-use mathlib.Core.Path.{refl}
-use native.Mathlib.Omega.{arith}
 use lib.ListN.{get_or, length}
-use borrow.Author.Tests.{not-true, not-false}
 use Rattle.distinct_codes.specs.Cells.{cells_of, code_at}
-use Rattle.distinct_codes.proofs.TreeLaws.{Sofar, sofar-start, sofar-on, sofar-fails, sofar-end}
-use borrow.Author.Rules.{rules}
+use Rattle.distinct_codes.proofs.TreeLaws.{Sofar}
 use Rattle.distinct_codes.proofs.enter_all.Given as goal
 
 abbrev pub invariant-loop-i : goal.invariant-loop-i

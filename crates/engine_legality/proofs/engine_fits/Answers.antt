@@ -1,7 +1,6 @@
 -- A law for each way out; the lanes lie within the total.
 use borrow.Author.Tests.{not-true, not-false}
 use Rattle.engine_legality.proofs.EngineLaws.{engine-global, engine-masks, engine-lanes}
-use Rattle.words.proofs.LentLaws.{lent-read}
 use borrow.Author.Rules.{rules}
 use Rattle.engine_legality.proofs.engine_fits.Goals as goal
 

@@ -12,7 +12,7 @@ use Rattle.model.specs.Rules.{with, retired}
 use Rattle.model.specs.Ledger.{Ledger, of_code, entry_of, entry_made, entry_struck, slot_out}
 use Rattle.laws.specs.Counts.{mark-other, count-first}
 use Rattle.representation.proofs.Causes.SlotCounts.{in-replaced, in-deleted}
-use Rattle.representation.proofs.WellFormed.{WellFormed, chained}
+use Rattle.representation.proofs.WellFormed.{WellFormed}
 use Rattle.history.proofs.Ties.Invariant.{Tied}
 use Rattle.history.proofs.CallsKeep.Respects.{Keeps}
 use Rattle.history.proofs.CallsKeep.Add.{product-other}

@@ -8,7 +8,7 @@ use lib.ListN.{length}
 use lib.Dec.{leb}
 use borrow.Author.Tests.{lt-leb}
 use Rattle.model.specs.Lists.{first}
-use Rattle.model.specs.State.{Lookup, idle, running, is_running, Lane, State, lane_count}
+use Rattle.model.specs.State.{Lookup, running, is_running, Lane, State, lane_count}
 use Rattle.model.specs.Engine.{fresh_lane}
 use Rattle.model.specs.Table.{chain_of}
 use Rattle.model.specs.Rules.{Op, start, step, end, zeros, lane_of, causes, first_cause, refusal}
@@ -20,7 +20,6 @@ use Rattle.laws.specs.Elements.{get_or-within}
 use Rattle.representation.proofs.Causes.Passed.{next-accepted, answer-accepted, status-accepted}
 use Rattle.representation.proofs.Causes.Accepted.{accepts}
 use Rattle.representation.proofs.WellFormed.{LookupFits, WellFormed}
-use Rattle.representation.proofs.CallsWellFormed.Next.{status}
 use Rattle.history.proofs.Ties.Halves.{Looks}
 use Rattle.history.proofs.Ties.Invariant.{Tied}
 use Rattle.history.proofs.CallsKeep.SlotFacts.{reading-online}

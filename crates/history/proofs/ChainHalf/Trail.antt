@@ -1,6 +1,6 @@
 -- The chain half: a lookup's trail through a step of its own, and through calls that take no slot from its chain. Tables alone: W x says that the
 -- reader's section retains slot x, and S are the answers of the lookup's window.
-use Prim.Native.Nat.{ℕ, zero, suc, ◌+◌, ◌<◌, ◌≤◌}
+use Prim.Native.Nat.{ℕ, zero, suc, ◌<◌, ◌≤◌}
 use mathlib.Core.Path.{◌≡◌, refl, sym, ap, ◌∙◌}
 use mathlib.Core.Logic.{◌⊎◌, inl, inr, ◌≢◌}
 use mathlib.Core.List.{List, [], ◌∷◌, ◌++◌, append_assoc}

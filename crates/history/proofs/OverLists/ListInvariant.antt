@@ -6,7 +6,6 @@ use lib.ListN.{length}
 use lib.Seq.{append_snoc}
 use Rattle.model.specs.State.{Sizes, Product, State}
 use Rattle.model.specs.Rules.{Op, Answer, answer, next}
-use Rattle.model.specs.Memory.{state}
 use Rattle.model.specs.Calls.{Call, set_up, on_state, reply, left, left_all}
 use Rattle.model.specs.Ledger.{Section, Ledger, Event, fed_call, ledger, events, RefusesSetUps}
 use Rattle.representation.proofs.CallsWellFormed.Next.{next-well_formed}

@@ -9,7 +9,7 @@ use lib.ListN.{length}
 use Rattle.model.specs.State.{Product, State}
 use Rattle.model.specs.Table.{blank, product, product_at}
 use Rattle.model.specs.Rules.{Op, step, hand_back, Answer, answer}
-use Rattle.model.specs.Memory.{at, wide, sizes, read_product, state}
+use Rattle.model.specs.Memory.{wide, sizes, read_product, state}
 use Rattle.model.specs.Calls.{Call, on_state, reply, left_all}
 use Rattle.model.specs.Ledger.{Section, Search, Event, ledger_from, ledger, is_answer, events, Came, Explained, Holds, Kept, Returned, step_event, hand_back_event}
 use Rattle.laws.specs.ListLaws.{get_or-map-below}

@@ -1,5 +1,5 @@
 -- At each case of the enum `changed_record` is what the function called there gives.
-use Rattle.std.proofs.Common.{sym, ap, ◌∙◌, subst, rules}
+use Rattle.std.proofs.Common.{sym, ap, ◌∙◌, subst}
 use Rattle.lanes.specs.declared.Change.{Change}
 use Rattle.lanes.specs.RecordChanges.{Fits, changed_record}
 use Rattle.lanes.proofs.changed.Goals as goal

@@ -1,5 +1,5 @@
 -- The one store is the change that `update` states.
-use Rattle.std.proofs.Common.{ℕ, set, sym, ap, ◌∙◌, rules}
+use Rattle.std.proofs.Common.{ℕ, set, sym, ap, ◌∙◌}
 use Rattle.laws.specs.Updates.{update-set}
 use Rattle.lanes.proofs.count.Goals as goal
 

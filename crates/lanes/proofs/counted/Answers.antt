@@ -1,5 +1,5 @@
 -- `lanes::counted`: the record with the counts that `count` gives.
-use Rattle.std.proofs.Common.{ℕ, List, ap, rules}
+use Rattle.std.proofs.Common.{ℕ, List, ap}
 use Rattle.lanes.specs.Record.{with_quiescent, counted_record}
 use Rattle.lanes.proofs.counted.Goals as goal
 

@@ -1,5 +1,5 @@
 -- The record as it was, with the bit cleared that `clear_bit` clears.
-use Rattle.std.proofs.Common.{ℕ, ap, rules}
+use Rattle.std.proofs.Common.{ℕ, ap}
 use Rattle.lanes.specs.Record.{with_snapshot, offline_record}
 use Rattle.lanes.proofs.offline.Goals as goal
 

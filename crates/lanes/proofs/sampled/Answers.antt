@@ -1,5 +1,5 @@
 -- The record as it was, with the bit set that `set_bit` sets and its own counts for a snapshot.
-use Rattle.std.proofs.Common.{ℕ, ap, rules}
+use Rattle.std.proofs.Common.{ℕ, ap}
 use Rattle.lanes.specs.Record.{with_snapshot, sampled_record}
 use Rattle.lanes.proofs.sampled.Goals as goal
 

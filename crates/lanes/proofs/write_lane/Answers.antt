@@ -1,6 +1,4 @@
 -- The stores and those of the functions called are the record's words in their order.
-use Rattle.std.proofs.Common.{◌≡◌, ◌+◌, ◌≤◌, length, ◌∙◌, arith, length-set, rules}
-use Rattle.model.specs.Layout.{lane_length}
 use Rattle.lanes.proofs.RecordLaws.{record_stored-parts}
 use Rattle.lanes.proofs.write_lane.Goals as goal
 

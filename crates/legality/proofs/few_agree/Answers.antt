@@ -3,7 +3,6 @@ use native.Mathlib.Omega.{arith}
 use mathlib.Core.Bool.{true}
 use Rattle.distinct_codes.specs.Cells.{few_cells}
 use Rattle.legality.proofs.TableLaws.{lent-zeros}
-use borrow.Author.Rules.{rules}
 use Rattle.legality.proofs.few_agree.Goals as goal
 
 pub slots_agree-requires : goal.slots_agree-requires

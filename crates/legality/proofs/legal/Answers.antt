@@ -16,12 +16,11 @@ pub returns-then-not-engine_fits : goal.returns-then-not-engine_fits
 returns-then-not-engine_fits c = search (rules, legal-engine, not-false, not-true)
 
 pub table_fits-requires : goal.table_fits-requires
-table_fits-requires c =
-    (
-      contents-lent _ (sym c.contents_agree.ensures ∙ not-false _ c.if-not-contents_agree.false-raw),
-      sym c.engine_fits.ensures ∙
-          not-false _ c.if-not-engine_fits.false-raw,
-    )
+table_fits-requires c = (
+  contents-lent _ (sym c.contents_agree.ensures ∙ not-false _ c.if-not-contents_agree.false-raw),
+  sym c.engine_fits.ensures ∙
+      not-false _ c.if-not-engine_fits.false-raw,
+)
 
 pub returns : goal.returns
 returns c = search (rules, legal-table, not-false)

@@ -4,7 +4,6 @@ use mathlib.Core.Bool.{false}
 use Rattle.model.specs.Layout.{max_slots}
 use Rattle.distinct_codes.specs.Cells.{many_cells}
 use Rattle.legality.proofs.TableLaws.{lent-zeros}
-use borrow.Author.Rules.{rules}
 use Rattle.legality.proofs.many_agree.Goals as goal
 
 pub slots_agree-requires : goal.slots_agree-requires

@@ -1,7 +1,6 @@
 -- A law for each way out.
 use borrow.Author.Tests.{not-true, not-false}
 use Rattle.legality.proofs.TableLaws.{chains-asks, table-chains, queues-asks, apart-asks, table-queues, table-left, table-decided}
-use borrow.Author.Rules.{rules}
 use Rattle.legality.proofs.slots_agree.Goals as goal
 
 pub chains-c-requires : goal.chains-c-requires

@@ -1,9 +1,7 @@
 -- What each call ensures, one after the other.
-use native.Mathlib.Omega.{arith}
 use borrow.Author.Tests.{not-true, not-false}
-use Rattle.slot_places.proofs.QueueLaws.{runs-fail, runs_then, runs-counted}
+use Rattle.slot_places.proofs.QueueLaws.{runs-fail, runs_then}
 use Rattle.legality.specs.Parts.{queued_steps}
-use borrow.Author.Rules.{rules}
 use Rattle.legality.proofs.walk_queues.Goals as goal
 
 pub returns-then-not-f : goal.returns-then-not-f

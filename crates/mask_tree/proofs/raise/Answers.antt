@@ -1,8 +1,5 @@
-use Prim.Native.Nat.{◌-◌}
 use native.Mathlib.Omega.{arith}
-use borrow.Author.Rules.{rules}
-use Rattle.mask_tree.specs.Tree.{level_of}
-use Rattle.mask_tree.proofs.FunctionLaws.{Raising, raising-start, raising-room, raising-on, raising-done}
+use Rattle.mask_tree.proofs.FunctionLaws.{raising-start, raising-on}
 use Rattle.mask_tree.proofs.raise.Goals as goal
 
 pub loop-g-init : goal.loop-g-init

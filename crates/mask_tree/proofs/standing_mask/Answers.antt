@@ -1,12 +1,10 @@
-use Prim.Native.Nat.{◌≤◌, ◌-◌}
-use mathlib.Core.Path.{◌≡◌, refl, ap, ◌∙◌}
+use mathlib.Core.Path.{refl, ap, ◌∙◌}
 use mathlib.Core.Bool.{not}
 use native.Mathlib.Omega.{arith}
 use borrow.Author.Tests.{eq-eqb, ne_eqb}
-use borrow.Author.Rules.{rules}
 use Rattle.model.specs.Lists.{from, mask}
 use Rattle.masks.proofs.BitLaws.{mask-set, mask-clear}
-use Rattle.mask_tree.specs.Tree.{standing_at, standing_mask}
+use Rattle.mask_tree.specs.Tree.{standing_at}
 use Rattle.mask_tree.proofs.standing_mask.Goals as goal
 use Rattle.mask_tree.proofs.standing_mask.Goals.{then-m-at-ne0, else-m-at-ne0}
 

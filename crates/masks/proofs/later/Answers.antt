@@ -1,5 +1,5 @@
 -- `masks::later`: the difference that wraps is the model's `less`, and the two tests are those of its range.
-use Rattle.std.proofs.Common.{◌∙◌, arith, rules, le-leb}
+use Rattle.std.proofs.Common.{◌∙◌, arith, le-leb}
 use borrow.Author.Tests.{lt-leb}
 use Rattle.masks.proofs.Difference.{later-difference}
 use Rattle.masks.proofs.later.Goals as goal

@@ -1,5 +1,4 @@
 -- `masks::set_bit`: a word is the mask of its bits, and `|` with a bit sets that bit.
-use Rattle.std.proofs.Common.{rules}
 use Rattle.masks.proofs.BitLaws.{or-with_bit}
 use Rattle.masks.proofs.set_bit.Goals as goal
 

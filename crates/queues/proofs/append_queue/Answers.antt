@@ -1,6 +1,5 @@
 -- `queues::append_queue`: its test is that of `joined`, and what its callees leave is what that says.
 use mathlib.Core.Path.{sym, ◌∙◌}
-use borrow.Author.Rules.{rules}
 use borrow.Author.Tests.{lt-ltb, le-ltb}
 use Rattle.queues.specs.Queue.{joined}
 use Rattle.queues.proofs.append_queue.Goals as goal

@@ -1,6 +1,5 @@
 -- `queues::begin_at`: its test is that of `begun_at`, and each arm stores what that says.
 use mathlib.Core.Path.{sym, ◌∙◌}
-use lib.ListN.{length-set}
 use borrow.Author.Rules.{rules}
 use borrow.Author.Tests.{lt-ltb, le-ltb}
 use Rattle.queues.specs.Queue.{begun_at}

@@ -1,5 +1,4 @@
 -- `queues::follow`: its test is that of `followed`, and each arm stores what that says.
-use borrow.Author.Rules.{rules}
 use borrow.Author.Tests.{lt-ltb, le-ltb}
 use Rattle.queues.specs.Queue.{followed}
 use Rattle.queues.proofs.follow.Goals as goal

@@ -1,7 +1,5 @@
 -- `queues::take_first`: its test is that of `less_first`, and the store and `begin_at` leave what that says.
 use mathlib.Core.Path.{refl, sym, ◌∙◌}
-use lib.ListN.{length-set}
-use borrow.Author.Rules.{rules}
 use borrow.Author.Tests.{lt-ltb, le-ltb}
 use Rattle.queues.specs.Queue.{less_first}
 use Rattle.queues.proofs.take_first.Goals as goal

@@ -1,7 +1,7 @@
 -- The tests of `on_refusal` are the causes of its call, in their order.
 use Rattle.model.specs.Rules.{causes}
 use Rattle.access.proofs.Refusals.{refusals}
-use Rattle.access.proofs.LaneLaws.{unknown-by, lane-tested}
+use Rattle.access.proofs.LaneLaws.{unknown-by}
 use borrow.Author.Rules.{rules}
 use Rattle.readers.proofs.on_refusal.Goals as goal
 

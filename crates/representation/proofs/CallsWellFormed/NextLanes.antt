@@ -11,7 +11,7 @@ use Rattle.model.specs.State.{Lookup, idle, running, Queues, Lane, Engine, Table
 use Rattle.model.specs.Layout.{max_code, count_limit, chain_count}
 use Rattle.model.specs.Engine.{fresh_lane, counted, set_online, set_reading, set_lookup, at_lane, clocked, went_off}
 use Rattle.model.specs.Table.{chain_of}
-use Rattle.model.specs.Rules.{off, lane_of, with, with_engine, with_lane, leaving, stepped, continued, outcome, Outcome, going, found, absent, is_online}
+use Rattle.model.specs.Rules.{lane_of, with, with_engine, with_lane, leaving, stepped, continued, outcome, Outcome, going, found, absent, is_online}
 use Rattle.laws.specs.Tests.{clash}
 use Rattle.laws.specs.ListLaws.{length-update, update-cases}
 use Rattle.laws.specs.Sums.{sum, sum-update-same}

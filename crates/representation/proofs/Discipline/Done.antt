@@ -1,12 +1,12 @@
 -- The slots in done queues: what clock and off add to them. They are counted over the global queue and the lanes, by a count of the lanes that is a
 -- parameter: of one lane, or of all.
 use Prim.Native.Nat.{ℕ, ◌+◌, ◌<◌}
-use mathlib.Core.Path.{◌≡◌, refl, ap, sym, ◌∙◌}
+use mathlib.Core.Path.{◌≡◌, refl, ◌∙◌}
 use mathlib.Core.Bool.{Bool, true, false, not, cond, ◌&&◌}
 use mathlib.Core.List.{List, [], map, ◌++◌}
 use native.Mathlib.Omega.{arith}
 use lib.ListN.{length, get_or, length-append}
-use Rattle.model.specs.Word.{up, later}
+use Rattle.model.specs.Word.{up}
 use Rattle.model.specs.Lists.{update}
 use Rattle.model.specs.State.{unheld, Queues, Lane, Engine, is_held}
 use Rattle.model.specs.Engine.{fresh_lane, lane_at, awaiting, emptied, set_pending, set_queues, with_current, with_largest, with_global, at_lane, runs, started}
@@ -14,7 +14,7 @@ use Rattle.model.specs.Engine.{ended, released, is_over, settled, settling, read
 use Rattle.model.specs.Engine.{sampled, compared, clocked, clock_moves, taken, left_by, went_off, off_moves}
 use Rattle.laws.specs.Tests.{cond_cases}
 use Rattle.laws.specs.ListLaws.{length-update}
-use Rattle.representation.proofs.Discipline.Frame.{Frame, ended-cases, frame-released, frame-advanced_lane, frame-advanced_global}
+use Rattle.representation.proofs.Discipline.Frame.{ended-cases, frame-released, frame-advanced_lane, frame-advanced_global}
 
 -- the slots in a lane's done queue
 abbrev pub lane_done : Lane → ℕ

@@ -12,7 +12,7 @@ use Rattle.model.specs.Lists.{concat, count, member}
 use Rattle.model.specs.State.{Sizes, Engine, Table, State}
 use Rattle.model.specs.Layout.{chain_count, chain_link_at}
 use Rattle.model.specs.Table.{blank, product_at}
-use Rattle.model.specs.Memory.{at, sizes, all_queues, slot_word, read_product, state}
+use Rattle.model.specs.Memory.{sizes, all_queues, slot_word, read_product, state}
 use Rattle.model.specs.Legal.{code_of}
 use Rattle.laws.specs.Counts.{count-concat, member-true, member-false}
 use Rattle.laws.specs.Repeats.{distinct-map}

@@ -14,7 +14,7 @@ use Rattle.model.specs.Layout.{lookup_bit, snapshot_bit, flag_count, flags_at, q
 use Rattle.model.specs.Layout.{position_at, chain_link_at, queue_link_at, lane_length, slot_length, slot_address, lane_address, total}
 use Rattle.model.specs.Memory.{at, wide, flag, flags, is_not_zero, group_mask, lane_bit, cabinet_bit, mask_word, yard_word, lane_mask, cabinet_mask, yard_mask, lane_words}
 use Rattle.model.specs.Memory.{lane_word, slot_words, slot_word, low, high, head_of, read_lookup, read_snapshot, snapshot_count, count_words}
-use Rattle.model.specs.Memory.{lookup_code, lookup_position, state, sizes, contents, read_product, read_queue, read_lane}
+use Rattle.model.specs.Memory.{lookup_code, lookup_position, state, sizes, read_product, read_queue, read_lane}
 use Rattle.laws.specs.ListLaws.{map-from-alike, get_or-map-below, take-map-from}
 use Rattle.laws.specs.Masks.{mask-flags}
 use Rattle.representation.proofs.WellFormed.{SlotOrNone}

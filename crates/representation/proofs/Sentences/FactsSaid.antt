@@ -22,7 +22,7 @@ use Rattle.model.specs.Legal.{masks_in_range, link_sentences, links_in_range, fi
 use Rattle.model.specs.Legal.{lengths_agree, on_their_chains, no_code_twice, snapshots_at_rest, lookups_at_rest, generation_at_rest, generations_at_rest, queue_links_at_rest}
 use Rattle.model.specs.Legal.{none_queued, off_lanes, lookups_in_sections, snapshots_pending, bit_fits, bits_fit, free_blank, lane_generation_fits}
 use Rattle.model.specs.Legal.{global_generation_fits, period_runs, largest_agrees, lane_generations, global_generation, sentences}
-use Rattle.laws.specs.Tests.{◌&◌, clash, and-true, and_intro, or_cases, or_else, Every, every_true, all_from, all-below, all_get_d}
+use Rattle.laws.specs.Tests.{clash, and-true, and_intro, or_cases, or_else, Every, every_true, all_from, all-below, all_get_d}
 use Rattle.laws.specs.Elements.{is_empty-true}
 use Rattle.laws.specs.Counts.{all-count, member-false}
 use Rattle.representation.proofs.ExtraWords.{extra-said}

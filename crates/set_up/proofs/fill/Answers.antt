@@ -1,10 +1,8 @@
-use Prim.Native.Nat.{ℕ, ◌+◌, ◌-◌, ◌≤◌}
-use mathlib.Core.Path.{◌≡◌, refl, ap, ◌∙◌}
+use Prim.Native.Nat.{◌+◌}
+use mathlib.Core.Path.{◌≡◌, ◌∙◌}
 use native.Mathlib.Omega.{arith}
 use lib.ListN.{length, replicate, length-set, length-replicate}
-use borrow.Author.Rules.{rules}
-use Rattle.set_up.specs.Written.{Written}
-use Rattle.set_up.proofs.WrittenLaws.{nothing, store, after, renamed, replicate-suc}
+use Rattle.set_up.proofs.WrittenLaws.{store, after, renamed, replicate-suc}
 use Rattle.set_up.proofs.fill.Goals as goal
 
 pub loop-i-preserved : goal.loop-i-preserved

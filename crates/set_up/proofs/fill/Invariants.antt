@@ -1,11 +1,8 @@
 -- The loop's invariant: the i words from at on are written. The measure: the words left.
-use Prim.Native.Nat.{ℕ, ◌+◌, ◌-◌, ◌≤◌}
-use mathlib.Core.Path.{◌≡◌, refl, ap, ◌∙◌}
-use native.Mathlib.Omega.{arith}
-use lib.ListN.{length, replicate, length-set, length-replicate}
-use borrow.Author.Rules.{rules}
+use Prim.Native.Nat.{◌-◌, ◌≤◌}
+use mathlib.Core.Path.{◌≡◌}
+use lib.ListN.{length, replicate}
 use Rattle.set_up.specs.Written.{Written}
-use Rattle.set_up.proofs.WrittenLaws.{nothing, store, after, renamed, replicate-suc}
 use Rattle.set_up.proofs.fill.Given as goal
 
 abbrev pub invariant-loop-i : goal.invariant-loop-i

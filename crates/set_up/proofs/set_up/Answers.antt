@@ -4,7 +4,6 @@ use native.Mathlib.Omega.{arith}
 use borrow.Author.Tests.{not-true, not-false}
 use Rattle.model.specs.Calls.{sized}
 use Rattle.set_up.proofs.SetUpLaws.{out_of_range, too_short, written}
-use borrow.Author.Rules.{rules}
 use Rattle.set_up.proofs.set_up.Goals as goal
 
 pub returns-then-not-sizes_fit : goal.returns-then-not-sizes_fit

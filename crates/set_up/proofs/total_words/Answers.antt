@@ -1,5 +1,4 @@
 -- The sizes are small, and the total is that of their bodies.
-use borrow.Author.Rules.{rules}
 use Rattle.words.proofs.LentLaws.{few-fits}
 use Rattle.set_up.proofs.total_words.Goals as goal
 

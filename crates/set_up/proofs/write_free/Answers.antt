@@ -1,6 +1,5 @@
 -- Three runs of one word, one after another.
 use mathlib.Core.Path.{refl}
-use borrow.Author.Rules.{rules}
 use Rattle.set_up.proofs.WrittenLaws.{after, renamed}
 use Rattle.set_up.specs.FreshWords.{all_free}
 use Rattle.set_up.proofs.write_free.Goals as goal

@@ -1,6 +1,5 @@
 -- Runs of one word and the queues, one after another, are the global words.
 use mathlib.Core.Path.{refl}
-use borrow.Author.Rules.{rules}
 use Rattle.set_up.proofs.WrittenLaws.{after, renamed}
 use Rattle.set_up.specs.FreshWords.{empty_queues, all_free, fresh_global}
 use Rattle.set_up.proofs.write_global.Goals as goal

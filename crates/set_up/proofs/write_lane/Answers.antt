@@ -1,7 +1,6 @@
 -- A run of 0, and in it the words that are not 0, are a lane's words.
 use mathlib.Core.Path.{refl}
 use native.Mathlib.Omega.{arith}
-use borrow.Author.Rules.{rules}
 use Rattle.model.specs.Lists.{first, last, mask, bit}
 use Rattle.model.specs.State.{is_running, is_held}
 use Rattle.model.specs.Layout.{flags_at, queues_at, position_at}

@@ -1,10 +1,9 @@
-use Prim.Native.Nat.{ℕ, ◌+◌, ◌*◌, ◌-◌, ◌≤◌}
-use mathlib.Core.Path.{◌≡◌, refl, ap, ◌∙◌}
+use Prim.Native.Nat.{◌+◌}
+use mathlib.Core.Path.{◌≡◌, refl, ◌∙◌}
 use native.Mathlib.Omega.{arith}
 use lib.ListN.{length}
-use borrow.Author.Rules.{rules}
 use Rattle.model.specs.Lists.{concat_map, from}
-use Rattle.set_up.specs.Written.{Written, rows}
+use Rattle.set_up.specs.Written.{rows}
 use Rattle.set_up.proofs.WrittenLaws.{nothing, after, renamed, rows-suc, length-rows}
 use Rattle.model.specs.Layout.{lane_length}
 use Rattle.set_up.specs.FreshWords.{fresh_lane_words}

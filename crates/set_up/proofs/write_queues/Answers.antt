@@ -2,7 +2,6 @@
 use Prim.Native.Nat.{◌+◌}
 use mathlib.Core.Path.{refl}
 use native.Mathlib.Omega.{arith}
-use borrow.Author.Rules.{rules}
 use Rattle.model.specs.Lists.{first, last}
 use Rattle.model.specs.Layout.{length_offset, current_offset, done_offset}
 use Rattle.set_up.specs.FreshWords.{empty_queues}

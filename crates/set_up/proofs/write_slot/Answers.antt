@@ -1,7 +1,6 @@
 -- A run of 0, and in it the links, are a slot's words.
 use mathlib.Core.Path.{refl, ap}
 use native.Mathlib.Omega.{arith}
-use borrow.Author.Rules.{rules}
 use Rattle.model.specs.Layout.{chain_link_at, queue_link_at}
 use Rattle.set_up.proofs.WrittenLaws.{inside, renamed}
 use Rattle.set_up.specs.FreshWords.{free_words, fresh_slot_words}

@@ -1,7 +1,5 @@
 -- A refused delete changes no word; else the slot is unlinked and waits (`delete-done`).
-use native.Mathlib.Omega.{arith}
 use Rattle.access.proofs.Ways.{refuses}
-use Rattle.access.proofs.LaneLaws.{few}
 use Rattle.updates.proofs.Deletes.{delete-leaves, delete-done}
 use borrow.Author.Rules.{rules}
 use Rattle.updates.proofs.delete.Goals as goal

@@ -1,7 +1,5 @@
 -- A refused replace changes no word; else a filled slot takes the old one's place, and the old one waits (`replace-done`).
-use native.Mathlib.Omega.{arith}
 use Rattle.access.proofs.Ways.{refuses}
-use Rattle.access.proofs.LaneLaws.{few}
 use Rattle.updates.proofs.Adds.{replace-first, replace-leaves, replace-done}
 use borrow.Author.Rules.{rules}
 use Rattle.updates.proofs.replace.Goals as goal

@@ -3,7 +3,6 @@ use mathlib.Core.Path.{ap, sym, ◌∙◌}
 use native.Mathlib.Omega.{arith}
 use Rattle.distinct_codes.specs.Cells.{cells_of, spread}
 use Rattle.distinct_codes.proofs.MeetLaws.{meet-free, meet-clash, meet-aside}
-use borrow.Author.Rules.{rules}
 use Rattle.distinct_codes.proofs.cells.meet.Goals as goal
 
 pub returns-then-v-eq0 : goal.returns-then-v-eq0

@@ -4,7 +4,6 @@ use mathlib.Core.Path.{ap}
 use mathlib.Core.List.{List}
 use lib.ListN.{set}
 use Rattle.engine.specs.Advance.{batched_words}
-use borrow.Author.Rules.{rules}
 use Rattle.engine.proofs.advance.batch.Goals as goal
 
 pub returns : goal.returns

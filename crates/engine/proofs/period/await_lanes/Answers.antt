@@ -1,11 +1,8 @@
-use Prim.Native.Nat.{◌+◌, ◌≤◌, ◌-◌}
-use mathlib.Core.Path.{◌≡◌, refl, ap, ◌∙◌}
+use Prim.Native.Nat.{◌+◌}
+use mathlib.Core.Path.{refl, ap, ◌∙◌}
 use native.Mathlib.Omega.{arith}
 use lib.ListN.{length}
-use borrow.Author.Rules.{rules}
-use Rattle.model.specs.State.{cabinet_count}
 use Rattle.words.specs.Lent.{sizes_of}
-use Rattle.words.proofs.LentLaws.{lent_same}
 use Rattle.engine.specs.Period.{masks_set}
 use Rattle.engine.proofs.PeriodWords.{length-masks_set, one_more}
 use Rattle.engine.proofs.period.await_lanes.Goals as goal

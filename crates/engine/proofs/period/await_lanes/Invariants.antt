@@ -1,14 +1,9 @@
 -- The loop's invariant: the masks of the cabinets passed are those of their lanes that are on. The measure is the number of cabinets left.
-use Prim.Native.Nat.{◌+◌, ◌≤◌, ◌-◌}
-use mathlib.Core.Path.{◌≡◌, refl, ap, ◌∙◌}
-use native.Mathlib.Omega.{arith}
+use Prim.Native.Nat.{◌≤◌, ◌-◌}
+use mathlib.Core.Path.{◌≡◌}
 use lib.ListN.{length}
-use borrow.Author.Rules.{rules}
-use Rattle.model.specs.State.{cabinet_count}
 use Rattle.words.specs.Lent.{sizes_of}
-use Rattle.words.proofs.LentLaws.{lent_same}
 use Rattle.engine.specs.Period.{masks_set}
-use Rattle.engine.proofs.PeriodWords.{length-masks_set, one_more}
 use Rattle.engine.proofs.period.await_lanes.Given as goal
 
 abbrev pub invariant-loop-c : goal.invariant-loop-c

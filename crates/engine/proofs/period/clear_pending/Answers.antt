@@ -6,7 +6,6 @@ use borrow.Author.Tests.{not-true, not-false}
 use Rattle.model.specs.Layout.{masks_at}
 use Rattle.mask_tree.proofs.TreeLaws.{climb-goes, climb-ends, climb-top}
 use Rattle.engine.specs.Release.{cleared_words}
-use borrow.Author.Rules.{rules}
 use Rattle.engine.proofs.period.clear_pending.Goals as goal
 
 pub returns-then-not-clear : goal.returns-then-not-clear

@@ -2,7 +2,6 @@
 use mathlib.Core.Bool.{Bool, cond}
 use mathlib.Core.Path.{ap, sym, ◌∙◌}
 use lib.ListN.{set}
-use borrow.Author.Rules.{rules}
 use Rattle.model.specs.Layout.{largest_generation_at}
 use Rattle.engine.specs.Period.{raised_words}
 use Rattle.engine.proofs.period.raise_largest.Goals as goal

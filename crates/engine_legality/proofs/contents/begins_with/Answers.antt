@@ -1,11 +1,8 @@
-use Prim.Native.Nat.{◌+◌}
-use mathlib.Core.Path.{◌≡◌, refl}
+use mathlib.Core.Path.{refl}
 use native.Mathlib.Omega.{arith}
 use borrow.Author.Rules.{rules}
-use Rattle.model.specs.Lists.{all, from}
-use Rattle.model.specs.Layout.{contents_length}
 use Rattle.laws.specs.Loops.{all_end}
-use Rattle.engine_legality.specs.SameContents.{same_word, same_contents}
+use Rattle.engine_legality.specs.SameContents.{same_contents}
 use Rattle.engine_legality.proofs.ContentsLaws.{same-fails, same-on}
 use Rattle.engine_legality.proofs.contents.begins_with.Goals as goal
 

@@ -1,14 +1,8 @@
-use Prim.Native.Nat.{ℕ, ◌+◌, ◌*◌}
-use mathlib.Core.Path.{◌≡◌, ap}
+use mathlib.Core.Path.{ap}
 use native.Mathlib.Omega.{arith}
 use borrow.Author.Tests.{not-true, not-false}
-use Rattle.model.specs.Lists.{all, from}
-use Rattle.model.specs.Layout.{masks_at, yards_body}
-use Rattle.model.specs.Memory.{at}
-use Rattle.engine_legality.specs.LaneSentences.{group_fits, all_cabinets}
-use Rattle.words.specs.Lent.{sizes_of}
+use Rattle.engine_legality.specs.LaneSentences.{all_cabinets}
 use Rattle.laws.specs.Loops.{all_end, all-fails, all-on}
-use Rattle.engine_legality.proofs.LaneLoops.{group-within}
 use borrow.Author.Rules.{rules}
 use Rattle.engine_legality.proofs.globals.cabinets_fit.Goals as goal
 

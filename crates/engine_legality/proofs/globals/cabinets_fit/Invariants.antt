@@ -1,16 +1,11 @@
 -- The loop's invariant: the yards from y on decide. The measure: the yards left.
 use Prim.Native.Nat.{ℕ, ◌+◌, ◌*◌}
-use mathlib.Core.Path.{◌≡◌, ap}
-use native.Mathlib.Omega.{arith}
-use borrow.Author.Tests.{not-true, not-false}
+use mathlib.Core.Path.{◌≡◌}
 use Rattle.model.specs.Lists.{all, from}
 use Rattle.model.specs.Layout.{masks_at, yards_body}
 use Rattle.model.specs.Memory.{at}
 use Rattle.engine_legality.specs.LaneSentences.{group_fits, all_cabinets}
 use Rattle.words.specs.Lent.{sizes_of}
-use Rattle.laws.specs.Loops.{all_end, all-fails, all-on}
-use Rattle.engine_legality.proofs.LaneLoops.{group-within}
-use borrow.Author.Rules.{rules}
 use Rattle.engine_legality.proofs.globals.cabinets_fit.Given as goal
 
 abbrev pub invariant-loop-left : goal.invariant-loop-left

@@ -1,10 +1,7 @@
-use Prim.Native.Nat.{ℕ, ◌+◌}
-use mathlib.Core.Path.{◌≡◌, refl}
+use mathlib.Core.Path.{refl}
 use native.Mathlib.Omega.{arith}
 use borrow.Author.Tests.{not-true, not-false}
-use Rattle.model.specs.Lists.{all, from}
-use Rattle.model.specs.Memory.{at, flag}
-use Rattle.engine_legality.specs.LaneSentences.{mask_fits, group_fits}
+use Rattle.engine_legality.specs.LaneSentences.{group_fits}
 use Rattle.laws.specs.Loops.{all_end}
 use Rattle.engine_legality.proofs.LaneLoops.{masks-fails, masks-on}
 use borrow.Author.Rules.{rules}

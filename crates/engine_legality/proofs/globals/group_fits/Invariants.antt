@@ -1,14 +1,9 @@
 -- The loop's invariant: the masks from p on decide. The measure: the masks left. A turn takes the first of them, with its bit of the mask above.
 use Prim.Native.Nat.{ℕ, ◌+◌}
-use mathlib.Core.Path.{◌≡◌, refl}
-use native.Mathlib.Omega.{arith}
-use borrow.Author.Tests.{not-true, not-false}
+use mathlib.Core.Path.{◌≡◌}
 use Rattle.model.specs.Lists.{all, from}
 use Rattle.model.specs.Memory.{at, flag}
 use Rattle.engine_legality.specs.LaneSentences.{mask_fits, group_fits}
-use Rattle.laws.specs.Loops.{all_end}
-use Rattle.engine_legality.proofs.LaneLoops.{masks-fails, masks-on}
-use borrow.Author.Rules.{rules}
 use Rattle.engine_legality.proofs.globals.group_fits.Given as goal
 
 abbrev pub invariant-loop-left : goal.invariant-loop-left

@@ -1,6 +1,5 @@
 -- The tests are those of `mask_fits`, a case for each value of the bit.
 use Rattle.engine_legality.specs.LaneSentences.{mask_fits}
-use borrow.Author.Rules.{rules}
 use Rattle.engine_legality.proofs.globals.mask_fits.Goals as goal
 
 pub returns-then-bit : goal.returns-then-bit

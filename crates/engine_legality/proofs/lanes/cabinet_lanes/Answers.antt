@@ -1,11 +1,7 @@
-use Prim.Native.Nat.{ℕ, ◌+◌, ◌*◌}
-use mathlib.Core.Path.{◌≡◌, refl}
+use mathlib.Core.Path.{refl}
 use native.Mathlib.Omega.{arith}
 use borrow.Author.Tests.{not-true, not-false}
-use Rattle.model.specs.Lists.{all, from}
-use Rattle.model.specs.Layout.{lane_length}
-use Rattle.model.specs.Memory.{flag}
-use Rattle.engine_legality.specs.LaneSentences.{lane_fits, cabinet_lanes}
+use Rattle.engine_legality.specs.LaneSentences.{cabinet_lanes}
 use Rattle.laws.specs.Loops.{all_end}
 use Rattle.engine_legality.proofs.LaneLoops.{lanes-fails, lanes_on}
 use borrow.Author.Rules.{rules}

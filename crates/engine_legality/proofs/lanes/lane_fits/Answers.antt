@@ -1,6 +1,5 @@
 -- The tests are those of `lane_fits`.
 use Rattle.engine_legality.specs.LaneSentences.{lane_fits}
-use borrow.Author.Rules.{rules}
 use Rattle.engine_legality.proofs.lanes.lane_fits.Goals as goal
 
 pub returns : goal.returns

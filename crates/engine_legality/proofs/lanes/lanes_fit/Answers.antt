@@ -1,12 +1,10 @@
-use Prim.Native.Nat.{ℕ, ◌+◌, ◌*◌}
-use mathlib.Core.Path.{◌≡◌, refl, ap}
+use Prim.Native.Nat.{ℕ, ◌+◌}
+use mathlib.Core.Path.{refl, ap}
 use native.Mathlib.Omega.{arith}
 use borrow.Author.Tests.{not-true, not-false}
-use Rattle.model.specs.Lists.{all, from}
 use Rattle.model.specs.State.{cabinet_count}
-use Rattle.model.specs.Layout.{masks_at, lane_length, lanes_body}
-use Rattle.model.specs.Memory.{mask_word}
-use Rattle.engine_legality.specs.LaneSentences.{cabinet_lanes, all_lanes}
+use Rattle.model.specs.Layout.{masks_at}
+use Rattle.engine_legality.specs.LaneSentences.{all_lanes}
 use Rattle.words.specs.Lent.{sizes_of}
 use Rattle.laws.specs.Loops.{all_end, all-fails, all-on}
 use Rattle.engine_legality.proofs.LaneLoops.{lanes-within}

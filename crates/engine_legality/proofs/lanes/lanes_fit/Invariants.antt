@@ -1,17 +1,12 @@
 -- The loop's invariant: the cabinets from c on decide. The measure: the cabinets left.
 use Prim.Native.Nat.{ℕ, ◌+◌, ◌*◌}
-use mathlib.Core.Path.{◌≡◌, refl, ap}
-use native.Mathlib.Omega.{arith}
-use borrow.Author.Tests.{not-true, not-false}
+use mathlib.Core.Path.{◌≡◌}
 use Rattle.model.specs.Lists.{all, from}
 use Rattle.model.specs.State.{cabinet_count}
-use Rattle.model.specs.Layout.{masks_at, lane_length, lanes_body}
+use Rattle.model.specs.Layout.{lane_length, lanes_body}
 use Rattle.model.specs.Memory.{mask_word}
 use Rattle.engine_legality.specs.LaneSentences.{cabinet_lanes, all_lanes}
 use Rattle.words.specs.Lent.{sizes_of}
-use Rattle.laws.specs.Loops.{all_end, all-fails, all-on}
-use Rattle.engine_legality.proofs.LaneLoops.{lanes-within}
-use borrow.Author.Rules.{rules}
 use Rattle.engine_legality.proofs.lanes.lanes_fit.Given as goal
 
 abbrev pub invariant-loop-left : goal.invariant-loop-left

@@ -1,10 +1,7 @@
 -- The loop's invariant: the mask is that of the places passed. The measure is the number of places left.
-use Rattle.std.proofs.Common.{◌≡◌, ℕ, ◌+◌, ◌-◌, ◌≤◌, map, refl, ap, ◌∙◌, ⊎_elim, arith, rules}
+use Rattle.std.proofs.Common.{◌≡◌, ◌-◌, ◌≤◌, map}
 use Rattle.model.specs.Lists.{from, mask}
-use Rattle.model.specs.Memory.{at, flag}
-use Rattle.model.specs.Layout.{online_bit}
-use Rattle.lanes.specs.Cabinet.{place_at, online_at}
-use Rattle.masks.proofs.BitLaws.{mask-set, mask-clear}
+use Rattle.lanes.specs.Cabinet.{online_at}
 use Rattle.lanes.proofs.cabinet.online_mask.Given as goal
 
 abbrev pub invariant-loop-p : goal.invariant-loop-p

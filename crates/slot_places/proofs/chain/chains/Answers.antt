@@ -1,14 +1,7 @@
-use Prim.Native.Nat.{ℕ, ◌+◌, ◌-◌}
-use mathlib.Core.Bool.{Bool}
-use mathlib.Core.Path.{◌≡◌, refl, ◌∙◌}
-use mathlib.Core.List.{List}
+use mathlib.Core.Path.{◌∙◌}
 use native.Mathlib.Omega.{arith}
-use lib.ListN.{length}
 use borrow.Author.Tests.{not-true, not-false}
-use Rattle.model.specs.Layout.{chain_count}
-use Rattle.slot_places.specs.WalkSteps.{chain_steps, several, Counted, Ready, Enters}
 use Rattle.slot_places.proofs.ChainLaws.{chains-fail, chains-on, chains-done, chains-counted}
-use borrow.Author.Rules.{rules}
 use Rattle.slot_places.proofs.chain.chains.Goals as goal
 
 pub returns-then-not-w : goal.returns-then-not-w

@@ -1,15 +1,11 @@
 -- The loop's invariant: what the chains from k on give is what all give. The measure: the chains left.
-use Prim.Native.Nat.{ℕ, ◌+◌, ◌-◌}
+use Prim.Native.Nat.{ℕ, ◌+◌}
 use mathlib.Core.Bool.{Bool}
-use mathlib.Core.Path.{◌≡◌, refl, ◌∙◌}
+use mathlib.Core.Path.{◌≡◌}
 use mathlib.Core.List.{List}
-use native.Mathlib.Omega.{arith}
 use lib.ListN.{length}
-use borrow.Author.Tests.{not-true, not-false}
 use Rattle.model.specs.Layout.{chain_count}
 use Rattle.slot_places.specs.WalkSteps.{chain_steps, several, Counted, Ready, Enters}
-use Rattle.slot_places.proofs.ChainLaws.{chains-fail, chains-on, chains-done, chains-counted}
-use borrow.Author.Rules.{rules}
 use Rattle.slot_places.proofs.chain.chains.Given as goal
 
 abbrev pub invariant-loop-chains : goal.invariant-loop-chains

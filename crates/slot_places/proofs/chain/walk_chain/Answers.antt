@@ -1,9 +1,7 @@
-use Prim.Native.Nat.{◌-◌}
-use mathlib.Core.Path.{◌≡◌, refl, ◌∙◌}
+use mathlib.Core.Path.{refl, ◌∙◌}
 use native.Mathlib.Omega.{arith}
-use lib.ListN.{length}
 use borrow.Author.Tests.{not-true, not-false}
-use Rattle.slot_places.proofs.ChainLaws.{Chaining, chain-start, chain-done, chain-astray, chain-twice, chain-unfit, chain-asks, chain-less}
+use Rattle.slot_places.proofs.ChainLaws.{chain-done, chain-astray, chain-twice, chain-unfit, chain-asks, chain-less}
 use Rattle.slot_places.proofs.ChainLaws.{chain-repeats, chain-on}
 use borrow.Author.Rules.{rules}
 use Rattle.slot_places.proofs.chain.walk_chain.Goals as goal
@@ -31,14 +29,13 @@ pub loop-cur-smaller : goal.loop-cur-smaller
 loop-cur-smaller c = chain-less _ _ _ _ _ _ _ _ _ _ _ _ _ _ _ c.loop-cur.invariant.0 c.loop-cur-test.true c.if-marks-c-ne0.false
 
 pub loop-cur-preserved : goal.loop-cur-preserved
-loop-cur-preserved c =
-    (
-      chain-on _ _ _ _ _ _ _ _ _ _ _ _ _ _ _ c.loop-cur.invariant.0 c.loop-cur-test.true c.if-marks-c-ne0.false _ _ _ _ c.meet-e.ensures _
-          c.chained_fits.ensures (not-false _ c.if-not-chained_fits.false-raw) (not-false _ c.if-not-e.false) _ refl (search rules),
-      search rules,
-      c.meet-e.auto.cells ∙ c.loop-cur.invariant.2,
-      c.meet-e.auto.aside ∙ c.loop-cur.invariant.3,
-    )
+loop-cur-preserved c = (
+  chain-on _ _ _ _ _ _ _ _ _ _ _ _ _ _ _ c.loop-cur.invariant.0 c.loop-cur-test.true c.if-marks-c-ne0.false _ _ _ _ c.meet-e.ensures _
+      c.chained_fits.ensures (not-false _ c.if-not-chained_fits.false-raw) (not-false _ c.if-not-e.false) _ refl (search rules),
+  search rules,
+  c.meet-e.auto.cells ∙ c.loop-cur.invariant.2,
+  c.meet-e.auto.aside ∙ c.loop-cur.invariant.3,
+)
 
 pub returns-then-cur : goal.returns-then-cur
 returns-then-cur c = chain-astray _ _ _ _ _ _ _ _ _ _ _ _ _ _ _ c.loop-cur.invariant.0 c.loop-cur-test.false c.if-cur.true

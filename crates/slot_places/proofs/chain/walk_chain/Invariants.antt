@@ -1,12 +1,7 @@
 -- The loop's invariant: the slots from cur on lead where all lead (`Chaining`). The measure: the slots that have no mark, of which each turn marks one.
-use Prim.Native.Nat.{◌-◌}
-use mathlib.Core.Path.{◌≡◌, refl, ◌∙◌}
-use native.Mathlib.Omega.{arith}
+use mathlib.Core.Path.{◌≡◌}
 use lib.ListN.{length}
-use borrow.Author.Tests.{not-true, not-false}
-use Rattle.slot_places.proofs.ChainLaws.{Chaining, chain-start, chain-done, chain-astray, chain-twice, chain-unfit, chain-asks, chain-less}
-use Rattle.slot_places.proofs.ChainLaws.{chain-repeats, chain-on}
-use borrow.Author.Rules.{rules}
+use Rattle.slot_places.proofs.ChainLaws.{Chaining}
 use Rattle.slot_places.proofs.chain.walk_chain.Given as goal
 
 abbrev pub invariant-loop-cur : goal.invariant-loop-cur

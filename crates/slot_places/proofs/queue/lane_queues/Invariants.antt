@@ -1,15 +1,11 @@
 -- The loop's invariant: what the queues of the lanes from at on give is what all give. The measure: the lanes left.
-use Prim.Native.Nat.{ℕ, ◌+◌, ◌*◌, ◌-◌}
+use Prim.Native.Nat.{ℕ, ◌+◌, ◌*◌}
 use mathlib.Core.Bool.{Bool}
-use mathlib.Core.Path.{◌≡◌, refl, ◌∙◌}
+use mathlib.Core.Path.{◌≡◌}
 use mathlib.Core.List.{List}
-use native.Mathlib.Omega.{arith}
 use lib.ListN.{length}
-use borrow.Author.Tests.{not-true, not-false}
 use Rattle.model.specs.Layout.{lane_length}
 use Rattle.slot_places.specs.WalkSteps.{lane_steps, several, Counted, Runs}
-use Rattle.slot_places.proofs.QueueLaws.{runs-counted, several-fail, several-more, several-none}
-use borrow.Author.Rules.{rules}
 use Rattle.slot_places.proofs.queue.lane_queues.Given as goal
 
 abbrev pub invariant-loop-more : goal.invariant-loop-more

@@ -1,8 +1,6 @@
 -- The walk first, then the last, then the length.
-use native.Mathlib.Omega.{arith}
 use borrow.Author.Tests.{not-true, not-false}
-use Rattle.slot_places.proofs.QueueLaws.{queue-bad, queue-fewer, queue-wrong, queue-miscounted, queue-good}
-use borrow.Author.Rules.{rules}
+use Rattle.slot_places.proofs.QueueLaws.{queue-bad, queue-wrong, queue-miscounted, queue-good}
 use Rattle.slot_places.proofs.queue.queue.Goals as goal
 
 pub returns-then-not-w : goal.returns-then-not-w

@@ -1,9 +1,7 @@
-use Prim.Native.Nat.{◌-◌}
-use mathlib.Core.Path.{◌≡◌, refl}
+use mathlib.Core.Path.{refl}
 use native.Mathlib.Omega.{arith}
-use lib.ListN.{length}
 use borrow.Author.Tests.{not-true, not-false}
-use Rattle.slot_places.proofs.QueueLaws.{Queueing, queue-start, queue-done, queue-astray, queue-twice, queue-unfit, queue-less, queue-on}
+use Rattle.slot_places.proofs.QueueLaws.{queue-start, queue-done, queue-astray, queue-twice, queue-unfit, queue-less, queue-on}
 use borrow.Author.Rules.{rules}
 use Rattle.slot_places.proofs.queue.walk_queue.Goals as goal
 
@@ -25,12 +23,11 @@ pub loop-cur-smaller : goal.loop-cur-smaller
 loop-cur-smaller c = queue-less _ _ _ _ _ _ _ _ _ _ _ c.loop-cur.invariant.0 c.loop-cur-test.true c.if-marks-c-ne0.false
 
 pub loop-cur-preserved : goal.loop-cur-preserved
-loop-cur-preserved c =
-    (
-      queue-on _ _ _ _ _ _ _ _ _ _ _ c.loop-cur.invariant.0 c.loop-cur-test.true c.if-marks-c-ne0.false _ c.queued_fits.ensures
-          (not-false _ c.if-not-queued_fits.false-raw) _ refl,
-      search rules,
-    )
+loop-cur-preserved c = (
+  queue-on _ _ _ _ _ _ _ _ _ _ _ c.loop-cur.invariant.0 c.loop-cur-test.true c.if-marks-c-ne0.false _ c.queued_fits.ensures
+      (not-false _ c.if-not-queued_fits.false-raw) _ refl,
+  search rules,
+)
 
 pub returns-then-cur : goal.returns-then-cur
 returns-then-cur c = queue-astray _ _ _ _ _ _ _ _ _ _ _ c.loop-cur.invariant.0 c.loop-cur-test.false c.if-cur.true

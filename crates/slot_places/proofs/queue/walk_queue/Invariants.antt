@@ -1,11 +1,7 @@
 -- The loop's invariant: the slots from cur on lead where all lead, and their last and number are those of all (`Queueing`). The measure: the slots that have no mark.
-use Prim.Native.Nat.{◌-◌}
-use mathlib.Core.Path.{◌≡◌, refl}
-use native.Mathlib.Omega.{arith}
+use mathlib.Core.Path.{◌≡◌}
 use lib.ListN.{length}
-use borrow.Author.Tests.{not-true, not-false}
-use Rattle.slot_places.proofs.QueueLaws.{Queueing, queue-start, queue-done, queue-astray, queue-twice, queue-unfit, queue-less, queue-on}
-use borrow.Author.Rules.{rules}
+use Rattle.slot_places.proofs.QueueLaws.{Queueing}
 use Rattle.slot_places.proofs.queue.walk_queue.Given as goal
 
 abbrev pub invariant-loop-cur : goal.invariant-loop-cur
