@@ -1,7 +1,6 @@
 -- A number below ten is one digit; the digits of any other are those of its tenth, which the call writes, and its last digit.
 use mathlib.Core.Path.{sym, ap}
 use native.Mathlib.Omega.{arith}
-use Prim.Native.Nat.{◌<◌}
 use lib.ListN.{length}
 use Rattle.listing_text.proofs.NumberLaws.{decimal_digit, decimal-more, decimal-more-length}
 use Rattle.listing_text.proofs.BufferLaws.{puts_then, puts-byte, puts-as}

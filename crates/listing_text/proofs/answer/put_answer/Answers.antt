@@ -1,5 +1,4 @@
 -- Five numbers one after the other, each of at most eleven bytes with the byte after it.
-use borrow.Author.Rules.{rules}
 use Rattle.listing_text.proofs.BufferLaws.{puts-answer}
 use Rattle.listing_text.proofs.answer.put_answer.Goals as goal
 

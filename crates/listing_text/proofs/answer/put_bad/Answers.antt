@@ -1,7 +1,4 @@
 -- Four stores, one after the other.
-use borrow.Author.Rules.{rules}
-use native.Mathlib.Omega.{arith}
-use lib.ListN.{length-set}
 use Rattle.listing_text.proofs.BufferLaws.{puts-bad}
 use Rattle.listing_text.proofs.answer.put_bad.Goals as goal
 

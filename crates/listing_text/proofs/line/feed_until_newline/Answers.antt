@@ -1,8 +1,5 @@
-use Prim.Native.Nat.{◌-◌}
-use native.Mathlib.Omega.{arith}
 use borrow.Author.Rules.{rules}
-use lib.ListN.{length}
-use Rattle.listing_text.proofs.BlockLaws.{PartFed, part-start, part-more, part-newline, part_end}
+use Rattle.listing_text.proofs.BlockLaws.{part-more, part-newline, part_end}
 use Rattle.listing_text.proofs.line.feed_until_newline.Goals as goal
 
 pub returns-then-byte-eq-NEWLINE : goal.returns-then-byte-eq-NEWLINE

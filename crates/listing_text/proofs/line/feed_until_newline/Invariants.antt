@@ -1,10 +1,8 @@
 -- The loop's invariant: the rest of the block makes of the line what the whole part makes of it. The
 -- measure is what is left of the block.
 use Prim.Native.Nat.{◌-◌}
-use native.Mathlib.Omega.{arith}
-use borrow.Author.Rules.{rules}
 use lib.ListN.{length}
-use Rattle.listing_text.proofs.BlockLaws.{PartFed, part-start, part-more, part-newline, part_end}
+use Rattle.listing_text.proofs.BlockLaws.{PartFed}
 use Rattle.listing_text.proofs.line.feed_until_newline.Given as goal
 
 abbrev pub invariant-loop-i : goal.invariant-loop-i

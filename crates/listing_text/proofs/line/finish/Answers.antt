@@ -1,5 +1,4 @@
 -- The last word has its end, and what the line asks for then is what `parsed` says.
-use borrow.Author.Rules.{rules}
 use mathlib.Core.Path.{sym, ◌∙◌}
 use Rattle.listing_text.specs.LineReading.{parsed_of}
 use Rattle.listing_text.proofs.LineLaws.{finishes, finished-bad, finished-whole}

@@ -1,12 +1,7 @@
 -- The loop's invariant: each number passed is below its limit. The measure is how many are left.
 use Prim.Native.Nat.{ℕ, ◌≤◌, ◌<◌, ◌-◌}
-use native.Mathlib.Omega.{arith}
-use borrow.Author.Rules.{rules}
-use borrow.Author.Count.{below_more}
-use mathlib.Core.Path.{◌≡◌}
-use lib.ListN.{length, get_or}
+use lib.ListN.{get_or}
 use Rattle.listing_text.specs.Machine.{limits_of}
-use Rattle.listing_text.proofs.LimitLaws.{within-other, within-below, within-above}
 use Rattle.listing_text.proofs.line.fits.Given as goal
 
 abbrev pub invariant-loop-i : goal.invariant-loop-i
