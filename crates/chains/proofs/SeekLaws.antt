@@ -1,7 +1,7 @@
 -- `seek`: what it finds at each step, as the loop of `find` meets it, and what it finds in a chain.
 use Prim.Native.Nat.{ℕ, zero, suc, ◌-◌, ◌<◌, ◌≤◌}
-use mathlib.Core.Bool.{cond}
-use mathlib.Core.Path.{◌≡◌, refl, ap, sym, ◌∙◌}
+use mathlib.Core.Bool.{Bool, cond}
+use mathlib.Core.Path.{◌≡◌, refl, ap, sym, ◌∙◌, subst}
 use mathlib.Core.Logic.{◌≢◌}
 use mathlib.Core.List.{List, [], ◌∷◌}
 use native.Mathlib.Omega.{arith}
@@ -85,5 +85,7 @@ module _ (ps : List Product) (c : ℕ) where
         | same e t u ↦ rw t (rw (eqb-self x))
         | other e t u ↦
             let k : slot_in ps c xs ≢ none = λ q. n (rw t q) in
-            rw t (rw (ne_eqb x (slot_in ps c xs) (λ q. e (ap (λ (y : ℕ). (product_at ps y).code) q ∙ slot_in-code xs k))) (before_code-slot_in xs x k))
+            let on : slot_in ps c (x ∷ xs) ≡ slot_in ps c xs = ap (λ (b : Bool). cond b x (slot_in ps c xs)) t in
+            subst (λ (z : ℕ). before_code ps c (x ∷ xs) p ≡ before_in z (x ∷ xs) p) (sym on)
+            (rw t (rw (ne_eqb x (slot_in ps c xs) (λ q. e (ap (λ (y : ℕ). (product_at ps y).code) q ∙ slot_in-code xs k))) (before_code-slot_in xs x k)))
       ]

@@ -1,6 +1,6 @@
 -- What a search for a code finds in a list of slots.
 use Prim.Native.Nat.{ℕ, ◌+◌, ◌<◌}
-use mathlib.Core.Path.{◌≡◌, refl, ap, sym, ◌∙◌}
+use mathlib.Core.Path.{◌≡◌, refl, ap, sym, ◌∙◌, subst}
 use mathlib.Core.Logic.{◌≢◌}
 use mathlib.Core.Bool.{Bool, cond}
 use mathlib.Core.List.{List, [], ◌∷◌}
@@ -33,7 +33,9 @@ module _ (ps : List Product) (c : ℕ) where
   slot_in-in (x ∷ xs) n =
       elim (decide (code_in x) c) [
         | same e u v ↦ rw u (omega (arith, count-self x xs))
-        | other e u v ↦ rw u (omega (arith, slot_in-in xs (λ q. n (rw u q))))
+        | other e u v ↦
+            let on : slot_in ps c (x ∷ xs) ≡ slot_in ps c xs = ap (λ (b : Bool). cond b x (slot_in ps c xs)) u in
+            subst (λ (z : ℕ). 0 < count z (x ∷ xs)) (sym on) (omega (arith, slot_in-in xs (λ q. n (rw u q))))
       ]
 
   -- a slot of the list that holds the code is found

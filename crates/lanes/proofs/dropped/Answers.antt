@@ -1,0 +1,8 @@
+-- The record as it was, with the bit cleared that `clear_bit` clears and four zeros.
+use Rattle.std.proofs.Common.{ℕ, [], ◌∷◌, ap, rules}
+use Rattle.lanes.specs.Record.{with_snapshot, dropped_record}
+use Rattle.lanes.proofs.dropped.Goals as goal
+
+pub returns : goal.returns
+unfolding dropped_record
+returns c = ap (λ (w : ℕ). with_snapshot w (0 ∷ 0 ∷ 0 ∷ 0 ∷ []) c.args.r) c.clear_bit.ensures
