@@ -12,9 +12,6 @@ use std::io::Read;
 use std::process::ExitCode;
 use std::{env, io};
 
-// How many words are lent.
-const WORDS: usize = 16000;
-
 // Where an error's number begins in its text.
 const NUMBER: &str = " (os error ";
 
@@ -38,10 +35,9 @@ fn fail(rt: &HostRuntime, name: &str, error: io::Error) -> ExitCode {
     ExitCode::FAILURE
 }
 
-// Answers what is read, on words that are 0 at first.
+// Answers what is read.
 fn serve_from<R: Read>(rt: &HostRuntime, name: &str, from: &mut R) -> ExitCode {
-    let mut memory = [0u32; WORDS];
-    match serve::serve_all(from, &mut rt.stdout(), &mut memory) {
+    match serve::serve(from, &mut rt.stdout()) {
         Ok(()) => ExitCode::SUCCESS,
         Err(Failure::Read(error)) => fail(rt, name, error),
         Err(Failure::Write(error)) => fail(rt, "standard output", error),
