@@ -137,11 +137,3 @@ pub fn legal(m: &[u32]) -> bool
     }
     table_fits(m)
 }
-
-// The same for C.
-#[unsafe(no_mangle)]
-pub extern "C" fn pt_legal(m: &[u32]) -> bool
-    ensures { result ≡ is_legal m.now }
-{
-    legal(m)
-}

@@ -1,4 +1,4 @@
-// The static library: the functions for C, as include/product_table.h declares them. A slice is a pointer and a length.
+// The functions for C, as include/product_table.h declares them; the crate `product_table_c` exports them.
 #![tactic(auto)]
 
 ghost use Rattle.std.specs.Prelude.{◌≡◌, ◌++◌, ◌≤◌, length, drop};
@@ -41,8 +41,7 @@ fn answer_call(memory: &mut [u32], answer: &mut [u32], k: Call) -> u32
 }
 
 // An empty table in lent memory.
-#[unsafe(no_mangle)]
-pub extern "C" fn pt_setup(
+pub fn pt_setup(
     memory: &mut [u32],
     answer: &mut [u32],
     yards: u32,
@@ -56,8 +55,7 @@ pub extern "C" fn pt_setup(
 }
 
 // Enters a record for a code that has none.
-#[unsafe(no_mangle)]
-pub extern "C" fn pt_add(
+pub fn pt_add(
     memory: &mut [u32],
     answer: &mut [u32],
     lane: u32,
@@ -75,8 +73,7 @@ pub extern "C" fn pt_add(
 }
 
 // A new record in the place of a code's old one.
-#[unsafe(no_mangle)]
-pub extern "C" fn pt_replace(
+pub fn pt_replace(
     memory: &mut [u32],
     answer: &mut [u32],
     lane: u32,
@@ -94,88 +91,77 @@ pub extern "C" fn pt_replace(
 }
 
 // Removes the record of a code.
-#[unsafe(no_mangle)]
-pub extern "C" fn pt_delete(memory: &mut [u32], answer: &mut [u32], lane: u32, code: u64) -> u32
+pub fn pt_delete(memory: &mut [u32], answer: &mut [u32], lane: u32, code: u64) -> u32
     ensures { Called (on_state (delete lane code)) memory.old answer.old memory.new answer.new result }
 {
     answer_call(memory, answer, Call::OnState(Op::Delete(lane, code)))
 }
 
 // Begins a read-side section.
-#[unsafe(no_mangle)]
-pub extern "C" fn pt_begin(memory: &mut [u32], answer: &mut [u32], lane: u32) -> u32
+pub fn pt_begin(memory: &mut [u32], answer: &mut [u32], lane: u32) -> u32
     ensures { Called (on_state (begin lane)) memory.old answer.old memory.new answer.new result }
 {
     answer_call(memory, answer, Call::OnState(Op::Begin(lane)))
 }
 
 // Ends the lane's read-side section.
-#[unsafe(no_mangle)]
-pub extern "C" fn pt_end(memory: &mut [u32], answer: &mut [u32], lane: u32) -> u32
+pub fn pt_end(memory: &mut [u32], answer: &mut [u32], lane: u32) -> u32
     ensures { Called (on_state (end lane)) memory.old answer.old memory.new answer.new result }
 {
     answer_call(memory, answer, Call::OnState(Op::End(lane)))
 }
 
 // Starts a lookup.
-#[unsafe(no_mangle)]
-pub extern "C" fn pt_start(memory: &mut [u32], answer: &mut [u32], lane: u32, code: u64) -> u32
+pub fn pt_start(memory: &mut [u32], answer: &mut [u32], lane: u32, code: u64) -> u32
     ensures { Called (on_state (start lane code)) memory.old answer.old memory.new answer.new result }
 {
     answer_call(memory, answer, Call::OnState(Op::Start(lane, code)))
 }
 
 // One step of the lane's lookup.
-#[unsafe(no_mangle)]
-pub extern "C" fn pt_step(memory: &mut [u32], answer: &mut [u32], lane: u32) -> u32
+pub fn pt_step(memory: &mut [u32], answer: &mut [u32], lane: u32) -> u32
     ensures { Called (on_state (step lane)) memory.old answer.old memory.new answer.new result }
 {
     answer_call(memory, answer, Call::OnState(Op::Step(lane)))
 }
 
 // A quiescent state of the lane.
-#[unsafe(no_mangle)]
-pub extern "C" fn pt_pass(memory: &mut [u32], answer: &mut [u32], lane: u32, kind: u32) -> u32
+pub fn pt_pass(memory: &mut [u32], answer: &mut [u32], lane: u32, kind: u32) -> u32
     ensures { Called (on_state (pass lane kind)) memory.old answer.old memory.new answer.new result }
 {
     answer_call(memory, answer, Call::OnState(Op::Pass(lane, kind)))
 }
 
 // Drives grace periods on from one lane.
-#[unsafe(no_mangle)]
-pub extern "C" fn pt_clock(memory: &mut [u32], answer: &mut [u32], lane: u32) -> u32
+pub fn pt_clock(memory: &mut [u32], answer: &mut [u32], lane: u32) -> u32
     ensures { Called (on_state (clock lane)) memory.old answer.old memory.new answer.new result }
 {
     answer_call(memory, answer, Call::OnState(Op::Clock(lane)))
 }
 
 // Puts a lane online.
-#[unsafe(no_mangle)]
-pub extern "C" fn pt_on(memory: &mut [u32], answer: &mut [u32], lane: u32) -> u32
+pub fn pt_on(memory: &mut [u32], answer: &mut [u32], lane: u32) -> u32
     ensures { Called (on_state (on lane)) memory.old answer.old memory.new answer.new result }
 {
     answer_call(memory, answer, Call::OnState(Op::On(lane)))
 }
 
 // Puts a lane offline.
-#[unsafe(no_mangle)]
-pub extern "C" fn pt_off(memory: &mut [u32], answer: &mut [u32], lane: u32) -> u32
+pub fn pt_off(memory: &mut [u32], answer: &mut [u32], lane: u32) -> u32
     ensures { Called (on_state (off lane)) memory.old answer.old memory.new answer.new result }
 {
     answer_call(memory, answer, Call::OnState(Op::Off(lane)))
 }
 
 // Reclaims one retired slot.
-#[unsafe(no_mangle)]
-pub extern "C" fn pt_hand_back(memory: &mut [u32], answer: &mut [u32], lane: u32) -> u32
+pub fn pt_hand_back(memory: &mut [u32], answer: &mut [u32], lane: u32) -> u32
     ensures { Called (on_state (hand_back lane)) memory.old answer.old memory.new answer.new result }
 {
     answer_call(memory, answer, Call::OnState(Op::HandBack(lane)))
 }
 
 // Counts the pending lanes, the free slots and the retired ones.
-#[unsafe(no_mangle)]
-pub extern "C" fn pt_awaited(memory: &mut [u32], answer: &mut [u32]) -> u32
+pub fn pt_awaited(memory: &mut [u32], answer: &mut [u32]) -> u32
     ensures { Called (on_state awaited) memory.old answer.old memory.new answer.new result }
 {
     answer_call(memory, answer, Call::OnState(Op::Awaited))
@@ -184,8 +170,7 @@ pub extern "C" fn pt_awaited(memory: &mut [u32], answer: &mut [u32]) -> u32
 // ---- labels: no memory, and no call of a list
 
 // The code of a label.
-#[unsafe(no_mangle)]
-pub extern "C" fn pt_label_read(text: &[u8], answer: &mut [u32]) -> u32
+pub fn pt_label_read(text: &[u8], answer: &mut [u32]) -> u32
     ensures { LabelRead text.now answer.old answer.new result }
 {
     if answer.len() < ANSWER_LENGTH {
@@ -197,8 +182,7 @@ pub extern "C" fn pt_label_read(text: &[u8], answer: &mut [u32]) -> u32
 }
 
 // The shortest label of a code.
-#[unsafe(no_mangle)]
-pub extern "C" fn pt_label_write(text: &mut [u8], answer: &mut [u32], code: u64) -> u32
+pub fn pt_label_write(text: &mut [u8], answer: &mut [u32], code: u64) -> u32
     ensures { LabelWritten code text.old answer.old text.new answer.new result }
 {
     if answer.len() < ANSWER_LENGTH {

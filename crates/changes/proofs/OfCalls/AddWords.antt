@@ -26,7 +26,7 @@ use Rattle.changes.proofs.OfQueues.QueueTakes.{take-first}
 use Rattle.changes.proofs.OfQueues.QueueShapes.{shape-take, taken_out, taken-inside}
 use Rattle.changes.proofs.OfChains.ChainStates.{head_added, chain_swapped}
 use Rattle.changes.proofs.OfChains.ChainLinks.{old-inside}
-use Rattle.changes.proofs.OfChains.ChainChanges.{put_in_place, link-at-head}
+use Rattle.changes.proofs.OfChains.ChainChanges.{put_in_place_lem, link-at-head}
 use Rattle.changes.proofs.OfChains.Products.{write-product}
 use Rattle.changes.proofs.OfChains.Find.{slot-in-chain, find-present}
 use Rattle.changes.proofs.OfChains.ChainShapes.{shape-product, shape-put, put-out}
@@ -111,7 +111,7 @@ module _ (s : State) (m : List ℕ) (shows : Shows m s) (shape : Shape s) where
       put : put_words x found ≡ stored swap m
       put =
           stored-then filled swap m (filled_words z m x c d t) (put_words x found) refl filled-words
-          (put_in_place filled (filled_words z m x c d t) filled-shows shape-filled (chain_number c) old k-below old-in x x-inside (omega (arith, x-out)))
+          (put_in_place_lem filled (filled_words z m x c d t) filled-shows shape-filled (chain_number c) old k-below old-in x x-inside (omega (arith, x-out)))
 
       replaced-at : replaced_words z m i x c d t found ≡ stored (performed s (replace i c d t)) m
       replaced-at =

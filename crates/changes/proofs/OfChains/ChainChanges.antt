@@ -124,9 +124,9 @@ module _ (s : State) (m : List ℕ) (shows : Shows m s) where
       abbrev given : ℕ → ℕ
       given j = cond (eqb j n) next (link_of s.table j)
 
-      pub put_in_place : put_in_place m z (heads_at + k) o (before s w k o below in_chain) n ≡ stored (chain_swapped k o n s) m
+      pub put_in_place_lem : put_in_place m z (heads_at + k) o (before s w k o below in_chain) n ≡ stored (chain_swapped k o n s) m
       unfolding slot_words
-      put_in_place =
+      put_in_place_lem =
           rw (link-shown o inside-o)
           (pointed-state w k o below in_chain (set m (link_address z n) next) given n (update s.table.chains k (swapped o n)) kept
           (writes-alike (linked chain_link_at given (value s)) (λ f b. sym (linked-put-one z chain_link_at given (value s) n next (λ j i. refl) f b))

@@ -1,0 +1,12 @@
+-- The sizes are read from the contents, and the address is that of the layout.
+use native.Mathlib.Omega.{arith}
+use Rattle.access.proofs.Ways.{long}
+use Rattle.access.proofs.LaneLaws.{few-read, named_by}
+use borrow.Author.Rules.{rules}
+use Rattle.access.proofs.lane_at.Goals as goal
+
+pub read_sizes-sizes-requires : goal.read_sizes-sizes-requires
+read_sizes-sizes-requires c = omega (arith, long _ c.requires)
+
+pub lane_address-address-requires : goal.lane_address-address-requires
+lane_address-address-requires c = search (rules, few-read)

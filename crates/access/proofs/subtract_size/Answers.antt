@@ -1,0 +1,14 @@
+use Prim.Native.Nat.{◌-◌}
+use native.Mathlib.Omega.{arith}
+use Rattle.laws.specs.Subtractions.{Subtracting, subtracting-start, subtracting-on, subtracting-most, subtracting-below}
+use Rattle.access.specs.Lanes.{most_subtractions}
+use Rattle.access.proofs.subtract_size.Goals as goal
+
+pub returns-then-left-size : goal.returns-then-left-size
+returns-then-left-size c = subtracting-below _ _ _ _ _ c.loop-times.invariant (omega (arith, c.if-left-size.true))
+
+pub loop-times-preserved : goal.loop-times-preserved
+loop-times-preserved c = subtracting-on _ _ _ _ _ c.loop-times.invariant (omega (arith, c.loop-times-test.true)) (omega (arith, c.if-left-size.false))
+
+pub returns : goal.returns
+returns c = subtracting-most _ _ _ _ _ c.loop-times.invariant (omega (arith, c.loop-times-test.false))

@@ -1,0 +1,16 @@
+-- The loop's invariant: the bytes from i on decide. The measure: the bytes left.
+use Prim.Native.Nat.{◌-◌, ◌≤◌}
+use mathlib.Core.Path.{◌≡◌, refl}
+use native.Mathlib.Omega.{arith}
+use lib.ListN.{length, drop}
+use Rattle.model.specs.Lists.{any}
+use Rattle.model.specs.Labels.{no_digit}
+use Rattle.laws.specs.Loops.{any_found, any_next, any_none}
+use borrow.Author.Rules.{rules}
+use Rattle.labels.proofs.has_other_byte.Given as goal
+
+abbrev pub invariant-loop-i : goal.invariant-loop-i
+invariant-loop-i l = (l.i ≤ length l.text) × (any no_digit (drop l.i l.text) ≡ any no_digit l.text)
+
+abbrev pub decreases-loop-i : goal.decreases-loop-i
+decreases-loop-i l = length l.text - l.i

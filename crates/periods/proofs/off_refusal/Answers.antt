@@ -1,0 +1,28 @@
+-- The tests of `off_refusal` are the causes of its call, in their order.
+use Rattle.model.specs.Rules.{causes}
+use Rattle.access.proofs.Refusals.{refusals}
+use Rattle.access.proofs.LaneLaws.{lane_in}
+use borrow.Author.Rules.{rules}
+use Rattle.periods.proofs.off_refusal.Goals as goal
+
+pub returns-then-n-gt0 : goal.returns-then-n-gt0
+unfolding causes
+returns-then-n-gt0 c = search (rules, refusals) depth 12 fits 9000
+
+pub is_reading-requires : goal.is_reading-requires
+is_reading-requires c = search (rules, lane_in)
+
+pub returns-then-is_reading : goal.returns-then-is_reading
+unfolding causes
+returns-then-is_reading c = search (rules, refusals) depth 12 fits 9000
+
+pub another_online-requires : goal.another_online-requires
+another_online-requires c = search (rules, lane_in)
+
+pub returns-then-not-another_online : goal.returns-then-not-another_online
+unfolding causes
+returns-then-not-another_online c = search (rules, refusals) depth 12 fits 9000
+
+pub returns : goal.returns
+unfolding causes
+returns c = search (rules, refusals) depth 12 fits 9000

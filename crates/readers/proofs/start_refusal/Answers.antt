@@ -1,0 +1,32 @@
+-- The tests of `start_refusal` are the causes of its call, in their order.
+use Rattle.model.specs.Rules.{causes}
+use Rattle.access.proofs.Refusals.{refusals}
+use Rattle.access.proofs.LaneLaws.{lane_in}
+use borrow.Author.Rules.{rules}
+use Rattle.readers.proofs.start_refusal.Goals as goal
+
+pub returns-then-n-gt0 : goal.returns-then-n-gt0
+unfolding causes
+returns-then-n-gt0 c = search (rules, refusals) depth 12 fits 9000
+
+pub is_reading-requires : goal.is_reading-requires
+is_reading-requires c = search (rules, lane_in)
+
+pub returns-then-not-is_reading : goal.returns-then-not-is_reading
+unfolding causes
+returns-then-not-is_reading c = search (rules, refusals) depth 12 fits 9000
+
+pub is_running-requires : goal.is_running-requires
+is_running-requires c = search (rules, lane_in)
+
+pub returns-then-is_running : goal.returns-then-is_running
+unfolding causes
+returns-then-is_running c = search (rules, refusals) depth 12 fits 9000
+
+pub returns-then-wrong_code : goal.returns-then-wrong_code
+unfolding causes
+returns-then-wrong_code c = search (rules, refusals) depth 12 fits 9000
+
+pub returns : goal.returns
+unfolding causes
+returns c = search (rules, refusals) depth 12 fits 9000

@@ -1,0 +1,25 @@
+use Prim.Native.Nat.{ℕ, ◌+◌, ◌*◌, ◌-◌, ◌≤◌}
+use mathlib.Core.Path.{◌≡◌, refl, ap, ◌∙◌}
+use native.Mathlib.Omega.{arith}
+use lib.ListN.{length}
+use borrow.Author.Rules.{rules}
+use Rattle.model.specs.Lists.{concat_map, from}
+use Rattle.set_up.specs.Written.{Written, rows}
+use Rattle.set_up.proofs.WrittenLaws.{nothing, after, renamed, rows-suc, length-rows}
+use Rattle.model.specs.Layout.{lane_length}
+use Rattle.set_up.specs.FreshWords.{fresh_lane_words}
+use Rattle.set_up.proofs.FreshLaws.{length-lane}
+use Rattle.set_up.proofs.write_lanes.Goals as goal
+
+pub loop-i-init : goal.loop-i-init
+unfolding concat_map from
+loop-i-init c = (omega arith, refl, omega arith, nothing _ _)
+
+pub loop-i-preserved : goal.loop-i-preserved
+unfolding fresh_lane_words
+loop-i-preserved c =
+    let a = c.args in
+    let l = c.loop-i in
+    let e : l.at ≡ a.first + length (rows fresh_lane_words l.i) = omega (arith, length-rows fresh_lane_words lane_length l.i length-lane) in
+    let run = renamed (after l.invariant.3 c.write_lane.ensures e) (rows-suc fresh_lane_words l.i) in
+    (omega arith, c.write_lane.auto.m ∙ l.invariant.1, omega arith, run)
