@@ -78,8 +78,8 @@ serving-none m block u held e =
     }
 
 -- a place further on
-served-more : {m block m₁ xs m₂ ys : List ℕ} {v : Unended} {i : ℕ} {b : Place} (p : List ℕ) → Goes m₁ block xs (record { unended = v; next = i; end = 0 }) m₂ ys b
-    → Served m p (slice 0 i block) m₁ v
+served-more : {m block m₁ xs m₂ ys : List ℕ} {v : Unended} {i : ℕ} {b : Place} (p : List ℕ)
+    → Goes m₁ block xs (record { unended = v; next = i; end = 0 }) m₂ ys b → Served m p (slice 0 i block) m₁ v
     → Answers m₁ xs 0 (unended p (slice 0 i block)) (slice i b.next block) m₂ ys b
     → Served m p (slice 0 b.next block) m₂ b.unended
 served-more {m} {block} {i = i} {b = b} p g x y =
@@ -105,7 +105,8 @@ serving-more {m} {block} {m₁} {xs} {m₂} {ys} {u} {held} {held₁} {held₂} 
       words = k ∙ s.words;
     }
   where
-    lines : (p : List ℕ) → ended p (slice 0 b.next block) ≡ ended p (slice 0 a.next block) ++ ended (unended p (slice 0 a.next block)) (slice a.next b.next block)
+    lines : (p : List ℕ)
+        → ended p (slice 0 b.next block) ≡ ended p (slice 0 a.next block) ++ ended (unended p (slice 0 a.next block)) (slice a.next b.next block)
     lines p =
         ap (ended p) (slice-slice 0 a.next b.next block (omega arith) g.on g.inside) ∙ ended-append p (slice 0 a.next block) (slice a.next b.next block)
 

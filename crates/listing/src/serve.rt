@@ -1,6 +1,7 @@
 // What is read, block by block, to what is written: a block is answered before the next one is read.
 ghost use Rattle.std.specs.Prelude.{OnOk, OnErr, IfOk};
-ghost use Rattle.listing.specs.ProgramContract.{ServesBlock, WritesBlock, ServesPart, EndsInput, WritesEnd, ServesSome, ServedPart, ServesInput, ServesListing, IsUntouched, IfUnread};
+ghost use Rattle.listing.specs.ProgramContract.{ServesBlock, WritesBlock, ServesPart, EndsInput, WritesEnd};
+ghost use Rattle.listing.specs.ProgramContract.{ServesSome, ServedPart, ServesInput, ServesListing, IsUntouched, IfUnread};
 
 use crate::answers;
 use crate::answers::{LONGEST, Place, Unended};
