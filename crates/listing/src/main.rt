@@ -12,6 +12,9 @@ use std::io::Read;
 use std::process::ExitCode;
 use std::{env, io};
 
+// The status where the arguments are wrong.
+const MISUSED: u8 = 2;
+
 // Where an error's number begins in its text.
 const NUMBER: &str = " (os error ";
 
@@ -57,7 +60,7 @@ fn serve_args(rt: &HostRuntime, mut args: Args) -> ExitCode {
     let path = args.next();
     if args.next().is_some() {
         let _ = eprintln!(rt; "usage: listing [FILE]");
-        return ExitCode::FAILURE;
+        return ExitCode::from(MISUSED);
     }
     match path {
         Some(path) => serve_file(rt, path.as_str()),
