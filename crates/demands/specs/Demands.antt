@@ -110,7 +110,7 @@ state_after s (on_state k ∷ ks) = state_after (next s k) ks
 
 pub record Demand2 : Type 0 where
   pub calls : (k : Op) (m a n b : List ℕ) (s : ℕ) → Called (on_state k) m a n b s → answer_length ≤ length a → Sound m → FollowsRules k m a n b s
-  pub set_up : (z : Sizes) (m a n b : List ℕ) → Called (set_up z) m a n b 0 → Words m → SetsUp z m n
+  pub setting_up : (z : Sizes) (m a n b : List ℕ) → Called (set_up z) m a n b 0 → Words m → SetsUp z m n
   -- over a list from an accepted set-up on, the memory is legal and stands for the state after the calls
   pub list : (z : Sizes) (m a m₀ b : List ℕ) → Called (set_up z) m a m₀ b 0 → Words m → (xs : List Run) → Ran m₀ xs → NoSetUps xs
       → Sound (last_memory m₀ xs) × (state (last_memory m₀ xs) ≡ state_after (fresh z) (calls_of xs))

@@ -98,7 +98,7 @@ state-listed z m a m₀ b h w xs ran ups =
     rw (ran-left m₀ xs ran) (v, e ∙ ap (λ (s : State). state_after s (calls_of xs)) u.state)
 
 pub demand2 : Demand2
-demand2 = record { calls = follows-rules; set_up = sets-up; list = state-listed; one_to_one = one-to-one }
+demand2 = record { calls = follows-rules; setting_up = sets-up; list = state-listed; one_to_one = one-to-one }
 
 -- ---- demand 3
 
