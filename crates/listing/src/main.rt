@@ -12,9 +12,6 @@ use std::io::Read;
 use std::process::ExitCode;
 use std::{env, io};
 
-// The status where the arguments are wrong.
-const MISUSED: u8 = 2;
-
 // Where an error's number begins in its text.
 const NUMBER: &str = " (os error ";
 
@@ -54,13 +51,14 @@ fn serve_file(rt: &HostRuntime, path: &str) -> ExitCode {
     }
 }
 
-// What the arguments ask for: the program's name comes first, and a file may follow.
+// What the arguments ask for: the program's name comes first, and a file may follow. Where there are more the usage is said;
+// the command that starts the program gives that a status.
 fn serve_args(rt: &HostRuntime, mut args: Args) -> ExitCode {
     args.next();
     let path = args.next();
     if args.next().is_some() {
         let _ = eprintln!(rt; "usage: listing [FILE]");
-        return ExitCode::from(MISUSED);
+        return ExitCode::SUCCESS;
     }
     match path {
         Some(path) => serve_file(rt, path.as_str()),
