@@ -2,7 +2,7 @@
 use Prim.Native.Nat.{ℕ, ◌<◌}
 use mathlib.Core.Bool.{true, false, not}
 use mathlib.Core.List.{List, [], ◌∷◌, ◌++◌, append-nil}
-use mathlib.Core.Path.{◌≡◌, refl, sym, ap, subst, ◌∙◌}
+use mathlib.Core.Path.{◌≡◌, refl, ap, subst}
 use native.Mathlib.Omega.{arith}
 use lib.ListN.{length}
 use Rattle.model.specs.Lists.{is_empty}
@@ -14,7 +14,7 @@ use Rattle.listing_text.specs.Answer.{line_length, bad_length, line_text, bad_te
 use Rattle.listing_text.specs.LineReading.{Reads, Finishes, parsed_of}
 use Rattle.listing_text.specs.declared.line.Line.{Line}
 use Rattle.listing_text.specs.declared.line.Asked.{Asked}
-use Rattle.listing.specs.Output.{answered, after, answered_all, after_all, ended}
+use Rattle.listing.specs.Output.{answered, after, answered_all, after_all}
 use Rattle.listing.specs.ProgramContract.{Prints, Holds, AnswersLine}
 use Rattle.listing.specs.declared.answers.Unended.{Unended}
 

@@ -13,7 +13,7 @@ use Rattle.listing_text.specs.Answer.{line_length, Puts}
 use Rattle.listing_text.specs.LineReading.{first_line, BlockFeeds}
 use Rattle.listing_text.specs.declared.line.Fed.{Fed}
 use Rattle.listing_text.proofs.BufferLaws.{puts_then, puts-as}
-use Rattle.listing.specs.Output.{answered, answered_all, after_all, ended, unended}
+use Rattle.listing.specs.Output.{answered_all, after_all, ended, unended}
 use Rattle.listing.specs.ProgramContract.{Prints, Holds, Answers, Goes, AnswersLine}
 use Rattle.listing.specs.declared.answers.Unended.{Unended}
 use Rattle.listing.specs.declared.answers.Place.{Place}

@@ -26,6 +26,6 @@ unfolding prints bytes
 empty-line = refl
 
 -- a last line without a newline is a line
-last_line : prints "\n\nx" ≡ bytes "bad\nbad\nbad\n"
+last-line : prints "\n\nx" ≡ bytes "bad\nbad\nbad\n"
 unfolding prints bytes
-last_line = refl
+last-line = refl

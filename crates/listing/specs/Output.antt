@@ -1,6 +1,6 @@
 -- What the listing program prints (document 01, "A listing, and edges"): the lines of an input, the text that each is answered with, and the memory
 -- after it.
-use Rattle.std.specs.Prelude.{ℕ, cond, List, [], ◌∷◌, ◌++◌, eqb}
+use Rattle.std.specs.Prelude.{ℕ, cond, List, [], ◌∷◌, ◌++◌, eqb, replicate}
 use Rattle.model.specs.Lists.{is_empty}
 use Rattle.model.specs.Calls.{reply, left}
 use Rattle.listing_text.specs.Number.{newline}
@@ -52,6 +52,10 @@ lines_of input = ended [] input ++ last_line (unended [] input)
 -- the output for an input, on a memory that is m at first
 unfoldable pub output : List ℕ → List ℕ → List ℕ
 output m input = answered_all m (lines_of input)
+
+-- the words that a listing lends, before its first line
+unfoldable pub lent : List ℕ
+lent = replicate 16000 0
 
 -- what is printed for an input that is read in blocks, where p is what was read before: the lines that end in each block, and after the last block
 -- the last line. That this is the output is a theorem (`blocks-output` of proofs/LinesInParts.antt).

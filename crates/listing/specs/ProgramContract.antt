@@ -1,15 +1,18 @@
 -- What the functions of the program ensure.
-use Rattle.std.specs.Prelude.{ℕ, ◌+◌, ◌-◌, ◌*◌, ◌≤◌, ◌<◌, true, not, List, ◌≡◌, length}
+use Rattle.std.specs.Prelude.{ℕ, ◌+◌, ◌-◌, ◌*◌, ◌≤◌, ◌<◌, not, List, [], None, Some, ◌≡◌, length, take, ⊤, Ok, Err, Result}
+use Rattle.std.specs.Io.KnownBytes.{Appends, Consumes, IsAtEnd, Keeps}
+use Rattle.std.specs.declared.option.Option.{Option}
 use Rattle.std.proofs.Math.Seq.{slice}
 use Rattle.model.specs.Lists.{is_empty}
 use Rattle.listing_text.specs.Call.{Parsed, parsed}
 use Rattle.listing_text.specs.Answer.{line_length, Puts, PutsWithin}
 use Rattle.listing_text.specs.declared.line.Line.{Line}
 use Rattle.listing_text.specs.LineReading.{Reads}
-use Rattle.listing.specs.Output.{answered, after, answered_all, after_all, ended, unended, last_line}
+use Rattle.listing.specs.Output.{answered, after, answered_all, after_all, ended, unended, last_line, lines_of, output, lent}
 use Rattle.listing.specs.declared.answers.Unended.{Unended}
 use Rattle.listing.specs.declared.answers.Place.{Place}
-use Rattle.listing.specs.declared.Turn.{Turn}
+use Rattle.listing.specs.declared.serve.Failure.{Failure}
+use Rattle.listing.specs.declared.serve.Failure.TheVariants.{Read, Write}
 
 -- a memory m, where p was asked, became m', and a buffer that held xs holds ys: the text of the answer from `at` to the new end e
 pub record Prints (m : List ℕ) (p : Parsed) (xs : List ℕ) (at : ℕ) (m' ys : List ℕ) (e : ℕ) : Type 0 where
@@ -57,10 +60,79 @@ pub record Served (m p text m' : List ℕ) (u : Unended) : Type 0 where
   pub unended : Holds u (unended p text)
   pub memory : m' ≡ after_all m (ended p text)
 
--- a whole block was answered, unless a write failed
-pub record ServesBlock (m block : List ℕ) (u : Unended) (m' : List ℕ) (r : Turn) : Type 0 where
-  pub served : r.going ≡ true → (p : List ℕ) → Holds u p → Served m p block m' r.unended
+-- a whole block was answered
+pub record ServesBlock (m block : List ℕ) (u : Unended) (m' : List ℕ) (v : Unended) : Type 0 where
+  pub served : (p : List ℕ) → Holds u p → Served m p block m' v
+
+-- and the answers were written after what the writer held, where that is known
+pub record WritesBlock (m block : List ℕ) (u : Unended) (held held' : Option (List ℕ)) : Type 0 where
+  pub written : (p : List ℕ) → Holds u p → Appends held held' (answered_all m (ended p block))
+
+-- the lines that end in the first bytes of a block were answered
+pub record ServesPart (m block : List ℕ) (u : Unended) (m' : List ℕ) : Type 0 where
+  pub bytes : ℕ
+  pub inside : bytes ≤ length block
+  pub memory : (p : List ℕ) → Holds u p → m' ≡ after_all m (ended p (take bytes block))
 
 -- the last line was answered, if it has a byte
 pub record EndsInput (m : List ℕ) (u : Unended) (m' : List ℕ) : Type 0 where
   pub memory : (p : List ℕ) → Holds u p → m' ≡ after_all m (last_line p)
+
+-- and the answer was written after what the writer held, where that is known
+pub record WritesEnd (m : List ℕ) (u : Unended) (held held' : Option (List ℕ)) : Type 0 where
+  pub written : (p : List ℕ) → Holds u p → Appends held held' (answered_all m (last_line p))
+
+-- a block was read from a reader that has known left, and served
+pub record ServesRead (m : List ℕ) (u : Unended) (known held : Option (List ℕ)) (m' : List ℕ) (known' held' : Option (List ℕ)) (v : Unended) : Type 0 where
+  pub block : List ℕ
+  pub read : Consumes known known' block
+  pub serves : ServesBlock m block u m' v
+  pub writes : WritesBlock m block u held held'
+
+-- the reader is at its end, and the last line was served
+pub record ServesEnd (m : List ℕ) (u : Unended) (known held : Option (List ℕ)) (m' : List ℕ) (known' held' : Option (List ℕ)) : Type 0 where
+  pub read : Consumes known known' []
+  pub end : IsAtEnd known'
+  pub serves : EndsInput m u m'
+  pub writes : WritesEnd m u held held'
+
+-- one read was served: a block, or the end of the input
+abbrev pub ServesSome : List ℕ → Unended → Option (List ℕ) → Option (List ℕ) → List ℕ → Option (List ℕ) → Option (List ℕ) → Option Unended → Type 0
+ServesSome m u known held m' known' held' None = ServesEnd m u known held m' known' held'
+ServesSome m u known held m' known' held' (Some v) = ServesRead m u known held m' known' held' v
+
+-- an input was read to its end, its output written after what the writer held, and the memory left as its lines leave it
+pub record ServesInput (m : List ℕ) (known held : Option (List ℕ)) (m' : List ℕ) (known' held' : Option (List ℕ)) : Type 0 where
+  pub input : List ℕ
+  pub read : Consumes known known' input
+  pub end : IsAtEnd known'
+  pub memory : m' ≡ after_all m (lines_of input)
+  pub written : Appends held held' (output m input)
+
+-- the same on the words that a listing lends
+pub record ServesListing (known held known' held' : Option (List ℕ)) : Type 0 where
+  pub input : List ℕ
+  pub read : Consumes known known' input
+  pub end : IsAtEnd known'
+  pub written : Appends held held' (output lent input)
+
+-- ---- what cannot be read
+
+-- P holds where a read failed
+abbrev pub IfUnread : {A : Type 0} → Result A Failure → Type 0 → Type 0
+IfUnread (Ok x) P = ⊤
+IfUnread (Err (Read e)) P = P
+IfUnread (Err (Write e)) P = ⊤
+
+-- no word, no known byte of the reader and none of the writer has changed
+pub record IsUntouched (m : List ℕ) (known held : Option (List ℕ)) (m' : List ℕ) (known' held' : Option (List ℕ)) : Type 0 where
+  pub memory : m' ≡ m
+  pub read : Keeps known known'
+  pub written : Keeps held held'
+
+-- a part of the input, from its start on, was read, the lines that end in it were answered, and the answers written
+pub record ServedPart (m : List ℕ) (known held : Option (List ℕ)) (m' : List ℕ) (known' held' : Option (List ℕ)) : Type 0 where
+  pub part : List ℕ
+  pub read : Consumes known known' part
+  pub memory : m' ≡ after_all m (ended [] part)
+  pub written : Appends held held' (answered_all m (ended [] part))

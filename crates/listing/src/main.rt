@@ -3,125 +3,72 @@
 #![tactic(auto)]
 
 mod answers;
+mod serve;
 
-ghost use Rattle.listing.specs.ProgramContract.{ServesBlock, EndsInput};
+use serve::Failure;
+use std::env::Args;
+use std::fs::File;
+use std::io::Read;
+use std::process::ExitCode;
+use std::{env, io};
 
-use answers::{Place, Unended};
-use libc::{STDERR_FILENO, STDIN_FILENO, STDOUT_FILENO};
+// Where an error's number begins in its text.
+const NUMBER: &str = " (os error ";
 
-// What a read came to: the line that has not ended, and whether to go on.
-#[derive(Clone, Copy)]
-struct Turn {
-    unended: Unended,
-    going: bool,
-}
-
-// Writes the text, or says why it cannot.
-fn write(text: &[u8]) -> bool {
-    let written = io::write_all(STDOUT_FILENO, text);
-    if !written {
-        os::fail(b"standard output");
+// The text of an error, without its number.
+fn reason(text: &str) -> &str {
+    match text.split_once(NUMBER) {
+        Some((said, _)) => said,
+        None => text,
     }
-    written
 }
 
-// Answers a whole block, and writes the answers as often as the buffer is full.
-fn serve_block(m: &mut [u32], block: &[u8], unended: Unended) -> Turn
-    ensures { ServesBlock m.old block.now unended m.new result }
-{
-    let mut out = io::large_buffer();
-    let mut place = Place {
-        unended: unended,
-        next: 0,
-        end: 0,
+// Says on the standard error why something failed. What keeps it from saying so is not said.
+fn fail(rt: &HostRuntime, name: &str, error: io::Error) -> ExitCode {
+    let _ = match format!(in rt.alloc(); "{error}") {
+        Ok(text) => {
+            let said = reason(text.as_str());
+            eprintln!(rt; "{name}: {said}")
+        }
+        Err(_) => eprintln!(rt; "{name}: {error}"),
     };
-    let mut going = true;
-    while place.next < block.len() && going {
-        place.end = 0;
-        place = answers::answer_block(m, block, &mut out, place);
-        let end = place.end;
-        going = write(&out[..end]);
-    }
-    let left = place.unended;
-    Turn {
-        unended: left,
-        going: going,
+    ExitCode::FAILURE
+}
+
+// Answers what is read.
+fn serve_from<R: Read>(rt: &HostRuntime, name: &str, from: &mut R) -> ExitCode {
+    match serve::serve(from, &mut rt.stdout()) {
+        Ok(()) => ExitCode::SUCCESS,
+        Err(Failure::Read(error)) => fail(rt, name, error),
+        Err(Failure::Write(error)) => fail(rt, "standard output", error),
     }
 }
 
-// The end of the input: a last line without a newline counts.
-fn end_input(m: &mut [u32], unended: Unended)
-    ensures { EndsInput m.old unended m.new }
-{
-    if unended.begun {
-        let mut out = io::buffer();
-        let end = answers::answer_line(m, unended.line, &mut out, 0);
-        write(&out[..end]);
+fn serve_file(rt: &HostRuntime, path: &str) -> ExitCode {
+    match File::open(rt, path) {
+        Ok(mut file) => serve_from(rt, path, &mut file),
+        Err(error) => fail(rt, path, error),
     }
 }
 
-// Reads once and answers what came.
-fn serve_some(fd: i32, name: &[u8], m: &mut [u32], unended: Unended) -> Turn {
-    let mut block = io::large_buffer();
-    let got = libc::read(fd, &mut block);
-    if got < 0 {
-        os::fail(name);
-        return Turn {
-            unended: unended,
-            going: false,
-        };
+// What the arguments ask for: the program's name comes first, and a file may follow. Where there are more the usage is said;
+// the command that starts the program gives that a status.
+fn serve_args(rt: &HostRuntime, mut args: Args) -> ExitCode {
+    args.next();
+    let path = args.next();
+    if args.next().is_some() {
+        let _ = eprintln!(rt; "usage: listing [FILE]");
+        return ExitCode::SUCCESS;
     }
-    if got == 0 {
-        end_input(m, unended);
-        return Turn {
-            unended: unended,
-            going: false,
-        };
-    }
-    let n = io::count(got, &block);
-    serve_block(m, &block[..n], unended)
-}
-
-// Reads to the end of the input. A proved loop has to end, so this one counts its turns down, from a number that no
-// run uses up.
-fn serve_all(fd: i32, name: &[u8], m: &mut [u32]) {
-    let mut unended = answers::nothing();
-    let mut going = true;
-    let mut turns = u64::MAX;
-    while turns > 0 && going {
-        let turn = serve_some(fd, name, m, unended);
-        unended = turn.unended;
-        going = turn.going;
-        turns -= 1;
+    match path {
+        Some(path) => serve_file(rt, path.as_str()),
+        None => serve_from(rt, "standard input", &mut rt.stdin()),
     }
 }
 
-fn serve_file(m: &mut [u32]) {
-    let mut path = io::buffer();
-    let length = os::arg(1, &mut path);
-    if os::errno() != 0 {
-        os::fail(b"file name");
-        return;
-    }
-    let fd = os::open_read(&path[..length]);
-    if fd < 0 {
-        os::fail(&path[..length]);
-        return;
-    }
-    serve_all(fd, &path[..length], m);
-    libc::close(fd);
-}
-
-fn main() {
-    let mut memory = [0u32; 16000];
-    let arguments = os::arg_count();
-    if arguments > 2 {
-        io::write_all(STDERR_FILENO, b"usage: listing [FILE]\n");
-        return;
-    }
-    if arguments == 2 {
-        serve_file(&mut memory);
-    } else {
-        serve_all(STDIN_FILENO, b"standard input", &mut memory);
+fn main(rt: HostRuntime) -> ExitCode {
+    match env::args(&rt) {
+        Ok(args) => serve_args(&rt, args),
+        Err(error) => fail(&rt, "arguments", error),
     }
 }

@@ -10,7 +10,6 @@ use lib.Dec.{leb}
 use borrow.Author.Tests.{le-leb, leb-true}
 use Rattle.model.specs.Lists.{all}
 use Rattle.model.specs.Digits.{number_from, is_digit, value_from}
-use Rattle.listing_text.specs.Call.{bad}
 use Rattle.listing_text.specs.Machine.{arguing, refused, counted, grown}
 use Rattle.listing_text.specs.declared.line.Line.{Line}
 use Rattle.listing_text.proofs.Bools.{either, true-false, and_left, and_right, and-true}

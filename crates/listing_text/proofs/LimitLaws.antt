@@ -31,7 +31,8 @@ limit-other s (suc (suc (suc (suc i)))) h k = absurd (omega arith)
 -- ---- all limits
 
 -- as many numbers as limits, each below its own
-pub fit-below : (n : ℕ) (ls vs : List ℕ) → n ≤ length ls → n ≤ length vs → ((k : ℕ) → k < n → get_or vs k 0 < get_or ls k 0) → fit (take n ls) (take n vs) ≡ true
+pub fit-below : (n : ℕ) (ls vs : List ℕ) → n ≤ length ls → n ≤ length vs → ((k : ℕ) → k < n → get_or vs k 0 < get_or ls k 0)
+    → fit (take n ls) (take n vs) ≡ true
 unfolding fit
 fit-below zero ls vs hl hv h = refl
 fit-below (suc n) [] vs hl hv h = absurd (omega arith)

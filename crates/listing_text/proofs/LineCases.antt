@@ -2,7 +2,7 @@
 use mathlib.Core.Path.{◌≡◌, refl}
 use Prim.Native.String.{String}
 use Rattle.model.specs.Lists.{is_empty, all, same}
-use Rattle.model.specs.Rules.{add, delete, start, step, begin, awaited, accepted}
+use Rattle.model.specs.Rules.{add, delete, start, step, awaited, accepted}
 use Rattle.model.specs.Calls.{set_up, sized, on_state}
 use Rattle.model.specs.Digits.{number_from, bytes, value, value_from}
 use Rattle.listing_text.specs.Number.{is_number, decimal, decimal_in}

@@ -1,17 +1,14 @@
 -- Decimal numbers: the digits of a number have its value, none in front is 0, and a number of 32 bits has at most ten.
 use Prim.Native.Nat.{ℕ, zero, suc, ◌+◌, ◌-◌, ◌*◌, ◌/◌, ◌%◌, ◌^◌, ◌≤◌, ◌<◌}
-use mathlib.Core.Bool.{true}
 use mathlib.Core.List.{List, [], ◌∷◌, ◌++◌}
 use mathlib.Core.Path.{◌≡◌, refl, sym, ap, ◌∙◌}
 use native.Mathlib.Nat.{le_refl, le_trans, pow-suc}
 use native.Mathlib.Decide.{dec_lt}
 use native.Mathlib.Omega.{arith}
-use lib.ListN.{length, get_or, length-append}
-use borrow.Author.Tests.{lt-ltb, le-ltb, le-leb}
-use Rattle.model.specs.Lists.{all}
-use Rattle.model.specs.Digits.{number_from, is_digit, value, value_from}
+use lib.ListN.{length, length-append}
+use borrow.Author.Tests.{lt-ltb, le-ltb}
+use Rattle.model.specs.Digits.{number_from, value_from}
 use Rattle.listing_text.specs.Number.{decimal, decimal_in}
-use Rattle.listing_text.proofs.Bools.{and_left, and_right, and-true}
 
 -- ---- values
 

@@ -1,5 +1,5 @@
--- The call that a line of a listing asks for (document 01, "A listing, and edges", and document 02, request 8): `parsed`. A line is a list of bytes, without its
--- newline.
+-- The call that a line of a listing asks for (document 01, "A listing, and edges", and document 02, request 8): `parsed`. A line is a list of bytes,
+-- without its newline.
 use Rattle.std.specs.Prelude.{ℕ, ◌^◌, cond, List, [], ◌∷◌, map, ltb, eqb}
 use Prim.Native.String.{String}
 use Rattle.model.specs.Lists.{all, same}

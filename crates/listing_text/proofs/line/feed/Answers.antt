@@ -1,0 +1,10 @@
+-- Its test is that of `fed`.
+use borrow.Author.Rules.{rules}
+use Rattle.listing_text.proofs.MachineLaws.{fed-space, fed-other, feeds}
+use Rattle.listing_text.proofs.line.feed.Goals as goal
+
+pub returns-then-byte-eq-SPACE : goal.returns-then-byte-eq-SPACE
+returns-then-byte-eq-SPACE c = search (rules, feeds, fed-space)
+
+pub returns-else-byte-eq-SPACE : goal.returns-else-byte-eq-SPACE
+returns-else-byte-eq-SPACE c = search (rules, feeds, fed-other)
