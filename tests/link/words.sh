@@ -3,17 +3,22 @@
 # A repository in which 'rt' proves nothing and counts that it was asked.
 make_words() {
   local tree=$work/words name
-  mkdir -p "$tree/bin" "$tree/crates/product_table/src" || return 1
+  mkdir -p "$tree/bin" "$tree/crates/"{product_table,product_table_c,listing}/src || return 1
   cp "$root/build" "$root/crates.txt" "$tree" && touch "$tree/crates/product_table/src/lib.rt" || return 1
   for name in tests tools include docs examples; do
     ln -s "$root/$name" "$tree/$name" || return 1
   done
+  touch "$tree/crates/listing/src/main.rt" || return 1
   cat >"$tree/bin/rt" <<'END' && chmod +x "$tree/bin/rt"
 #!/bin/sh
-echo "$*" >>asked
-mkdir -p target/staticlib target/bin
-echo made >target/staticlib/libproduct_table.a
-echo made >target/bin/listing
+crate=$(basename "$PWD")
+echo "$crate: $*" >>../../asked
+mkdir -p out
+case $crate:$* in
+product_table_c:lib) echo made >out/libproduct_table_c.a ;;
+listing:run) echo made >out/listing ;;
+*) exit 1 ;;
+esac
 END
 }
 

@@ -5,8 +5,8 @@ make_wrapper() {
   local tree=$work/wrapper
   mkdir -p "$tree/bin" "$tree/libexec/product_table" "$tree/files" || return 1
   cp "$root/listing" "$tree/bin/listing" && cp "$root/tests/listing/document-01.in" "$tree/files/-calls" || return 1
-  if [ -x "$root/target/bin/listing" ]; then
-    cp "$root/target/bin/listing" "$tree/libexec/product_table/listing"
+  if [ -x "$root/crates/listing/out/listing" ]; then
+    cp "$root/crates/listing/out/listing" "$tree/libexec/product_table/listing"
   else
     . "$root/tests/sources.sh"
     gcc "${strict[@]}" "${includes[@]}" "$root/tests/programs/listing.c" "${version[@]}" "${common[@]}" -o "$tree/libexec/product_table/listing"
