@@ -3,7 +3,7 @@ use Rattle.std.specs.Prelude.{ℕ, ◌≡◌, refl, List, length}
 use Rattle.std.proofs.Common.{sym, ap, ◌∙◌, ltb-false}
 use Rattle.model.specs.State.{Lookup, Lane, State}
 use Rattle.model.specs.Engine.{set_lookup, with_lanes}
-use Rattle.model.specs.Rules.{end, with_engine, with_lane, leaving, answer, performed}
+use Rattle.model.specs.Rules.{end, with_engine, with_lane, leaving, performed}
 use Rattle.model.specs.Memory.{state}
 use Rattle.model.specs.Calls.{on_state, reply, left}
 use Rattle.model.specs.Ledger.{Event, AfterEnds}

@@ -1,7 +1,7 @@
 -- What document 02's request 2 asks of the reader and the writer of labels, of the functions for C, and that it holds (`labels-hold`). They ask nothing but
 -- the functions' contracts: `LabelRead text a b s` and `LabelWritten c text a after b s` (crate `product_table`).
 use Prim.Native.Nat.{ℕ, zero, suc, ◌≤◌, ◌<◌}
-use Rattle.std.specs.Prelude.{◌≡◌, true, false, List, ◌++◌, length, get_or, take, drop}
+use Rattle.std.specs.Prelude.{◌≡◌, false, List, ◌++◌, length, get_or, take, drop}
 use Rattle.std.proofs.Math.Path.{refl}
 use Rattle.std.proofs.Common.{sym, ap, subst, ◌∙◌, arith, lt-ltb, le-ltb, ltb-false}
 use Rattle.model.specs.Layout.{max_code}

@@ -4,7 +4,7 @@ use Rattle.std.specs.Prelude.{◌≡◌, false, List, length, ltb}
 use Rattle.std.proofs.Math.Path.{refl}
 use Rattle.std.proofs.Common.{sym, ap, subst, ◌∙◌, arith, lt-ltb, le-ltb}
 use Rattle.model.specs.State.{Sizes, State}
-use Rattle.model.specs.Rules.{Answer, Op, answer, fresh}
+use Rattle.model.specs.Rules.{Answer, Op, fresh}
 use Rattle.model.specs.Memory.{Words, state}
 use Rattle.model.specs.Calls.{Call, set_up, on_state, stored, refusal_of, reply_of, left_of, reply, left, left_all}
 use Rattle.model.specs.Ledger.{Event, events, Demand, RefusesSetUps}

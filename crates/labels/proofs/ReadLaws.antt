@@ -9,7 +9,7 @@ use native.Mathlib.Nat.{pow-suc, pow-le-pow_right}
 use lib.ListN.{length, get_or, drop, drop_of_length-le}
 use lib.Seq.{drop-cons}
 use lib.Dec.{leb, eqb}
-use borrow.Author.Tests.{leb-true, eqb-true, not-true, not-false}
+use borrow.Author.Tests.{leb-true, eqb-true, not-false}
 use Rattle.model.specs.Lists.{any}
 use Rattle.model.specs.Digits.{ten, number_from, digit_zero, digit_nine, is_digit, digit_of}
 use Rattle.model.specs.CheckDigit.{code_digits}

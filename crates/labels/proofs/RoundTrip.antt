@@ -3,22 +3,22 @@
 -- it is shorter (`label-no-shorter`). `label-right`: the check digit of a label's code is right where the label's own is.
 use Prim.Native.Nat.{ℕ, zero, suc, ◌-◌, ◌^◌, ◌≤◌, ◌<◌}
 use mathlib.Core.Path.{◌≡◌, refl, ap, sym, ◌∙◌}
-use mathlib.Core.Bool.{Bool, true, false, not, cond, ◌||◌}
-use mathlib.Core.List.{List, [], ◌∷◌, ◌++◌, map}
+use mathlib.Core.Bool.{true, false}
+use mathlib.Core.List.{List, [], ◌∷◌, map}
 use native.Mathlib.Omega.{arith}
 use lib.ListN.{length, get_or, take, drop, length-map}
 use lib.Seq.{take_at}
-use lib.Dec.{ltb, leb, eqb}
-use borrow.Author.Tests.{le-leb, lt-ltb, le-ltb, ltb-true, ltb-false, eqb-true}
+use lib.Dec.{ltb}
+use borrow.Author.Tests.{le-leb, ltb-true, ltb-false}
 use Rattle.model.specs.Lists.{any}
 use Rattle.model.specs.Layout.{max_code}
 use Rattle.model.specs.Digits.{ten, digits, number, digit_zero, digit_nine, digit_of, byte_of}
 use Rattle.model.specs.CheckDigit.{code_digits, right_digits, right_check_digit}
-use Rattle.model.specs.Rules.{accepted, first_cause}
+use Rattle.model.specs.Rules.{accepted}
 use Rattle.model.specs.Memory.{low, high}
-use Rattle.model.specs.Labels.{gtin8, gtin13, gtin14, is_label_length, no_digit, no_label, label_code, read_refusal, read_reply_of, read_reply}
+use Rattle.model.specs.Labels.{gtin8, gtin13, gtin14, is_label_length, no_digit, no_label, label_code, read_reply}
 use Rattle.model.specs.Labels.{label_length, label_text, written_of, written}
-use Rattle.laws.specs.Tests.{bool_cases, and_intro, or_cases, cond_cases}
+use Rattle.laws.specs.Tests.{cond_cases}
 use Rattle.check_digits.proofs.Digits.{Decimal, digits-length, digits_decimal, number_digits, number-zeros, number-range}
 use Rattle.check_digits.proofs.Caught.{right-number, number_fits}
 use Rattle.labels.proofs.ReadLaws.{each-length, digit-last, same_length, label-length, label-few, label-digit, read_some}

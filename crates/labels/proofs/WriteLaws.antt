@@ -1,6 +1,6 @@
 -- The loop that puts a code's digits, from the right: the digits left, followed by the bytes from there on, are the text that is wanted; and the ways out of the
 -- writer.
-use Prim.Native.Nat.{ℕ, zero, suc, ◌-◌, ◌/◌, ◌%◌, ◌^◌, ◌≤◌, ◌<◌}
+use Prim.Native.Nat.{ℕ, suc, ◌-◌, ◌/◌, ◌%◌, ◌^◌, ◌≤◌, ◌<◌}
 use mathlib.Core.Path.{◌≡◌, refl, ap, sym, ◌∙◌}
 use mathlib.Core.Bool.{Bool, true, false, cond}
 use mathlib.Core.List.{List, [], ◌∷◌, ◌++◌, map, map-append}
@@ -11,7 +11,7 @@ use lib.Dec.{ltb}
 use borrow.Author.Tests.{lt-ltb, le-ltb, ltb-false}
 use Rattle.model.specs.Layout.{max_code}
 use Rattle.model.specs.Digits.{ten, digits, byte_of}
-use Rattle.model.specs.Rules.{Answer as Reply, accepted, refused, first_cause}
+use Rattle.model.specs.Rules.{accepted, refused, first_cause}
 use Rattle.model.specs.Labels.{gtin8, gtin13, gtin14, label_length, label_text, write_refusal, write_reply_of, written_of, write_reply, written}
 use Rattle.laws.specs.Tests.{cond_cases}
 use Rattle.access.specs.declared.Answer.{Answer}

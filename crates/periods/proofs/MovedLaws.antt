@@ -1,22 +1,21 @@
 -- The slots that a clock moved into done queues: the lengths of the lane's and of the global one after it, less those before it.
 use Prim.Native.Nat.{ℕ, ◌+◌, ◌≤◌, ◌<◌}
-use mathlib.Core.Path.{◌≡◌, refl, ap, ap₂, sym, ◌∙◌}
+use mathlib.Core.Path.{◌≡◌, refl, ap, ap₂, ◌∙◌}
 use mathlib.Core.List.{List, map}
 use native.Mathlib.Omega.{arith}
 use lib.ListN.{length, get_or}
 use Rattle.model.specs.Word.{less}
 use Rattle.model.specs.Lists.{update}
-use Rattle.model.specs.State.{Sizes, lane_count, Lane, Engine, State}
+use Rattle.model.specs.State.{lane_count, Lane, Engine, State}
 use Rattle.model.specs.Layout.{length_offset, done_offset, queues_at, lane_address}
-use Rattle.model.specs.Engine.{fresh_lane, lane_at, awaiting, clocked, clock_moves}
-use Rattle.model.specs.Rules.{clock, performed}
+use Rattle.model.specs.Engine.{fresh_lane, awaiting, clocked, clock_moves}
 use Rattle.model.specs.Memory.{at}
 use Rattle.laws.specs.ListLaws.{get_or-update-same}
 use Rattle.laws.specs.Elements.{map_cases}
-use Rattle.representation.proofs.Discipline.Done.{lane_done, counted, counted-clocked}
+use Rattle.representation.proofs.Discipline.Done.{lane_done, counted-clocked}
 use Rattle.changes.proofs.Shows.{Shows}
 use Rattle.changes.proofs.Shape.{Shape}
-use Rattle.changes.specs.Queues.{done, global, lane, Queue, Named, queue_of, ends_at}
+use Rattle.changes.specs.Queues.{done, global, lane, queue_of}
 use Rattle.changes.proofs.OfQueues.QueueEnds.{length-shown}
 use Rattle.changes.proofs.OfQueues.QueueChanges.{queue-few}
 use Rattle.periods.specs.Ticks.{done_words}

@@ -1,6 +1,5 @@
 -- The lanes as if one were off: what the loop over them reads of each.
 use Prim.Native.Nat.{ℕ, ◌<◌}
-use mathlib.Core.Logic.{◌≢◌}
 use mathlib.Core.Path.{◌≡◌, ap, sym, subst, ◌∙◌}
 use mathlib.Core.Bool.{Bool, false}
 use mathlib.Core.List.{List}

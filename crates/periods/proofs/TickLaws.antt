@@ -1,5 +1,5 @@
 -- The ways out of off and clock: the engine is given the lane's place, and the words after it are those of the state after the call.
-use Prim.Native.Nat.{ℕ, ◌+◌, ◌/◌, ◌%◌, ◌≤◌, ◌<◌}
+use Prim.Native.Nat.{ℕ, ◌+◌, ◌%◌, ◌≤◌, ◌<◌}
 use native.Mathlib.Nat.{mod-lt}
 use mathlib.Core.Path.{◌≡◌, refl, ap, ap₂, sym, ◌∙◌}
 use mathlib.Core.List.{List, []}
@@ -13,7 +13,7 @@ use Rattle.model.specs.Rules.{off, clock, zeros, accepted, first_cause, of_lane,
 use Rattle.model.specs.Memory.{at, sizes, state}
 use Rattle.model.specs.Calls.{on_state, stored}
 use Rattle.words.specs.declared.Sizes as code-sizes
-use Rattle.words.specs.Lent.{sizes_of, sizes_in}
+use Rattle.words.specs.Lent.{sizes_of}
 use Rattle.changes.proofs.Shows.{shows_then}
 use Rattle.changes.proofs.Shape.{well_formed-shape}
 use Rattle.lanes.specs.declared.Place.{Place}

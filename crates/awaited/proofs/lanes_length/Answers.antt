@@ -1,6 +1,5 @@
-use Prim.Native.Nat.{◌-◌}
 use native.Mathlib.Omega.{arith}
-use Rattle.awaited.proofs.OwnerLengths.{LanesCounted, lanes_start, lanes_next, lanes_small, lanes_on, lanes-done}
+use Rattle.awaited.proofs.OwnerLengths.{lanes_next, lanes_on, lanes-done}
 use borrow.Author.Rules.{rules}
 use Rattle.awaited.proofs.lanes_length.Goals as goal
 

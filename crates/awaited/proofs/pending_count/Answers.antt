@@ -1,6 +1,5 @@
-use Prim.Native.Nat.{◌-◌}
 use native.Mathlib.Omega.{arith}
-use Rattle.awaited.proofs.Pending.{MasksCounted, masks-start, masks-on, masks-done}
+use Rattle.awaited.proofs.Pending.{masks-on, masks-done}
 use borrow.Author.Rules.{rules}
 use Rattle.awaited.proofs.pending_count.Goals as goal
 

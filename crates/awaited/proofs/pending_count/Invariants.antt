@@ -1,8 +1,6 @@
 -- The loop's invariant: the count is that of the cabinets before c. The measure: the cabinets left.
 use Prim.Native.Nat.{◌-◌}
-use native.Mathlib.Omega.{arith}
-use Rattle.awaited.proofs.Pending.{MasksCounted, masks-start, masks-on, masks-done}
-use borrow.Author.Rules.{rules}
+use Rattle.awaited.proofs.Pending.{MasksCounted}
 use Rattle.awaited.proofs.pending_count.Given as goal
 
 abbrev pub invariant-loop-c : goal.invariant-loop-c

@@ -1,8 +1,5 @@
-use Prim.Native.Nat.{◌-◌}
 use native.Mathlib.Omega.{arith}
-use lib.ListN.{length}
-use Rattle.labels.proofs.ReadLaws.{label-digit, Reading, reading-start, reading-fits, reading-on, reading-done}
-use borrow.Author.Rules.{rules}
+use Rattle.labels.proofs.ReadLaws.{label-digit, reading-start, reading-fits, reading-on, reading-done}
 use Rattle.labels.proofs.code_of.Goals as goal
 
 pub loop-i-init : goal.loop-i-init

@@ -1,9 +1,7 @@
 -- The loop's invariant: the code so far, followed by the digits left, says the label's (`Reading`). The measure: the bytes left.
 use Prim.Native.Nat.{◌-◌}
-use native.Mathlib.Omega.{arith}
 use lib.ListN.{length}
-use Rattle.labels.proofs.ReadLaws.{label-digit, Reading, reading-start, reading-fits, reading-on, reading-done}
-use borrow.Author.Rules.{rules}
+use Rattle.labels.proofs.ReadLaws.{Reading}
 use Rattle.labels.proofs.code_of.Given as goal
 
 abbrev pub invariant-loop-i : goal.invariant-loop-i

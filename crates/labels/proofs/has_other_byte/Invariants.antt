@@ -1,12 +1,9 @@
 -- The loop's invariant: the bytes from i on decide. The measure: the bytes left.
 use Prim.Native.Nat.{◌-◌, ◌≤◌}
-use mathlib.Core.Path.{◌≡◌, refl}
-use native.Mathlib.Omega.{arith}
+use mathlib.Core.Path.{◌≡◌}
 use lib.ListN.{length, drop}
 use Rattle.model.specs.Lists.{any}
 use Rattle.model.specs.Labels.{no_digit}
-use Rattle.laws.specs.Loops.{any_found, any_next, any_none}
-use borrow.Author.Rules.{rules}
 use Rattle.labels.proofs.has_other_byte.Given as goal
 
 abbrev pub invariant-loop-i : goal.invariant-loop-i

@@ -2,7 +2,6 @@
 use mathlib.Core.Path.{sym, ◌∙◌}
 use borrow.Author.Tests.{not-true, not-false}
 use Rattle.labels.proofs.ReadLaws.{other_length, same_length}
-use borrow.Author.Rules.{rules}
 use Rattle.labels.proofs.is_no_label.Goals as goal
 
 pub returns-then-not-is_label_length : goal.returns-then-not-is_label_length

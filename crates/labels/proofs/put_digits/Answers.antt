@@ -1,6 +1,5 @@
 use native.Mathlib.Omega.{arith}
-use Rattle.labels.proofs.WriteLaws.{Putting, putting-start, putting-on, putting-done}
-use borrow.Author.Rules.{rules}
+use Rattle.labels.proofs.WriteLaws.{putting-on, putting-done}
 use Rattle.labels.proofs.put_digits.Goals as goal
 
 pub loop-left-preserved : goal.loop-left-preserved

@@ -1,7 +1,5 @@
 -- The loop's invariant: the digits left, followed by the bytes from there on, are the text that is wanted (`Putting`). The measure: the digits left.
-use native.Mathlib.Omega.{arith}
-use Rattle.labels.proofs.WriteLaws.{Putting, putting-start, putting-on, putting-done}
-use borrow.Author.Rules.{rules}
+use Rattle.labels.proofs.WriteLaws.{Putting}
 use Rattle.labels.proofs.put_digits.Given as goal
 
 abbrev pub invariant-loop-left : goal.invariant-loop-left

@@ -1,8 +1,6 @@
 -- A text that is no label is refused; the code of one that is goes into two words.
-use mathlib.Core.Path.{sym, ap, ◌∙◌}
-use Rattle.model.specs.Rules.{accepted}
+use mathlib.Core.Path.{◌∙◌}
 use Rattle.labels.proofs.ReadLaws.{read_none, read_some}
-use borrow.Author.Rules.{rules}
 use Rattle.labels.proofs.read.Goals as goal
 
 pub returns-then-is_no_label : goal.returns-then-is_no_label

@@ -1,16 +1,9 @@
-use Prim.Native.Nat.{◌-◌, ◌≤◌}
-use mathlib.Core.Path.{◌≡◌, refl, sym, ◌∙◌}
+use mathlib.Core.Path.{sym, ◌∙◌}
 use native.Mathlib.Omega.{arith}
-use lib.ListN.{drop}
-use Rattle.model.specs.Lists.{any}
 use Rattle.model.specs.Rules.{is_online}
 use Rattle.model.specs.Engine.{fresh_lane}
-use Rattle.model.specs.Memory.{state}
 use Rattle.laws.specs.Loops.{any_found, any_next, any_none}
-use Rattle.access.proofs.LaneLaws.{count-is}
-use Rattle.periods.specs.Others.{others}
 use Rattle.periods.proofs.OtherLanes.{others-length}
-use borrow.Author.Rules.{rules}
 use Rattle.periods.proofs.another_online.Goals as goal
 
 pub returns-then-is_other_online : goal.returns-then-is_other_online
@@ -20,13 +13,12 @@ returns-then-is_other_online c =
     _ c.is_other_online.ensures c.if-is_other_online.true
 
 pub loop-i-preserved : goal.loop-i-preserved
-loop-i-preserved c =
-    (
-      omega (arith, c.loop-i-test.true),
-      any_next is_online fresh_lane _ _ c.loop-i.invariant.1
-          (omega (arith, c.loop-i-test.true, c.lane_count-n.ensures, others-length _ _ c.requires))
-          _ c.is_other_online.ensures c.if-is_other_online.false,
-    )
+loop-i-preserved c = (
+  omega (arith, c.loop-i-test.true),
+  any_next is_online fresh_lane _ _ c.loop-i.invariant.1
+      (omega (arith, c.loop-i-test.true, c.lane_count-n.ensures, others-length _ _ c.requires))
+      _ c.is_other_online.ensures c.if-is_other_online.false,
+)
 
 pub returns : goal.returns
 returns c = any_none is_online fresh_lane _ _ c.loop-i.invariant.1 _ (others-length _ _ c.requires ∙ sym c.lane_count-n.ensures) c.loop-i-test.false

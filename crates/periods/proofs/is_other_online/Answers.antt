@@ -1,5 +1,5 @@
 -- The lane itself counts as off among the others; any other lane stands there as it is in the state.
-use Rattle.periods.proofs.OtherLanes.{itself, other-in, another}
+use Rattle.periods.proofs.OtherLanes.{itself, another}
 use borrow.Author.Rules.{rules}
 use Rattle.periods.proofs.is_other_online.Goals as goal
 

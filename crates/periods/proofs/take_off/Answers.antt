@@ -1,6 +1,5 @@
 -- Off is given where the lane stands.
-use Rattle.access.proofs.LaneLaws.{standing, place-lent}
-use Rattle.periods.proofs.TickLaws.{off-by}
+use Rattle.access.proofs.LaneLaws.{place-lent}
 use borrow.Author.Rules.{rules}
 use Rattle.periods.proofs.take_off.Goals as goal
 

@@ -1,6 +1,5 @@
 -- The clock is given where the lane stands.
-use Rattle.access.proofs.LaneLaws.{standing, place-lent}
-use Rattle.periods.proofs.TickLaws.{clock-by}
+use Rattle.access.proofs.LaneLaws.{place-lent}
 use borrow.Author.Rules.{rules}
 use Rattle.periods.proofs.tick.Goals as goal
 

@@ -1,6 +1,5 @@
 -- Fewer than five words: nothing is done. Else the label is read, and the five words are written.
 use Rattle.product_table.proofs.CalledLaws.{too_short, answered-read}
-use borrow.Author.Rules.{rules}
 use Rattle.product_table.proofs.pt_label_read.Goals as goal
 
 pub returns-then-answer-lt-ANSWER_LENGTH : goal.returns-then-answer-lt-ANSWER_LENGTH

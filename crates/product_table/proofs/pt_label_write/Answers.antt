@@ -1,6 +1,5 @@
 -- Fewer than five words: nothing is done, and the text is as it was. Else the label is written, and then the five words.
 use Rattle.product_table.proofs.CalledLaws.{too_short, answered-written}
-use borrow.Author.Rules.{rules}
 use Rattle.product_table.proofs.pt_label_write.Goals as goal
 
 pub returns-then-answer-lt-ANSWER_LENGTH : goal.returns-then-answer-lt-ANSWER_LENGTH

@@ -1,6 +1,5 @@
 -- A memory that the legality check refuses is left as it is, with cause 3; any other is legal, and its elements are words.
-use native.Mathlib.Omega.{arith}
-use Rattle.access.proofs.Ways.{illegal, sound}
+use Rattle.access.proofs.Ways.{illegal}
 use borrow.Author.Rules.{rules}
 use Rattle.table.proofs.make_op.Goals as goal
 

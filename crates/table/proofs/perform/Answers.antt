@@ -1,6 +1,5 @@
 -- Each arm makes the call that the model's rules name, on the memory that is legal for every one of them; an arm of a lane makes the lane first.
-use Rattle.calls.specs.declared.Op.TheVariants.{Add, Replace, Delete, Begin, End, Start, Step, Pass, Clock, On, Off, HandBack}
-use Rattle.table.proofs.CallLaws.{lane-named, same_op, of-lane, of-lane-1, of-lane-3}
+use Rattle.table.proofs.CallLaws.{lane-named}
 use borrow.Author.Rules.{rules}
 use Rattle.table.proofs.perform.Goals as goal
 
