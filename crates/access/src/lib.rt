@@ -14,10 +14,12 @@ ghost use Rattle.model.specs.Memory.{at, flag, state};
 ghost use Rattle.laws.specs.Subtractions.{subtracted};
 ghost use Rattle.representation.specs.Sound.{Sound};
 ghost use Rattle.words.specs.Lent.{sizes_of, Few};
-ghost use Rattle.masks.specs.Bits.{width};
+ghost use Rattle.words.specs.Flags.{bit_of};
 ghost use Rattle.access.specs.Contract.{five};
 ghost use Rattle.access.specs.Flags.{with_flag, flag_put};
 ghost use Rattle.access.specs.Lanes.{lane_named, Named, LaneIn, Standing, most_subtractions, split_of, yard_size, Placed};
+
+use words::flags::Flag;
 
 // ---- answers
 
@@ -72,8 +74,8 @@ pub fn lane_at(m: &[u32], number: u32) -> Lane
     requires { Sound m.now }
     ensures { result ≡ lane_named m.now number }
 {
-    let sizes = words::read_sizes(m);
-    let address = words::lane_address(sizes, number);
+    let sizes = words::Sizes::read(m);
+    let address = sizes.lane_address(number);
     Lane {
         number,
         address,
@@ -127,24 +129,19 @@ pub fn place_of(lane: Lane) -> lanes::Place
     lanes::cabinet::stand_at(z, y.times, b.times, b.left)
 }
 
-// Bit p of a lane's flags.
-fn lane_flag(m: &[u32], lane: Lane, p: u32) -> bool
-    requires { LaneIn m.now lane × (p < width) }
-    ensures { result ≡ flag p (at m.now lane.address) }
+// Whether a lane's flags have this one.
+fn lane_flag(m: &[u32], lane: Lane, of: Flag) -> bool
+    requires { LaneIn m.now lane }
+    ensures { result ≡ flag (bit_of of) (at m.now lane.address) }
 {
-    let a = lane.address;
-    masks::test(m[a], p)
+    of.is_set(m[lane.address])
 }
 
-// Flags whose bit p is `on`.
-pub fn with_flag(flags: u32, p: u32, on: bool) -> u32
-    requires { p < width }
-    ensures { result ≡ with_flag p on flags }
+// Flags with or without this one.
+pub fn with_flag(flags: u32, of: Flag, on: bool) -> u32
+    ensures { result ≡ with_flag (bit_of of) on flags }
 {
-    if on {
-        return masks::set_bit(flags, p);
-    }
-    masks::clear_bit(flags, p)
+    if on { of.set(flags) } else { of.clear(flags) }
 }
 
 // Whether a lane is on.
@@ -152,7 +149,7 @@ pub fn is_online(m: &[u32], lane: Lane) -> bool
     requires { LaneIn m.now lane }
     ensures { result ≡ (lane_of (state m.now) lane.number).online }
 {
-    lane_flag(m, lane, words::ONLINE)
+    lane_flag(m, lane, Flag::Online)
 }
 
 // Whether a lane's section is open.
@@ -160,7 +157,7 @@ pub fn is_reading(m: &[u32], lane: Lane) -> bool
     requires { LaneIn m.now lane }
     ensures { result ≡ (lane_of (state m.now) lane.number).reading }
 {
-    lane_flag(m, lane, words::READING)
+    lane_flag(m, lane, Flag::Reading)
 }
 
 // Whether a lane's lookup is running.
@@ -168,16 +165,16 @@ pub fn is_running(m: &[u32], lane: Lane) -> bool
     requires { LaneIn m.now lane }
     ensures { result ≡ is_running (lane_of (state m.now) lane.number).lookup }
 {
-    lane_flag(m, lane, words::LOOKUP)
+    lane_flag(m, lane, Flag::Lookup)
 }
 
-// Bit p of a lane's flags becomes `on`. All other words stay.
-pub fn put_flag(m: &mut [u32], lane: Lane, p: u32, on: bool)
-    requires { LaneIn m.old lane × (p < width) }
-    ensures { m.new ≡ flag_put m.old lane.address p on }
+// A flag of a lane becomes `on`. All other words stay.
+pub fn put_flag(m: &mut [u32], lane: Lane, of: Flag, on: bool)
+    requires { LaneIn m.old lane }
+    ensures { m.new ≡ flag_put m.old lane.address (bit_of of) on }
 {
     let a = lane.address;
-    m[a] = with_flag(m[a], p, on);
+    m[a] = with_flag(m[a], of, on);
 }
 
 // ---- causes
@@ -188,7 +185,7 @@ pub fn is_unknown(lane: Lane) -> bool
     ensures { result ≡ leb (lane_count (sizes_of lane.sizes)) lane.number }
 {
     let z = lane.sizes;
-    lane.number >= words::lane_count(z)
+    lane.number >= z.lane_count()
 }
 
 // Whether a code is out of range.

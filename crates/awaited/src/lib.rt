@@ -20,7 +20,7 @@ fn pending_count(m: &[u32], z: words::Sizes) -> u32
     requires { TableIn m.now z }
     ensures { result ≡ length (pending_from 0 (state m.now).engine.lanes) }
 {
-    let cabinets = words::index(words::cabinet_count(z));
+    let cabinets = words::index(z.cabinet_count());
     let mut n: u32 = 0;
     let mut c: usize = 0;
     while c < cabinets {
@@ -50,7 +50,7 @@ fn lowest_pending(m: &[u32], z: words::Sizes) -> u32
         return words::NONE;
     }
     let y = masks::lowest(yards);
-    let c = lowest_in(m, words::yards_start(z), y, z.cabinets);
+    let c = lowest_in(m, z.yards_start(), y, z.cabinets);
     lowest_in(m, words::MASKS_AT, c, z.places)
 }
 
@@ -71,8 +71,8 @@ fn lanes_length(m: &[u32], z: words::Sizes) -> u32
     requires { TableIn m.now z }
     ensures { result ≡ queued_in (state m.now).engine.lanes }
 {
-    let lanes = words::lane_count(z);
-    let mut ends = words::lane_address(z, 0) + words::QUEUES_AT;
+    let lanes = z.lane_count();
+    let mut ends = z.lane_address(0) + words::QUEUES_AT;
     let mut n: u32 = 0;
     let mut i: u32 = 0;
     while i < lanes {
@@ -98,7 +98,7 @@ pub fn awaited(m: &mut [u32]) -> access::Answer
     requires { Sound m.old }
     ensures { Does (on_state awaiting) m.old result m.new }
 {
-    let z = words::read_sizes(m);
+    let z = words::Sizes::read(m);
     let free = m[words::FREE_AT + words::LENGTH_OFFSET];
     let retired = retired_length(m, z);
     access::accepted(pending_count(m, z), lowest_pending(m, z), free, retired)

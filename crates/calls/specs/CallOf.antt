@@ -7,8 +7,8 @@ use Rattle.calls.specs.declared.Call as code
 use Rattle.calls.specs.declared.Call.TheVariants.{SetUp, OnState}
 
 abbrev pub op_of : code-op.Op → Op
-op_of (Add i c d m) = add i c d m
-op_of (Replace i c d m) = replace i c d m
+op_of (Add i p) = add i p.code p.deposit p.material
+op_of (Replace i p) = replace i p.code p.deposit p.material
 op_of (Delete i c) = delete i c
 op_of (Begin i) = begin i
 op_of (End i) = end i

@@ -1,12 +1,14 @@
 // The calls as the code hands them on, in the model's shape: set-up, or a call on a table's state.
 #![tactic(auto)]
 
+use words::product::Product;
+
 // A call on a state. The first number is the lane.
 #[derive(Clone, Copy)]
 pub enum Op {
-    // lane, code, deposit, material
-    Add(u32, u64, u32, u32),
-    Replace(u32, u64, u32, u32),
+    // lane, what is entered
+    Add(u32, Product),
+    Replace(u32, Product),
     // lane, code
     Delete(u32, u64),
     Begin(u32),

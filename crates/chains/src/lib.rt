@@ -39,7 +39,7 @@ fn link_address(z: words::Sizes, slot: u32) -> usize
     requires { Few (sizes_of z) }
     ensures { result ≡ link_address (sizes_of z) slot }
 {
-    words::slot_address(z, slot) + words::CHAIN_LINK_AT
+    z.slot_address(slot) + words::CHAIN_LINK_AT
 }
 
 // ---- chains
@@ -58,7 +58,7 @@ fn code_of(m: &[u32], z: words::Sizes, slot: u32) -> u64
     requires { (Lent m.now (sizes_of z)) × (slot < z.slots) }
     ensures { result ≡ code_words m.now (sizes_of z) slot }
 {
-    let i = words::slot_address(z, slot) + words::CODE_AT;
+    let i = z.slot_address(slot) + words::CODE_AT;
     words::code_at(m, i)
 }
 
@@ -147,7 +147,7 @@ pub fn write_product(
     requires { (Lent m.old (sizes_of z)) × (slot < z.slots) }
     ensures { m.new ≡ product_set m.old (slot_address (sizes_of z) slot) code deposit material }
 {
-    let b = words::slot_address(z, slot);
+    let b = z.slot_address(slot);
     m[b + words::CODE_AT] = words::low(code);
     m[b + words::CODE_AT + 1] = words::high(code);
     m[b + words::DEPOSIT_AT] = deposit;
@@ -177,7 +177,7 @@ pub fn step_outcome(m: &[u32], z: words::Sizes, code: u64, position: u32) -> Ste
     if code_of(m, z, position) != code {
         return Step::Going;
     }
-    let b = words::slot_address(z, position);
+    let b = z.slot_address(position);
     let deposit = m[b + words::DEPOSIT_AT];
     let material = m[b + words::MATERIAL_AT];
     Step::Found(FoundRecord {

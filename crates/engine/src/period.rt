@@ -12,7 +12,7 @@ fn await_lanes(m: &mut [u32], z: words::Sizes)
     requires { Lent m.old (sizes_of z) }
     ensures { m.new ≡ masks_set m.old (sizes_of z) (cabinet_count (sizes_of z)) }
 {
-    let cabinets = words::cabinet_count(z);
+    let cabinets = z.cabinet_count();
     for c in 0..cabinets {
         let online = lanes::cabinet::cabinet_online(m, z, c);
         m[words::MASKS_AT + words::index(c)] = online;
@@ -24,7 +24,7 @@ pub fn start_period(m: &mut [u32], z: words::Sizes)
     requires { Lent m.old (sizes_of z) }
     ensures { m.new ≡ started_words m.old (sizes_of z) }
 {
-    let yards = words::yards_start(z);
+    let yards = z.yards_start();
     await_lanes(m, z);
     let cabinets = mask_tree::Level {
         first: yards,
@@ -92,7 +92,7 @@ fn clear_pending(m: &mut [u32], z: words::Sizes, lane: lanes::Place)
     ensures { m.new ≡ cleared_words m.old (sizes_of z) lane }
 {
     let cabinet = words::MASKS_AT + words::index(lane.cabinet);
-    let yard = words::yards_start(z) + words::index(lane.yard);
+    let yard = z.yards_start() + words::index(lane.yard);
     if !mask_tree::clear(m, cabinet, lane.place) {
         return;
     }

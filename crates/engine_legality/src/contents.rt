@@ -28,8 +28,8 @@ pub fn contents_agree(m: &[u32]) -> bool
     if m.len() < words::CONTENTS_LENGTH {
         return false;
     }
-    let z = words::read_sizes(m);
-    if !words::sizes_fit(z) {
+    let z = words::Sizes::read(m);
+    if !z.fit() {
         return false;
     }
     let mut own = [0u32; words::CONTENTS_LENGTH];

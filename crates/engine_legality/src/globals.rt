@@ -51,7 +51,7 @@ fn cabinets_fit(m: &[u32], z: words::Sizes) -> bool
     requires { Lent m.now (sizes_of z) }
     ensures { result ≡ all_cabinets m.now z.yards z.cabinets z.places (yards_body (sizes_of z)) }
 {
-    let yards = words::yards_start(z);
+    let yards = z.yards_start();
     let stride = z.cabinets as usize;
     let mut y: u32 = 0;
     let mut left = z.yards;
@@ -72,7 +72,7 @@ pub fn masks_fit(m: &[u32], z: words::Sizes) -> bool
     requires { Lent m.now (sizes_of z) }
     ensures { result ≡ all_masks m.now z.yards z.cabinets z.places (yards_body (sizes_of z)) }
 {
-    let yards = words::yards_start(z);
+    let yards = z.yards_start();
     if !group_fits(m, m[words::YARD_MASK_AT], yards, z.yards, z.cabinets) {
         return false;
     }

@@ -6,8 +6,10 @@ ghost use Rattle.words.specs.Lent.{sizes_of, Lent};
 ghost use Rattle.engine_legality.specs.LaneSentences.{lane_in_range, lookup_in_range, snapshot_blank, words_at_rest, lane_at_rest, none_queued_at, lane_agrees, lane_fits};
 ghost use Rattle.engine_legality.specs.LaneSentences.{cabinet_lanes, all_lanes};
 
+use words::flags::Flag;
+
 // how many flags a lane has
-const FLAG_COUNT: u32 = words::SNAPSHOT + 1;
+const FLAG_COUNT: u32 = Flag::COUNT;
 
 // a lane's words: the firsts of its queues
 const NEXT_FIRST: usize = words::QUEUES_AT;
@@ -67,8 +69,8 @@ fn lane_at_rest(m: &[u32], b: usize) -> bool
     requires { b + lane_length ≤ length m.now }
     ensures { result ≡ lane_at_rest m.now b }
 {
-    let held = masks::test(m[b], words::SNAPSHOT);
-    let running = masks::test(m[b], words::LOOKUP);
+    let held = Flag::Snapshot.is_set(m[b]);
+    let running = Flag::Lookup.is_set(m[b]);
     words_at_rest(m, b, held, running)
 }
 
@@ -86,10 +88,10 @@ fn lane_agrees(m: &[u32], b: usize, slots: u32, pending: bool) -> bool
     requires { b + lane_length ≤ length m.now }
     ensures { result ≡ lane_agrees m.now slots b pending }
 {
-    let online = masks::test(m[b], words::ONLINE);
-    let reading = masks::test(m[b], words::READING);
-    let running = masks::test(m[b], words::LOOKUP);
-    let held = masks::test(m[b], words::SNAPSHOT);
+    let online = Flag::Online.is_set(m[b]);
+    let reading = Flag::Reading.is_set(m[b]);
+    let running = Flag::Lookup.is_set(m[b]);
+    let held = Flag::Snapshot.is_set(m[b]);
     (online | (!reading & none_queued(m, b, slots) & !pending))
         & (!running | reading)
         & (!held | pending)
@@ -141,7 +143,7 @@ pub fn lanes_fit(m: &[u32], z: words::Sizes) -> bool
     requires { Lent m.now (sizes_of z) }
     ensures { result ≡ all_lanes m.now z.slots (cabinet_count (sizes_of z)) z.places (lanes_body (sizes_of z)) }
 {
-    let cabinets = words::cabinet_count(z);
+    let cabinets = z.cabinet_count();
     let b = words::MASKS_AT + (cabinets as usize);
     let stride = words::LANE_LENGTH * (z.places as usize);
     let mut c: u32 = 0;

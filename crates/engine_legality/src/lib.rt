@@ -18,7 +18,7 @@ pub fn engine_fits(m: &[u32]) -> bool
     requires { Lent m.now (sizes m.now) }
     ensures { result ≡ engine_legal m.now }
 {
-    let z = words::read_sizes(m);
+    let z = words::Sizes::read(m);
     if !globals::global_words_fit(m, z) {
         return false;
     }

@@ -12,6 +12,8 @@ ghost use Rattle.lanes.specs.Record.{record_at};
 ghost use Rattle.lanes.specs.RecordChanges.{Fits, changed_at};
 ghost use Rattle.lanes.specs.Cabinet.{place_at, cabinet_at, online_at, online_mask, stand, LaneLent};
 
+use words::flags::Flag;
+
 // ---- in the part
 
 // The flags of the lane at a place.
@@ -29,7 +31,7 @@ pub fn online_mask(cabinet: &[u32], places: usize) -> u32
 {
     let mut online: u32 = 0;
     for p in 0..places {
-        if masks::test(lane_flags(cabinet, p), words::ONLINE) {
+        if Flag::Online.is_set(lane_flags(cabinet, p)) {
             online = masks::set_bit(online, p as u32);
         }
     }
@@ -62,7 +64,7 @@ fn cabinet_start(z: words::Sizes, cabinet: u32) -> usize
     requires { (Few (sizes_of z)) × (cabinet < cabinet_count (sizes_of z)) }
     ensures { result ≡ cabinet_at (sizes_of z) cabinet }
 {
-    words::lane_address(z, cabinet * z.places)
+    z.lane_address(cabinet * z.places)
 }
 
 // The lane at a place of a cabinet, which is number `bay` of a yard.

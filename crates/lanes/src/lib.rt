@@ -15,6 +15,8 @@ ghost use Rattle.lanes.specs.RecordChanges.{Fits, changed_record};
 
 pub mod cabinet;
 
+use words::flags::Flag;
+
 // The words of a queue: its first slot, its last, and how many there are.
 #[derive(Clone, Copy)]
 pub struct Queue {
@@ -226,7 +228,7 @@ fn sampled(r: LaneRecord) -> LaneRecord
 {
     let counts = r.quiescent;
     let mut s = r;
-    s.flags = masks::set_bit(r.flags, words::SNAPSHOT);
+    s.flags = Flag::Snapshot.set(r.flags);
     s.snapshot = counts;
     s
 }
@@ -236,7 +238,7 @@ fn dropped(r: LaneRecord) -> LaneRecord
     ensures { result ≡ dropped_record r }
 {
     let mut s = r;
-    s.flags = masks::clear_bit(r.flags, words::SNAPSHOT);
+    s.flags = Flag::Snapshot.clear(r.flags);
     s.snapshot = [0, 0, 0, 0];
     s
 }
@@ -252,7 +254,7 @@ fn same_counts(a: [u64; 4], b: [u64; 4]) -> bool
 pub fn is_holding(r: LaneRecord) -> bool
     ensures { result ≡ is_holding r }
 {
-    masks::test(r.flags, words::SNAPSHOT)
+    Flag::Snapshot.is_set(r.flags)
 }
 
 // Whether a record holds a snapshot from which some count differs: the lane went through a quiescent state since.
@@ -273,7 +275,7 @@ fn offline(r: LaneRecord) -> LaneRecord
     ensures { result ≡ offline_record r }
 {
     let mut s = r;
-    s.flags = masks::clear_bit(r.flags, words::ONLINE);
+    s.flags = Flag::Online.clear(r.flags);
     s
 }
 

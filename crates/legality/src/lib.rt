@@ -115,10 +115,10 @@ fn table_fits(m: &[u32]) -> bool
     requires { (Lent m.now (sizes m.now)) × (engine_legal m.now ≡ true) }
     ensures { result ≡ table_legal m.now }
 {
-    let z = words::read_sizes(m);
-    let lanes = words::index(words::lane_count(z));
-    let lane = words::lane_address(z, 0);
-    let base = words::slots_start(z);
+    let z = words::Sizes::read(m);
+    let lanes = words::index(z.lane_count());
+    let lane = z.lane_address(0);
+    let base = z.slots_start();
     if z.slots <= FEW_SLOTS {
         return few_agree(m, base, lane, lanes);
     }

@@ -36,7 +36,7 @@ fn another_online(m: &[u32], lane: access::Lane) -> bool
     ensures { result ≡ any is_online (others (state m.now) lane.number) }
 {
     let z = lane.sizes;
-    let n = words::lane_count(z);
+    let n = z.lane_count();
     let mut i: u32 = 0;
     while i < n {
         if is_other_online(m, lane, i) {

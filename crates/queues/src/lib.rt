@@ -14,7 +14,7 @@ fn link_address(z: words::Sizes, slot: u32) -> usize
     requires { Few (sizes_of z) }
     ensures { result ≡ link_address (sizes_of z) slot }
 {
-    words::slot_address(z, slot) + words::QUEUE_LINK_AT
+    z.slot_address(slot) + words::QUEUE_LINK_AT
 }
 
 // The queue is empty from now on.

@@ -13,6 +13,7 @@ ghost use Rattle.access.specs.Lanes.{Named, LaneIn};
 ghost use Rattle.readers.specs.Lookups.{lookup_stored, lookup_rested, Looking, is_going, Going, moved_on};
 
 use access::causes;
+use words::flags::Flag;
 
 // ---- begin
 
@@ -40,7 +41,7 @@ pub fn begin(m: &mut [u32], lane: access::Lane) -> access::Answer
     if n > 0 {
         return access::refused(n);
     }
-    access::put_flag(m, lane, words::READING, true);
+    access::put_flag(m, lane, Flag::Reading, true);
     access::accepted(0, 0, 0, 0)
 }
 
@@ -69,7 +70,7 @@ pub fn on(m: &mut [u32], lane: access::Lane) -> access::Answer
     if n > 0 {
         return access::refused(n);
     }
-    access::put_flag(m, lane, words::ONLINE, true);
+    access::put_flag(m, lane, Flag::Online, true);
     access::accepted(0, 0, 0, 0)
 }
 
@@ -81,7 +82,7 @@ fn put_lookup(m: &mut [u32], lane: access::Lane, runs: bool, code: u64, position
     ensures { m.new ≡ lookup_stored m.old lane.address runs code position }
 {
     let a = lane.address;
-    access::put_flag(m, lane, words::LOOKUP, runs);
+    access::put_flag(m, lane, Flag::Lookup, runs);
     m[a + words::LOOKUP_AT] = words::low(code);
     m[a + words::LOOKUP_AT + 1] = words::high(code);
     m[a + words::POSITION_AT] = position;
@@ -122,7 +123,7 @@ pub fn end(m: &mut [u32], lane: access::Lane) -> access::Answer
         return access::refused(n);
     }
     put_to_rest(m, lane);
-    access::put_flag(m, lane, words::READING, false);
+    access::put_flag(m, lane, Flag::Reading, false);
     access::accepted(0, 0, 0, 0)
 }
 

@@ -128,11 +128,11 @@ fn write_fresh(m: &mut [u32], z: words::Sizes)
     requires { (sizes_fit (sizes_of z) ≡ true) × (total (sizes_of z) ≤ length m.old) }
     ensures { m.new ≡ stored (fresh (sizes_of z)) m.old }
 {
-    let masks = words::index(words::cabinet_count(z));
-    let records = words::index(words::lane_count(z));
+    let masks = words::index(z.cabinet_count());
+    let records = words::index(z.lane_count());
     let yards = words::index(z.yards);
-    let first_slot = words::slots_start(z);
-    let first_yard = words::yards_start(z);
+    let first_slot = z.slots_start();
+    let first_yard = z.yards_start();
     words::contents::write(m, z);
     write_global(m, z.slots);
     fill(m, words::MASKS_AT, masks, 0);
@@ -161,7 +161,7 @@ pub fn set_up(m: &mut [u32], yards: u32, cabinets: u32, places: u32, slots: u32)
         places,
         slots,
     };
-    if !words::sizes_fit(z) {
+    if !z.fit() {
         return access::refused(access::causes::BAD_SIZE);
     }
     let total = total_words(z);

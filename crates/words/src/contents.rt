@@ -57,9 +57,9 @@ pub fn bodies_of(z: crate::Sizes) -> Bodies
     requires { Few (sizes_of z) }
     ensures { BodiesOf (sizes_of z) result.masks_long result.lanes result.lanes_long result.slots result.slots_long result.yards result.total }
 {
-    let cabinets = crate::cabinet_count(z);
+    let cabinets = z.cabinet_count();
     let first_lane = MASKS_BODY + cabinets;
-    let lanes_length = LANE_LENGTH * crate::lane_count(z);
+    let lanes_length = LANE_LENGTH * z.lane_count();
     let first_slot = first_lane + lanes_length;
     let slots_length = SLOT_LENGTH * z.slots;
     let first_yard = first_slot + slots_length;

@@ -4,7 +4,9 @@
 #![tactic(auto)]
 
 pub mod contents;
+pub mod flags;
 pub mod links;
+pub mod product;
 
 ghost use Rattle.std.specs.Prelude.{◌≡◌, ◌+◌, ◌<◌, ◌≤◌, length};
 ghost use Rattle.model.specs.Word.{word_limit, less as differenceOf};
@@ -112,15 +114,6 @@ pub const POSITION_AT: usize = LOOKUP_AT + 2;
 
 pub const LANE_LENGTH: usize = POSITION_AT + 1;
 
-// ---- a lane's flags: bits
-pub const ONLINE: u32 = 0;
-
-pub const READING: u32 = ONLINE + 1;
-
-pub const LOOKUP: u32 = READING + 1;
-
-pub const SNAPSHOT: u32 = LOOKUP + 1;
-
 // ---- a slot's record: offsets
 pub const CODE_AT: usize = 0;
 
@@ -145,78 +138,80 @@ pub struct Sizes {
     pub slots: u32,
 }
 
-// Yards 1 to 8, cabinets of a yard 1 to 8, lanes of a cabinet 1 to 8, slots 1 to 1,024.
-pub fn sizes_fit(z: Sizes) -> bool
-    ensures { result ≡ sizes_fit (sizes_of z) }
-{
-    (1 <= z.yards)
-        & ((z.yards <= MAX_YARDS)
-            & ((1 <= z.cabinets)
-                & ((z.cabinets <= MAX_CABINETS)
-                    & ((1 <= z.places)
-                        & ((z.places <= MAX_PLACES)
-                            & ((1 <= z.slots) & ((z.slots <= MAX_SLOTS) & true)))))))
-}
-
-// The sizes that a memory's contents name.
-pub fn read_sizes(m: &[u32]) -> Sizes
-    requires { contents_length ≤ length m.now }
-    ensures { result ≡ sizes_in m.now }
-{
-    Sizes {
-        yards: m[YARDS_AT],
-        cabinets: m[CABINETS_AT],
-        places: m[PLACES_AT],
-        slots: m[SLOTS_AT],
+impl Sizes {
+    // The sizes that a memory's contents name.
+    pub fn read(m: &[u32]) -> Sizes
+        requires { contents_length ≤ length m.now }
+        ensures { result ≡ sizes_in m.now }
+    {
+        Sizes {
+            yards: m[YARDS_AT],
+            cabinets: m[CABINETS_AT],
+            places: m[PLACES_AT],
+            slots: m[SLOTS_AT],
+        }
     }
-}
 
-// The number of cabinets of all yards.
-pub fn cabinet_count(z: Sizes) -> u32
-    requires { Few (sizes_of z) }
-    ensures { result ≡ cabinet_count (sizes_of z) }
-{
-    z.yards * z.cabinets
-}
+    // Yards 1 to 8, cabinets of a yard 1 to 8, lanes of a cabinet 1 to 8, slots 1 to 1,024.
+    pub fn fit(self) -> bool
+        ensures { result ≡ sizes_fit (sizes_of self) }
+    {
+        (1 <= self.yards)
+            & ((self.yards <= MAX_YARDS)
+                & ((1 <= self.cabinets)
+                    & ((self.cabinets <= MAX_CABINETS)
+                        & ((1 <= self.places)
+                            & ((self.places <= MAX_PLACES)
+                                & ((1 <= self.slots) & ((self.slots <= MAX_SLOTS) & true)))))))
+    }
 
-// The number of lanes.
-pub fn lane_count(z: Sizes) -> u32
-    requires { Few (sizes_of z) }
-    ensures { result ≡ lane_count (sizes_of z) }
-{
-    z.yards * z.cabinets * z.places
-}
+    // The number of cabinets of all yards.
+    pub fn cabinet_count(self) -> u32
+        requires { Few (sizes_of self) }
+        ensures { result ≡ cabinet_count (sizes_of self) }
+    {
+        self.yards * self.cabinets
+    }
 
-// Where the record of a lane begins.
-pub fn lane_address(z: Sizes, lane: u32) -> usize
-    requires { Few (sizes_of z) }
-    ensures { result ≡ lane_address (sizes_of z) lane }
-{
-    MASKS_AT + index(cabinet_count(z)) + LANE_LENGTH * index(lane)
-}
+    // The number of lanes.
+    pub fn lane_count(self) -> u32
+        requires { Few (sizes_of self) }
+        ensures { result ≡ lane_count (sizes_of self) }
+    {
+        self.yards * self.cabinets * self.places
+    }
 
-// Where the slots' records begin.
-pub fn slots_start(z: Sizes) -> usize
-    requires { Few (sizes_of z) }
-    ensures { result ≡ slots_body (sizes_of z) }
-{
-    lane_address(z, lane_count(z))
-}
+    // Where the record of a lane begins.
+    pub fn lane_address(self, lane: u32) -> usize
+        requires { Few (sizes_of self) }
+        ensures { result ≡ lane_address (sizes_of self) lane }
+    {
+        MASKS_AT + self.cabinet_count() as usize + LANE_LENGTH * lane as usize
+    }
 
-// Where the record of a slot begins.
-pub fn slot_address(z: Sizes, slot: u32) -> usize
-    requires { Few (sizes_of z) }
-    ensures { result ≡ slot_address (sizes_of z) slot }
-{
-    slots_start(z) + SLOT_LENGTH * index(slot)
-}
+    // Where the slots' records begin.
+    pub fn slots_start(self) -> usize
+        requires { Few (sizes_of self) }
+        ensures { result ≡ slots_body (sizes_of self) }
+    {
+        self.lane_address(self.lane_count())
+    }
 
-// Where the yards' cabinet masks begin.
-pub fn yards_start(z: Sizes) -> usize
-    requires { Few (sizes_of z) }
-    ensures { result ≡ yards_body (sizes_of z) }
-{
-    slot_address(z, z.slots)
+    // Where the record of a slot begins.
+    pub fn slot_address(self, slot: u32) -> usize
+        requires { Few (sizes_of self) }
+        ensures { result ≡ slot_address (sizes_of self) slot }
+    {
+        self.slots_start() + SLOT_LENGTH * slot as usize
+    }
+
+    // Where the yards' cabinet masks begin.
+    pub fn yards_start(self) -> usize
+        requires { Few (sizes_of self) }
+        ensures { result ≡ yards_body (sizes_of self) }
+    {
+        self.slot_address(self.slots)
+    }
 }
 
 // ---- numbers
@@ -232,14 +227,14 @@ pub fn index(x: u32) -> usize
 pub fn plus(a: u32, b: u32) -> u32
     ensures { result ≡ sum_of a b }
 {
-    std::num::wrapping_add_u32(a, b)
+    a.wrapping_add(b)
 }
 
 // The first word less the second, which wraps.
 pub fn less(a: u32, b: u32) -> u32
     ensures { result ≡ differenceOf a b }
 {
-    std::num::wrapping_sub_u32(a, b)
+    a.wrapping_sub(b)
 }
 
 // The 64-bit number with these words.

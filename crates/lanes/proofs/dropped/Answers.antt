@@ -5,4 +5,4 @@ use Rattle.lanes.proofs.dropped.Goals as goal
 
 pub returns : goal.returns
 unfolding dropped_record
-returns c = ap (λ (w : ℕ). with_snapshot w (0 ∷ 0 ∷ 0 ∷ 0 ∷ []) c.args.r) c.clear_bit.ensures
+returns c = ap (λ (w : ℕ). with_snapshot w (0 ∷ 0 ∷ 0 ∷ 0 ∷ []) c.args.r) c.clear.ensures

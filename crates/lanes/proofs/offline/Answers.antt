@@ -5,4 +5,4 @@ use Rattle.lanes.proofs.offline.Goals as goal
 
 pub returns : goal.returns
 unfolding offline_record
-returns c = ap (λ (w : ℕ). with_snapshot w c.args.r.snapshot c.args.r) c.clear_bit.ensures
+returns c = ap (λ (w : ℕ). with_snapshot w c.args.r.snapshot c.args.r) c.clear.ensures

@@ -5,4 +5,4 @@ use Rattle.lanes.proofs.sampled.Goals as goal
 
 pub returns : goal.returns
 unfolding sampled_record
-returns c = ap (λ (w : ℕ). with_snapshot w c.args.r.quiescent c.args.r) c.set_bit.ensures
+returns c = ap (λ (w : ℕ). with_snapshot w c.args.r.quiescent c.args.r) c.set.ensures
