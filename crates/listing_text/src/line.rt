@@ -6,6 +6,7 @@ ghost use Rattle.listing_text.specs.LineReading.{Reads, parsed_of, Requests, Fee
 
 use crate::{NEWLINE, SPACE};
 use calls::{Call, Op};
+use words::product::Product;
 
 // The largest number of 32 bits, how many there are, and the largest of 64 bits.
 const WORD: u64 = 4294967295;
@@ -313,17 +314,18 @@ fn request_of(word: u64, values: [u64; ROOM]) -> Request
     let kind = (code % WORDS) as u32;
     let deposit = (values[2] % WORDS) as u32;
     let material = (values[3] % WORDS) as u32;
+    let product = Product {
+        code: code,
+        deposit: deposit,
+        material: material,
+    };
     match word {
         SETUP => Request(4, WORD, set_up_of(lane, kind, deposit, material)),
-        ADD => Request(
-            4,
-            CODE,
-            Asked::Call(Call::OnState(Op::Add(lane, code, deposit, material))),
-        ),
+        ADD => Request(4, CODE, Asked::Call(Call::OnState(Op::Add(lane, product)))),
         REP => Request(
             4,
             CODE,
-            Asked::Call(Call::OnState(Op::Replace(lane, code, deposit, material))),
+            Asked::Call(Call::OnState(Op::Replace(lane, product))),
         ),
         DEL => Request(2, CODE, Asked::Call(Call::OnState(Op::Delete(lane, code)))),
         BEGIN => Request(1, WORD, Asked::Call(Call::OnState(Op::Begin(lane)))),
