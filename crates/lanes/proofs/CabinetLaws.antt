@@ -1,5 +1,5 @@
 -- Laws of a cabinet's work: what is done to the cabinet's part, put back in its place, is done to the whole memory at the lane's address.
-use Rattle.std.proofs.Common.{◌≡◌, ℕ, zero, suc, ◌+◌, ◌-◌, ◌*◌, ◌<◌, ◌≤◌, List, ◌∷◌, ◌++◌, map, take, drop, sym, refl, ap, ◌∙◌, ap₂, mul-le-mul_right, mod-lt, suc-mul, div-lt_iff_lt-mul, div-add-mod', arith}
+use Rattle.std.proofs.Common.{◌≡◌, ℕ, zero, suc, ◌+◌, ◌-◌, ◌*◌, ◌<◌, ◌≤◌, List, ◌∷◌, ◌++◌, map, take, drop, sym, refl, ap, subst, ◌∙◌, ap₂, mul-le-mul_right, mod-lt, suc-mul, div-lt_iff_lt-mul, div-add-mod', arith}
 use lib.Arith.{digits_div, digits_mod}
 use Rattle.model.specs.Lists.{from, mask}
 use Rattle.model.specs.State.{Sizes, cabinet_count}
@@ -10,11 +10,9 @@ use Rattle.laws.specs.Stores.{get_or_part, part-sets}
 use Rattle.words.specs.Lent.{Lent}
 use Rattle.lanes.specs.declared.LaneRecord.{LaneRecord}
 use Rattle.lanes.specs.declared.Place.{Place}
-use Rattle.lanes.specs.declared.Change.{Change}
-use Rattle.lanes.specs.declared.Change.TheVariants.{Sample, Drop, Leave}
 use Rattle.lanes.specs.Record.{record_at, record_words, record_stored, record_length}
 use Rattle.lanes.proofs.RecordLaws.{words_at, record_at-words}
-use Rattle.lanes.specs.RecordChanges.{Fits, changed_record, changed_at}
+use Rattle.lanes.specs.RecordChanges.{Changed}
 use Rattle.lanes.specs.Cabinet.{place_at, cabinet_at, stand, LaneLent, online_at, online_mask}
 
 -- the lane of place p of cabinet c stands where the model has it
@@ -44,19 +42,6 @@ lane-lent m z c p l some hc hp = record {
   part = omega (arith, row_within c (cabinet_count z) z.places hc, l.long);
 }
 
--- the changes that ask for nothing
-pub fits-sample : Fits Sample
-unfolding Fits
-fits-sample = tt
-
-pub fits-drop : Fits Drop
-unfolding Fits
-fits-drop = tt
-
-pub fits-leave : Fits Leave
-unfolding Fits
-fits-leave = tt
-
 -- ---- a cabinet's part of n words from a on, in its place again
 
 module _ (m : List ℕ) (a n : ℕ) where
@@ -79,12 +64,12 @@ module _ (m : List ℕ) (a n : ℕ) where
         ∙ ap (λ (ws : List ℕ). record_at ws 0) (part-words record_length (place_at p) (omega arith))
         ∙ sym (record_at-words m (a + place_at p))
 
-    -- and what changes it in the part changes it in the whole
-    pub part-changed : (x : Change) (l : List ℕ) → l ≡ changed_at part (place_at p) x → take a m ++ (l ++ drop n (drop a m)) ≡ changed_at m (a + place_at p) x
+    -- and what is written to it in the part is written to it in the whole
+    pub part-stored : (r : LaneRecord) (l : List ℕ) → l ≡ record_stored part (place_at p) r → take a m ++ (l ++ drop n (drop a m)) ≡ record_stored m (a + place_at p) r
     unfolding record_words
-    part-changed x l e =
-        ap (λ (ys : List ℕ). take a m ++ (ys ++ drop n (drop a m))) (e ∙ ap (λ (r : LaneRecord). record_stored part (place_at p) (changed_record x r)) part-record)
-        ∙ part-sets (record_words (changed_record x (record_at m (a + place_at p)))) m a n (place_at p) (omega arith)
+    part-stored r l e =
+        ap (λ (ys : List ℕ). take a m ++ (ys ++ drop n (drop a m))) e
+        ∙ part-sets (record_words r) m a n (place_at p) (omega arith)
 
   -- the lanes of the part that are on
   pub part-online : (k : ℕ) → lane_length * k ≤ n → mask (map (online_at part 0) (from 0 k)) ≡ mask (map (online_at m a) (from 0 k))
@@ -96,19 +81,25 @@ module _ (m : List ℕ) (a n : ℕ) where
 
 -- ---- by what the code worked out: the part has i places, of which the lane's is j
 
-module _ (m : List ℕ) (z : Sizes) (l : Place) (k : LaneLent m z l) (i j : ℕ) (ei : i ≡ z.places) (ej : j ≡ l.place) where
+module _ (m : List ℕ) (z : Sizes) (l : Place) (lane : LaneLent m z l) (i j : ℕ) (ei : i ≡ z.places) (ej : j ≡ l.place) where
   abbrev n : ℕ
   n = l.start + lane_length * i - l.start
 
   at-lane : l.start + place_at j ≡ l.address
-  at-lane = omega (arith, k.address)
+  at-lane = omega (arith, lane.address)
 
   pub lane-record-by : (r : LaneRecord) → r ≡ record_at (part m l.start n) (place_at j) → r ≡ record_at m l.address
-  lane-record-by r e = e ∙ part-record m l.start n j (omega (arith, k.place)) ∙ ap (record_at m) at-lane
+  lane-record-by r e = e ∙ part-record m l.start n j (omega (arith, lane.place)) ∙ ap (record_at m) at-lane
 
-  pub lane-changed-by : (x : Change) (w : List ℕ) → w ≡ changed_at (part m l.start n) (place_at j) x
-      → take l.start m ++ (w ++ drop n (drop l.start m)) ≡ changed_at m l.address x
-  lane-changed-by x w e = part-changed m l.start n j (omega (arith, k.place)) x w e ∙ ap (λ (a : ℕ). changed_at m a x) at-lane
+  pub lane-changed-by : (gives : LaneRecord → LaneRecord → Type 0) (w : List ℕ) → Changed gives (part m l.start n) (place_at j) w
+      → Changed gives m l.address (take l.start m ++ (w ++ drop n (drop l.start m)))
+  lane-changed-by gives w k = record {
+    record_after = k.record_after;
+    given = subst (λ (r : LaneRecord). gives r k.record_after) (lane-record-by _ refl) k.given;
+    stored =
+        part-stored m l.start n j (omega (arith, lane.place)) k.record_after w k.stored
+        ∙ ap (λ (a : ℕ). record_stored m a k.record_after) at-lane;
+  }
 
 -- the part of cabinet c begins at a
 pub online-by : (m : List ℕ) (z : Sizes) (c a i r : ℕ) → a ≡ cabinet_at z c → i ≡ z.places

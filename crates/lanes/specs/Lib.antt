@@ -2,3 +2,4 @@
 pub mod Record
 pub mod RecordChanges
 pub mod Cabinet
+pub mod Kinds

@@ -9,9 +9,10 @@ ghost use Rattle.model.specs.Memory.{at as word_at};
 ghost use Rattle.words.specs.Lent.{sizes_of, Few, Lent};
 ghost use Rattle.masks.specs.Bits.{width};
 ghost use Rattle.lanes.specs.Record.{record_at};
-ghost use Rattle.lanes.specs.RecordChanges.{Fits, changed_at};
+ghost use Rattle.lanes.specs.RecordChanges.{Changed};
 ghost use Rattle.lanes.specs.Cabinet.{place_at, cabinet_at, online_at, online_mask, stand, LaneLent};
 
+use crate::{LaneRecord, Place};
 use words::flags::Flag;
 
 // ---- in the part
@@ -39,22 +40,21 @@ pub fn online_mask(cabinet: &[u32], places: usize) -> u32
 }
 
 // The record of the lane at a place.
-pub fn record_in(cabinet: &[u32], place: usize) -> crate::LaneRecord
+pub fn record_in(cabinet: &[u32], place: usize) -> LaneRecord
     requires { place_at place + lane_length ≤ length cabinet.now }
     ensures { result ≡ record_at cabinet.now (place_at place) }
 {
-    crate::read_lane(cabinet, words::LANE_LENGTH * place)
+    LaneRecord::read(cabinet, words::LANE_LENGTH * place)
 }
 
 // The record of the lane at a place is changed. All other words stay.
-pub fn change_in(cabinet: &mut [u32], place: usize, change: crate::Change)
-    requires { (place_at place + lane_length ≤ length cabinet.old) × Fits change }
-    ensures { cabinet.new ≡ changed_at cabinet.old (place_at place) change }
+pub fn change_in<F: FnOnce(LaneRecord) -> LaneRecord>(cabinet: &mut [u32], place: usize, change: F)
+    requires { (place_at place + lane_length ≤ length cabinet.old) × F.IsAlwaysCallable change }
+    ensures { Changed (F.post change) cabinet.old (place_at place) cabinet.new }
 {
     let at = words::LANE_LENGTH * place;
-    let r = crate::read_lane(cabinet, at);
-    let s = crate::changed(r, change);
-    crate::write_lane(cabinet, at, s);
+    let record = change(LaneRecord::read(cabinet, at));
+    record.write(cabinet, at);
 }
 
 // ---- the part handed on
@@ -67,51 +67,56 @@ fn cabinet_start(z: words::Sizes, cabinet: u32) -> usize
     z.lane_address(cabinet * z.places)
 }
 
-// The lane at a place of a cabinet, which is number `bay` of a yard.
-pub fn stand_at(z: words::Sizes, yard: u32, bay: u32, place: u32) -> crate::Place
-    requires { (Few (sizes_of z)) × ((yard < z.yards) × (bay < z.cabinets)) }
-    ensures { result ≡ stand (sizes_of z) (yard * z.cabinets + bay) place }
-{
-    let cabinet = yard * z.cabinets + bay;
-    let start = cabinet_start(z, cabinet);
-    let address = start + words::LANE_LENGTH * words::index(place);
-    crate::Place {
-        yard,
-        bay,
-        cabinet,
-        place,
-        start,
-        address,
-    }
-}
-
 // The lanes of a cabinet that are on.
 pub fn cabinet_online(m: &[u32], z: words::Sizes, cabinet: u32) -> u32
     requires { (Lent m.now (sizes_of z)) × (cabinet < cabinet_count (sizes_of z)) }
     ensures { result ≡ online_mask m.now (sizes_of z) cabinet }
 {
-    let places = words::index(z.places);
+    let places = z.places as usize;
     let start = cabinet_start(z, cabinet);
     let end = start + words::LANE_LENGTH * places;
     online_mask(&m[start..end], places)
 }
 
-// The record of a lane.
-pub fn lane_record(m: &[u32], z: words::Sizes, lane: crate::Place) -> crate::LaneRecord
-    requires { LaneLent m.now (sizes_of z) lane }
-    ensures { result ≡ record_at m.now lane.address }
-{
-    let start = lane.start;
-    let end = start + words::LANE_LENGTH * words::index(z.places);
-    record_in(&m[start..end], words::index(lane.place))
-}
+impl Place {
+    // The lane at a place of a cabinet, which is number `bay` of a yard.
+    pub fn new(z: words::Sizes, yard: u32, bay: u32, place: u32) -> Place
+        requires { (Few (sizes_of z)) × ((yard < z.yards) × (bay < z.cabinets)) }
+        ensures { result ≡ stand (sizes_of z) (yard * z.cabinets + bay) place }
+    {
+        let cabinet = yard * z.cabinets + bay;
+        let start = cabinet_start(z, cabinet);
+        let address = start + words::LANE_LENGTH * place as usize;
+        Place {
+            yard,
+            bay,
+            cabinet,
+            place,
+            start,
+            address,
+        }
+    }
 
-// The record of a lane is changed. All other words stay.
-pub fn change_lane(m: &mut [u32], z: words::Sizes, lane: crate::Place, change: crate::Change)
-    requires { (LaneLent m.old (sizes_of z) lane) × Fits change }
-    ensures { m.new ≡ changed_at m.old lane.address change }
-{
-    let start = lane.start;
-    let end = start + words::LANE_LENGTH * words::index(z.places);
-    change_in(&mut m[start..end], words::index(lane.place), change);
+    // The record of the lane.
+    pub fn record(self, m: &[u32], z: words::Sizes) -> LaneRecord
+        requires { LaneLent m.now (sizes_of z) self }
+        ensures { result ≡ record_at m.now self.address }
+    {
+        let end = self.start + words::LANE_LENGTH * z.places as usize;
+        record_in(&m[self.start..end], self.place as usize)
+    }
+
+    // The record of the lane is changed. All other words stay.
+    pub fn change<F: FnOnce(LaneRecord) -> LaneRecord>(
+        self,
+        m: &mut [u32],
+        z: words::Sizes,
+        change: F,
+    )
+        requires { (LaneLent m.old (sizes_of z) self) × F.IsAlwaysCallable change }
+        ensures { Changed (F.post change) m.old self.address m.new }
+    {
+        let end = self.start + words::LANE_LENGTH * z.places as usize;
+        change_in(&mut m[self.start..end], self.place as usize, change);
+    }
 }
