@@ -1,5 +1,5 @@
 -- `seek`: what it finds at each step, as the loop of `find` meets it, and what it finds in a chain.
-use Prim.Native.Nat.{ℕ, zero, suc, ◌-◌, ◌<◌, ◌≤◌}
+use Prim.Native.Nat.{ℕ, zero, suc, ◌<◌, ◌≤◌}
 use mathlib.Core.Bool.{Bool, cond}
 use mathlib.Core.Path.{◌≡◌, refl, ap, sym, ◌∙◌, subst}
 use mathlib.Core.Logic.{◌≢◌}
@@ -8,6 +8,7 @@ use native.Mathlib.Omega.{arith}
 use lib.ListN.{length, get_or}
 use lib.Dec.{leb, eqb}
 use borrow.Author.Tests.{le-leb, lt-leb, eq-eqb, ne_eqb}
+use Rattle.std.specs.Prelude.{Some, None}
 use Rattle.model.specs.Word.{none}
 use Rattle.model.specs.State.{Sizes, Product}
 use Rattle.model.specs.Table.{product_at, slot_in}
@@ -16,35 +17,49 @@ use Rattle.laws.specs.Tests.{same, other, decide, eqb-self}
 use Rattle.laws.specs.Removals.{before_in}
 use Rattle.laws.specs.Walks.{stop, on, step, walk-stop, walk-on}
 use Rattle.chains.specs.declared.Found.{Found}
-use Rattle.chains.specs.Chain.{link_address, code_words, found_at, seek}
+use Rattle.chains.specs.Chain.{link_address, code_words, found_at, seek, found}
 use Rattle.chains.specs.Chained.{before_code}
+
+-- ---- what was found
+
+pub found-real : (f : Found) → f.slot ≢ none → found f ≡ Some f
+found-real f n = rw (ne_eqb f.slot none n)
+
+pub found-nothing : (f : Found) → f.slot ≡ none → found f ≡ None
+found-nothing f e = rw (eq-eqb f.slot none e)
+
+-- a slot that was found is the search's
+pub found-some : (f g : Found) → found f ≡ Some g → f ≡ g
+found-some f g e =
+    elim (decide f.slot none) [
+      | same q t u ↦ absurd (let w : None ≡ Some g = sym (found-nothing f q) ∙ e in cc)
+      | other q t u ↦ let w : Some f ≡ Some g = sym (found-real f q) ∙ e in cc
+    ]
 
 -- ---- the loop
 
 module _ (m : List ℕ) (z : Sizes) (code : ℕ) where
-  seek-step : (n p i : ℕ) → 0 < n
-      → seek m z code n p i
-      ≡ cond (leb z.slots i)
-      (found_at none p)
-      (cond (eqb (code_words m z i) code) (found_at i p) (seek m z code (n - 1) i (at m (link_address z i))))
+  -- no step is left at slot i, p before it; r is what the whole search finds
+  pub seek-end : (p i : ℕ) (r : Found) → seek m z code 0 p i ≡ r → None ≡ found r
   unfolding seek
-  seek-step zero p i h = absurd (omega arith)
-  seek-step (suc n) p i h = let e : suc n - 1 ≡ n = omega arith in rw e
+  seek-end p i r inv = ap found inv
 
-  -- with n steps left at slot i, p before it; r is what the whole search finds
-  module _ (n p i : ℕ) (r : Found) (inv : seek m z code n p i ≡ r) where
-    pub seek-end : n ≤ 0 → found_at none p ≡ r
+  -- n steps are left, and k after this one
+  module _ (n k p i : ℕ) (r : Found) (e : n ≡ suc k) (inv : seek m z code n p i ≡ r) where
+    here : cond (leb z.slots i) (found_at none p) (cond (eqb (code_words m z i) code) (found_at i p) (seek m z code k i (at m (link_address z i)))) ≡ r
     unfolding seek
-    seek-end h = let e : n ≡ 0 = omega arith in rw e at inv
+    here = rw e at inv
 
-    pub seek-none : 0 < n → z.slots ≤ i → found_at none p ≡ r
-    seek-none h o = sym (seek-step n p i h ∙ simp (le-leb z.slots i o)) ∙ inv
+    pub seek-none : z.slots ≤ i → None ≡ found r
+    seek-none o = let w : found_at none p ≡ r = rw (le-leb z.slots i o) at here in ap found w
 
-    pub seek_found : 0 < n → i < z.slots → code_words m z i ≡ code → found_at i p ≡ r
-    seek_found h o e = sym (seek-step n p i h ∙ simp (lt-leb z.slots i o, eq-eqb _ _ e)) ∙ inv
+    pub seek_found : z.slots ≤ none → i < z.slots → code_words m z i ≡ code → Some (found_at i p) ≡ found r
+    seek_found few o q =
+        let w : found_at i p ≡ r = rw (lt-leb z.slots i o, eq-eqb _ _ q) at here in
+        sym (found-real (found_at i p) (λ x. omega arith)) ∙ ap found w
 
-    pub seek-on : 0 < n → i < z.slots → (code_words m z i ≡ code → ⊥) → seek m z code (n - 1) i (at m (link_address z i)) ≡ r
-    seek-on h o e = sym (seek-step n p i h ∙ simp (lt-leb z.slots i o, ne_eqb _ _ e)) ∙ inv
+    pub seek-on : i < z.slots → (code_words m z i ≡ code → ⊥) → seek m z code k i (at m (link_address z i)) ≡ r
+    seek-on o q = rw (lt-leb z.slots i o, ne_eqb _ _ q) at here
 
 -- ---- what a search finds in a chain
 

@@ -25,3 +25,7 @@ outcome_at m z code i =
 -- the five words of an answer
 abbrev pub answer_words : Answer → List ℕ
 answer_words r = r.status ∷ r.a ∷ r.b ∷ r.c ∷ r.d ∷ []
+
+-- the four after the status
+abbrev pub step_words : Answer → List ℕ
+step_words r = r.a ∷ r.b ∷ r.c ∷ r.d ∷ []

@@ -1,14 +1,10 @@
--- `chains::find`. The loop's invariant: the steps that are left are slots + 1 at most, and the search from here finds what the whole search finds. The
--- measure is the steps that are left.
-use Prim.Native.Nat.{◌≤◌, ◌+◌}
+-- `chains::find`. The loop's invariant: the search from here, with the steps that are left, finds what the whole search finds.
+use Prim.Native.Nat.{◌-◌, ◌+◌}
 use mathlib.Core.Path.{◌≡◌}
 use Rattle.model.specs.Word.{none}
 use Rattle.words.specs.Lent.{sizes_of}
 use Rattle.chains.specs.Chain.{seek}
 use Rattle.chains.proofs.find.Given as goal
 
-abbrev pub invariant-loop-left : goal.invariant-loop-left
-invariant-loop-left l = (l.left ≤ l.z.slots + 1) × (seek l.m (sizes_of l.z) l.code l.left l.prev l.slot ≡ seek l.m (sizes_of l.z) l.code (l.z.slots + 1) none l.head)
-
-abbrev pub decreases-loop-left : goal.decreases-loop-left
-decreases-loop-left l = l.left
+abbrev pub invariant-loop : goal.invariant-loop
+invariant-loop l = seek l.m (sizes_of l.z) l.code (l.z.slots + 1 - l.counter) l.prev l.slot ≡ seek l.m (sizes_of l.z) l.code (l.z.slots + 1) none l.head
