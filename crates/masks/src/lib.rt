@@ -38,14 +38,14 @@ pub fn clear_bit(mask: u32, p: u32) -> u32
 pub fn ones(mask: u32) -> u32
     ensures { result ≡ trues (bits mask) }
 {
-    u32::count_ones(mask)
+    mask.count_ones()
 }
 
 // The place of the lowest set bit of a mask; the width where no bit is set.
 pub fn lowest(mask: u32) -> u32
     ensures { result ≡ first_true (bits mask) }
 {
-    u32::trailing_zeros(mask)
+    mask.trailing_zeros()
 }
 
 // ---- generations, which wrap
@@ -54,14 +54,14 @@ pub fn lowest(mask: u32) -> u32
 pub fn up(g: u32) -> u32
     ensures { result ≡ word_up g }
 {
-    std::num::wrapping_add_u32(g, 1)
+    g.wrapping_add(1)
 }
 
 // The generation before g.
 pub fn down(g: u32) -> u32
     ensures { result ≡ word_down g }
 {
-    std::num::wrapping_sub_u32(g, 1)
+    g.wrapping_sub(1)
 }
 
 // The most by which a generation is later than another.
@@ -71,6 +71,6 @@ const FARTHEST: u32 = 2147483647;
 pub fn later(a: u32, b: u32) -> bool
     ensures { result ≡ word_later a b }
 {
-    let d = std::num::wrapping_sub_u32(a, b);
+    let d = a.wrapping_sub(b);
     1 <= d && d <= FARTHEST
 }

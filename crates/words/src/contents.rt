@@ -55,7 +55,7 @@ pub struct Bodies {
 // The bodies of a table with these sizes.
 pub fn bodies_of(z: crate::Sizes) -> Bodies
     requires { Few (sizes_of z) }
-    ensures { BodiesOf (sizes_of z) result.masks_long result.lanes result.lanes_long result.slots result.slots_long result.yards result.total }
+    ensures { BodiesOf (sizes_of z) result }
 {
     let cabinets = z.cabinet_count();
     let first_lane = MASKS_BODY + cabinets;

@@ -16,7 +16,8 @@ use Rattle.representation.proofs.WellFormed.{WellFormed}
 use Rattle.laws.specs.Updates.{update_alike}
 use Rattle.changes.proofs.Shows.{Shows}
 use Rattle.changes.proofs.OfLanes.OneLane.{stored_from}
-use Rattle.lanes.specs.declared.Change.TheVariants.{Pass}
+use Rattle.lanes.specs.declared.LaneRecord.{LaneRecord}
+use Rattle.lanes.specs.Record.{counted_record}
 use Rattle.lanes.specs.RecordChanges.{changed_at}
 use Rattle.changes.proofs.OfLanes.LaneWords.{lookup_words, lane-lookup, lane-position}
 use Rattle.changes.proofs.OfLanes.LaneRecords.{record-passed}
@@ -37,7 +38,7 @@ module _ (s : State) (m : List ℕ) (shows : Shows m s) (w : WellFormed s) (i : 
   unfolding performed
   start-stored c known = lane-lookup s m shows w.lanes i known (started c)
 
-  pub pass-stored : (k : ℕ) → PassAccepted s i k → changed_at m a (Pass k) ≡ stored (performed s (pass i k)) m
+  pub pass-stored : (k : ℕ) → PassAccepted s i k → changed_at m a (λ (r : LaneRecord). counted_record r k) ≡ stored (performed s (pass i k)) m
   unfolding performed
   pass-stored k h = record-passed s m shows i h.lane.known w.lanes k (w.fits i).counts.four
 

@@ -16,10 +16,8 @@ use Rattle.model.specs.Calls.{stored}
 use Rattle.laws.specs.ListLaws.{length-map-from}
 use Rattle.representation.proofs.Addresses.Fields.{lane}
 use Rattle.lanes.specs.declared.LaneRecord.{LaneRecord}
-use Rattle.lanes.specs.declared.Change.{Change}
-use Rattle.lanes.specs.declared.Change.TheVariants.{Pass, Sample, Drop, Leave}
-use Rattle.lanes.specs.Record.{record_at, record_words, record_stored, record_of, record_length}
-use Rattle.lanes.specs.RecordChanges.{changed_record, changed_at}
+use Rattle.lanes.specs.Record.{record_at, record_words, record_stored, record_of, record_length, counted_record, sampled_record, dropped_record, offline_record}
+use Rattle.lanes.specs.RecordChanges.{changed_at}
 use Rattle.lanes.proofs.RecordLaws.{words_at, record_at-lane, record_words-record_of, record_of-counted, record_of-sampled, record_of-dropped, record_of-offline}
 use Rattle.changes.proofs.Shows.{Shows}
 use Rattle.changes.proofs.Shape.{LaneAtEach}
@@ -54,27 +52,27 @@ module _ (s : State) (m : List ℕ) (shows : Shows m s) (i : ℕ) (within : i < 
 
   module _ (lanes : LaneAtEach s) where
     -- a change that makes the record of the lane changed by g
-    record-changed : (x : Change) (g : Lane → Lane) → (g l).pending ≡ l.pending → lane_queues (g l) ≡ lane_queues l
-        → record_of (g l) ≡ changed_record x (record_of l) → lane_words (g l) ≡ sets (lane_words l) 0 (words_at (lane_words (g l)) 0 record_length)
+    record-changed : (x : LaneRecord → LaneRecord) (g : Lane → Lane) → (g l).pending ≡ l.pending → lane_queues (g l) ≡ lane_queues l
+        → record_of (g l) ≡ x (record_of l) → lane_words (g l) ≡ sets (lane_words l) 0 (words_at (lane_words (g l)) 0 record_length)
         → changed_at m a x ≡ stored (with_lane s i g) m
     record-changed x g p q e d =
-        ap (λ (r : LaneRecord). record_stored m a (changed_record x r)) record-shown
+        ap (λ (r : LaneRecord). record_stored m a (x r)) record-shown
         ∙ ap (sets m a) (ap record_words (sym e) ∙ record_words-record_of (g l))
         ∙ lane-record s m shows lanes i within g p q (words_at (lane_words (g l)) 0 record_length)
         (omega (arith, length-map-from (at (lane_words (g l))) 0 record_length)) d
 
-    pub record-passed : (k : ℕ) → length l.quiescent ≡ kinds → changed_at m a (Pass k) ≡ stored (with_lane s i (counted k)) m
-    unfolding changed_record lane_words counted from
-    record-passed k four = record-changed (Pass k) (counted k) refl refl (record_of-counted l k four) refl
+    pub record-passed : (k : ℕ) → length l.quiescent ≡ kinds → changed_at m a (λ (r : LaneRecord). counted_record r k) ≡ stored (with_lane s i (counted k)) m
+    unfolding lane_words counted from
+    record-passed k four = record-changed (λ (r : LaneRecord). counted_record r k) (counted k) refl refl (record_of-counted l k four) refl
 
-    pub record-sampled : changed_at m a Sample ≡ stored (with_lane s i (holding (held l.quiescent))) m
-    unfolding changed_record lane_words from
-    record-sampled = record-changed Sample (holding (held l.quiescent)) refl refl (record_of-sampled l l.pending) refl
+    pub record-sampled : changed_at m a sampled_record ≡ stored (with_lane s i (holding (held l.quiescent))) m
+    unfolding lane_words from
+    record-sampled = record-changed sampled_record (holding (held l.quiescent)) refl refl (record_of-sampled l l.pending) refl
 
-    pub record-dropped : changed_at m a Drop ≡ stored (with_lane s i (holding unheld)) m
-    unfolding changed_record lane_words from
-    record-dropped = record-changed Drop (holding unheld) refl refl (record_of-dropped l l.pending) refl
+    pub record-dropped : changed_at m a dropped_record ≡ stored (with_lane s i (holding unheld)) m
+    unfolding lane_words from
+    record-dropped = record-changed dropped_record (holding unheld) refl refl (record_of-dropped l l.pending) refl
 
-    pub record-offline : changed_at m a Leave ≡ stored (with_lane s i (set_online false)) m
-    unfolding changed_record lane_words from
-    record-offline = record-changed Leave (set_online false) refl refl (record_of-offline l) refl
+    pub record-offline : changed_at m a offline_record ≡ stored (with_lane s i (set_online false)) m
+    unfolding lane_words from
+    record-offline = record-changed offline_record (set_online false) refl refl (record_of-offline l) refl

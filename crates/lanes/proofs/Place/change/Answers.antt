@@ -1,5 +1,5 @@
 -- What is done to the cabinet's part is done to the whole at the lane's address.
-use Rattle.std.proofs.Common.{◌∙◌, refl}
+use Rattle.std.proofs.Common.{refl}
 use Rattle.lanes.proofs.CabinetLaws.{lane-changed-by}
 use Rattle.lanes.proofs.Place.change.Goals as goal
 
