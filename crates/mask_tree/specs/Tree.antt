@@ -78,6 +78,10 @@ standing_at m a p = is_not_zero (at m (a + p))
 abbrev pub standing_mask : List ℕ → ℕ → ℕ → ℕ
 standing_mask m a w = mask (map (standing_at m a) (from 0 w))
 
+-- the mask of the first n of these words
+abbrev pub mask_of : List ℕ → ℕ → ℕ
+mask_of ws n = mask (map (λ (p : ℕ). is_not_zero (at ws p)) (from 0 n))
+
 -- the first n masks of a level, by those of the level below, which stand from b on
 unfoldable pub raised_to : List ℕ → ℕ → Level → ℕ → List ℕ
 raised_to m b l zero = m

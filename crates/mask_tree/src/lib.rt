@@ -4,15 +4,7 @@
 
 ghost use Rattle.std.specs.Prelude.{◌≡◌, ◌+◌, ◌*◌, ◌<◌, ◌≤◌, length};
 ghost use Rattle.masks.specs.Bits.{width};
-ghost use Rattle.mask_tree.specs.Tree.{level_of, Cleared, standing_mask, raised_to};
-
-// A level: where its masks stand, the flags of a mask, and how many masks.
-#[derive(Clone, Copy)]
-pub struct Level {
-    pub first: usize,
-    pub wide: u32,
-    pub count: u32,
-}
+ghost use Rattle.mask_tree.specs.Tree.{level_of, Cleared, mask_of, raised_to};
 
 // Clears a bit of the mask at `at`. Answers whether the mask is 0 then.
 pub fn clear(m: &mut [u32], at: usize, place: u32) -> bool
@@ -25,29 +17,38 @@ pub fn clear(m: &mut [u32], at: usize, place: u32) -> bool
     rest == 0
 }
 
-// The mask of the words from at on: bit p stands while the p-th of them is not 0.
-fn standing_mask(m: &[u32], at: usize, wide: u32) -> u32
-    requires { (at + wide ≤ length m.now) × (wide ≤ width) }
-    ensures { result ≡ standing_mask m.now at wide }
+// The mask of these words: bit p stands while the p-th of them is not 0.
+fn mask_of(words: &[u32]) -> u32
+    requires { length words.now ≤ width }
+    ensures { result ≡ mask_of words.now (length words.now) }
 {
-    let mut mask: u32 = 0;
-    for p in 0..wide {
-        if m[at + (p as usize)] != 0 {
-            mask = masks::set_bit(mask, p);
+    let mut mask = 0;
+    for (p, word) in words.iter().enumerate() {
+        if *word != 0 {
+            mask = masks::set_bit(mask, p as u32);
         }
     }
     mask
 }
 
-// Sets the masks of a level by those of the level below, which stand from `below` on.
-pub fn raise(m: &mut [u32], below: usize, level: Level)
-    requires { (below + level.count * level.wide ≤ length m.old) × ((level.first + level.count ≤ length m.old) × (level.wide ≤ width)) }
-    ensures { m.new ≡ raised_to m.old below (level_of level) level.count }
-{
-    let mut at = below;
-    for g in 0..level.count {
-        let mask = standing_mask(m, at, level.wide);
-        m[level.first + (g as usize)] = mask;
-        at = at + (level.wide as usize);
+// A level: where its masks stand, the flags of a mask, and how many masks.
+#[derive(Clone, Copy)]
+pub struct Level {
+    pub first: usize,
+    pub wide: u32,
+    pub count: u32,
+}
+
+impl Level {
+    // Sets the masks of the level by those of the level below, which stand from `below` on.
+    pub fn raise(self, m: &mut [u32], below: usize)
+        requires { (below + self.count * self.wide ≤ length m.old) × ((self.first + self.count ≤ length m.old) × (self.wide ≤ width)) }
+        ensures { m.new ≡ raised_to m.old below (level_of self) self.count }
+    {
+        let wide = self.wide as usize;
+        for g in 0..self.count as usize {
+            let at = below + g * wide;
+            m[self.first + g] = mask_of(&m[at..at + wide]);
+        }
     }
 }
