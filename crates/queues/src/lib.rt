@@ -9,7 +9,19 @@ ghost use Rattle.words.specs.Lent.{sizes_of, Few, Lent};
 ghost use Rattle.queues.specs.Queue.{link_address, cleared, lengthened, shortened, begun_at, followed, appended_run, appended};
 ghost use Rattle.queues.specs.Queue.{joined, Taken};
 
+// A queue by where its words stand.
+#[derive(Clone, Copy, Debug, PartialEq, Eq)]
+pub struct QueueAt {
+    pub ends: usize,
+}
+
+// The queue of the free slots.
+pub const FREE: QueueAt = QueueAt {
+    ends: words::FREE_AT,
+};
+
 // Where the queue link of a slot stands.
+// Stays: `chains` has this line with its own constant; one function for both would only name the constant at each call.
 fn link_address(z: words::Sizes, slot: u32) -> usize
     requires { Few (sizes_of z) }
     ensures { result ≡ link_address (sizes_of z) slot }
@@ -17,112 +29,119 @@ fn link_address(z: words::Sizes, slot: u32) -> usize
     z.slot_address(slot) + words::QUEUE_LINK_AT
 }
 
-// The queue is empty from now on.
-fn clear(m: &mut [u32], ends: usize)
-    requires { ends + queue_width ≤ length m.old }
-    ensures { m.new ≡ cleared m.old ends }
-{
-    m[ends] = words::NONE;
-    m[ends + words::LAST_OFFSET] = words::NONE;
-    m[ends + words::LENGTH_OFFSET] = 0;
-}
-
-// The queue has n slots more.
-fn lengthen(m: &mut [u32], ends: usize, n: u32)
-    requires { ends + queue_width ≤ length m.old }
-    ensures { m.new ≡ lengthened m.old ends n }
-{
-    let i = ends + words::LENGTH_OFFSET;
-    m[i] = words::plus(m[i], n);
-}
-
-// The queue has a slot less.
-fn shorten(m: &mut [u32], ends: usize)
-    requires { ends + queue_width ≤ length m.old }
-    ensures { m.new ≡ shortened m.old ends }
-{
-    let i = ends + words::LENGTH_OFFSET;
-    m[i] = words::less(m[i], 1);
-}
-
-// The queue's first is gone, and it begins at `next`; it is empty where that is no slot.
-fn begin_at(m: &mut [u32], z: words::Sizes, ends: usize, next: u32)
-    requires { ends + queue_width ≤ length m.old }
-    ensures { m.new ≡ begun_at m.old (sizes_of z) ends next }
-{
-    if next < z.slots {
-        m[ends] = next;
-        shorten(m, ends);
-    } else {
-        clear(m, ends);
+impl QueueAt {
+    // The queue is empty from now on.
+    fn clear(self, m: &mut [u32])
+        requires { self.ends + queue_width ≤ length m.old }
+        ensures { m.new ≡ cleared m.old self.ends }
+    {
+        m[self.ends] = words::NONE;
+        m[self.ends + words::LAST_OFFSET] = words::NONE;
+        m[self.ends + words::LENGTH_OFFSET] = 0;
     }
-}
 
-// The slot follows the queue's last; it is the first where the queue is empty.
-fn follow(m: &mut [u32], z: words::Sizes, ends: usize, slot: u32)
-    requires { (Lent m.old (sizes_of z)) × (ends + queue_width ≤ length m.old) }
-    ensures { m.new ≡ followed m.old (sizes_of z) ends slot }
-{
-    let last = m[ends + words::LAST_OFFSET];
-    if last < z.slots {
-        let i = link_address(z, last);
-        m[i] = slot;
-    } else {
-        m[ends] = slot;
+    // The queue has n slots more.
+    fn lengthen(self, m: &mut [u32], n: u32)
+        requires { self.ends + queue_width ≤ length m.old }
+        ensures { m.new ≡ lengthened m.old self.ends n }
+    {
+        let i = self.ends + words::LENGTH_OFFSET;
+        m[i] = m[i].wrapping_add(n);
     }
-}
 
-// Whether the queue is empty.
-pub fn is_empty(m: &[u32], z: words::Sizes, ends: usize) -> bool
-    requires { ends < length m.now }
-    ensures { result ≡ not (ltb (at m.now ends) z.slots) }
-{
-    !(m[ends] < z.slots)
-}
-
-// Appends n slots from `first` to `last`, which are linked already.
-fn append_run(m: &mut [u32], z: words::Sizes, ends: usize, first: u32, last: u32, n: u32)
-    requires { (Lent m.old (sizes_of z)) × (ends + queue_width ≤ length m.old) }
-    ensures { m.new ≡ appended_run m.old (sizes_of z) ends first last n }
-{
-    follow(m, z, ends, first);
-    m[ends + words::LAST_OFFSET] = last;
-    lengthen(m, ends, n);
-}
-
-// Appends the slot. Its queue link is not written: it is none of a slot outside every queue.
-pub fn append(m: &mut [u32], z: words::Sizes, ends: usize, slot: u32)
-    requires { (Lent m.old (sizes_of z)) × (ends + queue_width ≤ length m.old) }
-    ensures { m.new ≡ appended m.old (sizes_of z) ends slot }
-{
-    append_run(m, z, ends, slot, slot, 1);
-}
-
-// Appends the whole queue at `from` to the one at `to`, and leaves `from` empty.
-pub fn append_queue(m: &mut [u32], z: words::Sizes, to: usize, from: usize)
-    requires { (Lent m.old (sizes_of z)) × ((to + queue_width ≤ length m.old) × (from + queue_width ≤ length m.old)) }
-    ensures { m.new ≡ joined m.old (sizes_of z) to from }
-{
-    let first = m[from];
-    if first < z.slots {
-        let last = m[from + words::LAST_OFFSET];
-        let n = m[from + words::LENGTH_OFFSET];
-        append_run(m, z, to, first, last, n);
-        clear(m, from);
+    // The queue has a slot less.
+    fn shorten(self, m: &mut [u32])
+        requires { self.ends + queue_width ≤ length m.old }
+        ensures { m.new ≡ shortened m.old self.ends }
+    {
+        let i = self.ends + words::LENGTH_OFFSET;
+        m[i] = m[i].wrapping_sub(1);
     }
-}
 
-// Takes the first slot of the queue and answers its number; where the queue is empty, answers what stands there.
-pub fn take_first(m: &mut [u32], z: words::Sizes, ends: usize) -> u32
-    requires { (Lent m.old (sizes_of z)) × (ends + queue_width ≤ length m.old) }
-    ensures { Taken m.old (sizes_of z) ends result m.new }
-{
-    let first = m[ends];
-    if first < z.slots {
+    // The queue's first is gone, and it begins at `next`; it is empty where that is no slot.
+    #[tactic(auto, unfolding(crate::specs::Queue::begun_at))]
+    fn begin_at(self, m: &mut [u32], z: words::Sizes, next: u32)
+        requires { self.ends + queue_width ≤ length m.old }
+        ensures { m.new ≡ begun_at m.old (sizes_of z) self.ends next }
+    {
+        if next < z.slots {
+            m[self.ends] = next;
+            self.shorten(m);
+        } else {
+            self.clear(m);
+        }
+    }
+
+    // The slot follows the queue's last; it is the first where the queue is empty.
+    #[tactic(auto, unfolding(crate::specs::Queue::followed))]
+    fn follow(self, m: &mut [u32], z: words::Sizes, slot: u32)
+        requires { (Lent m.old (sizes_of z)) × (self.ends + queue_width ≤ length m.old) }
+        ensures { m.new ≡ followed m.old (sizes_of z) self.ends slot }
+    {
+        let last = m[self.ends + words::LAST_OFFSET];
+        if last < z.slots {
+            m[link_address(z, last)] = slot;
+        } else {
+            m[self.ends] = slot;
+        }
+    }
+
+    // Whether the queue is empty.
+    pub fn is_empty(self, m: &[u32], z: words::Sizes) -> bool
+        requires { self.ends < length m.now }
+        ensures { result ≡ not (ltb (at m.now self.ends) z.slots) }
+    {
+        m[self.ends] >= z.slots
+    }
+
+    // Appends n slots from `first` to `last`, which are linked already.
+    #[tactic(auto, unfolding(crate::specs::Queue::appended_run))]
+    fn append_run(self, m: &mut [u32], z: words::Sizes, first: u32, last: u32, n: u32)
+        requires { (Lent m.old (sizes_of z)) × (self.ends + queue_width ≤ length m.old) }
+        ensures { m.new ≡ appended_run m.old (sizes_of z) self.ends first last n }
+    {
+        self.follow(m, z, first);
+        m[self.ends + words::LAST_OFFSET] = last;
+        self.lengthen(m, n);
+    }
+
+    // Appends the slot. Its queue link is not written: it is none of a slot outside every queue.
+    pub fn append(self, m: &mut [u32], z: words::Sizes, slot: u32)
+        requires { (Lent m.old (sizes_of z)) × (self.ends + queue_width ≤ length m.old) }
+        ensures { m.new ≡ appended m.old (sizes_of z) self.ends slot }
+    {
+        self.append_run(m, z, slot, slot, 1);
+    }
+
+    // Appends the whole queue `from`, and leaves that one empty.
+    #[tactic(auto, unfolding(crate::specs::Queue::joined))]
+    pub fn append_queue(self, m: &mut [u32], z: words::Sizes, from: QueueAt)
+        requires { (Lent m.old (sizes_of z)) × ((self.ends + queue_width ≤ length m.old) × (from.ends + queue_width ≤ length m.old)) }
+        ensures { m.new ≡ joined m.old (sizes_of z) self.ends from.ends }
+    {
+        let first = m[from.ends];
+        if first < z.slots {
+            let last = m[from.ends + words::LAST_OFFSET];
+            let n = m[from.ends + words::LENGTH_OFFSET];
+            self.append_run(m, z, first, last, n);
+            from.clear(m);
+        }
+    }
+
+    // Takes the first slot of the queue and answers its number, None where the queue is empty.
+    #[tactic(auto, unfolding(crate::specs::Queue::less_first))]
+    pub fn take_first(self, m: &mut [u32], z: words::Sizes) -> Option<u32>
+        requires { (Lent m.old (sizes_of z)) × (self.ends + queue_width ≤ length m.old) }
+        ensures { Taken m.old (sizes_of z) self.ends result m.new }
+    {
+        let first = m[self.ends];
+        if first >= z.slots {
+            return None;
+        }
         let i = link_address(z, first);
         let next = m[i];
         m[i] = words::NONE;
-        begin_at(m, z, ends, next);
+        self.begin_at(m, z, next);
+        Some(first)
     }
-    first
 }

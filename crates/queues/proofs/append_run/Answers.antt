@@ -1,8 +1,0 @@
--- `queues::append_run`: what `follow` leaves, with the last stored and the length.
-use mathlib.Core.Path.{◌∙◌}
-use Rattle.queues.specs.Queue.{appended_run}
-use Rattle.queues.proofs.append_run.Goals as goal
-
-pub returns : goal.returns
-unfolding appended_run
-returns c = c.lengthen.ensures ∙ rw c.follow.ensures
