@@ -4,3 +4,4 @@ mod LaneLoops
 pub mod ContentsLaws
 mod LaneTests
 pub mod EngineLaws
+mod RangeLaws

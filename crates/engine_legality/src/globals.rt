@@ -33,17 +33,7 @@ fn group_fits(m: &[u32], bits: u32, first: usize, count: u32, width: u32) -> boo
     requires { (first + count ≤ length m.now) × (count ≤ wordWidth) × (width < wordWidth) }
     ensures { result ≡ group_fits m.now bits first count width }
 {
-    let mut p: u32 = 0;
-    let mut left = count;
-    while left > 0 {
-        let bit = masks::test(bits, p);
-        if !mask_fits(m[first + (p as usize)], bit, width) {
-            return false;
-        }
-        p = p + 1;
-        left = left - 1;
-    }
-    true
+    (0..count).all(|p| mask_fits(m[first + p as usize], masks::test(bits, p), width))
 }
 
 // The lane masks of all cabinets, a group a yard.
@@ -53,18 +43,16 @@ fn cabinets_fit(m: &[u32], z: words::Sizes) -> bool
 {
     let yards = z.yards_start();
     let stride = z.cabinets as usize;
-    let mut y: u32 = 0;
-    let mut left = z.yards;
-    while left > 0 {
-        let bits = m[yards + (y as usize)];
-        let first = words::MASKS_AT + stride * (y as usize);
-        if !group_fits(m, bits, first, z.cabinets, z.places) {
-            return false;
-        }
-        y = y + 1;
-        left = left - 1;
-    }
-    true
+    (0..z.yards).all(|y| {
+        let y = y as usize;
+        group_fits(
+            m,
+            m[yards + y],
+            words::MASKS_AT + stride * y,
+            z.cabinets,
+            z.places,
+        )
+    })
 }
 
 // "masks are in range", the yard mask apart, and each bit "set exactly when the mask below it is not 0".

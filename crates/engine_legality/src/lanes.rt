@@ -125,17 +125,14 @@ fn cabinet_lanes(m: &[u32], b: usize, places: u32, mask: u32, slots: u32) -> boo
     requires { (b + lane_length * places ≤ length m.now) × (masks_at ≤ length m.now) × (places ≤ max_places) }
     ensures { result ≡ cabinet_lanes m.now slots places b mask }
 {
-    let mut p: u32 = 0;
-    let mut left = places;
-    while left > 0 {
-        let pending = masks::test(mask, p);
-        if !lane_fits(m, b + words::LANE_LENGTH * (p as usize), slots, pending) {
-            return false;
-        }
-        p = p + 1;
-        left = left - 1;
-    }
-    true
+    (0..places).all(|p| {
+        lane_fits(
+            m,
+            b + words::LANE_LENGTH * p as usize,
+            slots,
+            masks::test(mask, p),
+        )
+    })
 }
 
 // The lanes of all cabinets of all yards.
@@ -144,17 +141,10 @@ pub fn lanes_fit(m: &[u32], z: words::Sizes) -> bool
     ensures { result ≡ all_lanes m.now z.slots (cabinet_count (sizes_of z)) z.places (lanes_body (sizes_of z)) }
 {
     let cabinets = z.cabinet_count();
-    let b = words::MASKS_AT + (cabinets as usize);
-    let stride = words::LANE_LENGTH * (z.places as usize);
-    let mut c: u32 = 0;
-    let mut left = cabinets;
-    while left > 0 {
-        let mask = m[words::MASKS_AT + (c as usize)];
-        if !cabinet_lanes(m, b + stride * (c as usize), z.places, mask, z.slots) {
-            return false;
-        }
-        c = c + 1;
-        left = left - 1;
-    }
-    true
+    let b = words::MASKS_AT + cabinets as usize;
+    let stride = words::LANE_LENGTH * z.places as usize;
+    (0..cabinets).all(|c| {
+        let c = c as usize;
+        cabinet_lanes(m, b + stride * c, z.places, m[words::MASKS_AT + c], z.slots)
+    })
 }
