@@ -5,7 +5,6 @@ use mathlib.Core.Path.{◌≡◌, refl, ap, ap₂, sym, subst, ◌∙◌}
 use mathlib.Core.Bool.{Bool, true, false, cond}
 use mathlib.Core.List.{List, [], ◌∷◌}
 use native.Mathlib.Omega.{arith}
-use lib.Dec.{leb}
 use borrow.Author.Tests.{leb-false}
 use Rattle.model.specs.State.{Sizes, cabinet_count, lane_count}
 use Rattle.model.specs.Rules.{Cause, first_cause, no_such_lane, of_lane}
@@ -70,30 +69,25 @@ module _ (m : List ℕ) (l : Lane) (k : Named m l) where
   pub count-is : lane_count (sizes_of l.sizes) ≡ lane_count (sizes m)
   count-is = ap (λ (z : code-sizes.Sizes). lane_count (sizes_of z)) k.sizes
 
-  -- the number of lanes, compared
-  pub unknown-by : (b : Bool) → b ≡ leb (lane_count (sizes_of l.sizes)) l.number → b ≡ (no_such_lane (state m) l.number).applies
+  -- by the state
+  pub counted : lane_count (state m).sizes ≡ lane_count (sizes_of l.sizes)
   unfolding state
-  unknown-by b e = e ∙ ap (λ (n : ℕ). leb n l.number) count-is
+  counted = sym count-is
 
   pub lane-known : l.number < lane_count (state m).sizes → LaneIn m l
   unfolding state
   lane-known h = record { named = k; known = h; inside = omega (arith, k.address, long m k.sound) }
 
-  -- its number, tested
-  pub lane-tested : (b : Bool) → b ≡ leb (lane_count (sizes_of l.sizes)) l.number → b ≡ false → LaneIn m l
-  unfolding state
-  lane-tested b e q = lane-known (leb-false (lane_count (sizes m)) l.number (ap (λ (n : ℕ). leb n l.number) (sym count-is) ∙ sym e ∙ q))
-
   -- a lane that no cause of a lane refuses
-  pub lane_in : (x : ℕ) → x ≡ first_cause (of_lane (state m) l.number []) → x ≤ 0 → LaneIn m l
-  lane_in x e h = let z : x ≡ 0 = omega arith in lane-known (lane-accepted (state m) l.number (sym e ∙ z)).known
+  pub lane_in : 0 ≡ first_cause (of_lane (state m) l.number []) → LaneIn m l
+  lane_in e = lane-known (lane-accepted (state m) l.number (sym e)).known
 
   -- a lane whose call no cause refuses: the first cause of each is that there is no such lane
-  pub lane_first : (cs : List Cause) (x : ℕ) → x ≡ first_cause (no_such_lane (state m) l.number ∷ cs) → x ≤ 0 → LaneIn m l
+  pub lane_first : (cs : List Cause) → 0 ≡ first_cause (no_such_lane (state m) l.number ∷ cs) → LaneIn m l
   unfolding first_cause
-  lane_first cs x e h = go (no_such_lane (state m) l.number).applies refl e
+  lane_first cs e = go (no_such_lane (state m) l.number).applies refl e
     where
-      go : (b : Bool) → (no_such_lane (state m) l.number).applies ≡ b → x ≡ cond b (no_such_lane (state m) l.number).number (first_cause cs) → LaneIn m l
+      go : (b : Bool) → (no_such_lane (state m) l.number).applies ≡ b → 0 ≡ cond b (no_such_lane (state m) l.number).number (first_cause cs) → LaneIn m l
       go true q f = absurd (omega arith)
       go false q f = lane-known (leb-false (lane_count (state m).sizes) l.number q)
 

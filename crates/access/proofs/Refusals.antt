@@ -1,42 +1,24 @@
--- Causes tested one after another: the number that the code answers is the first that applies. `refusals` is the set of laws by which `search` reads a
--- function's tests off a call's list of causes, whatever that list is: each step passes by the list's first cause, or stops there. `entry-refusals` is the same for
--- a call that tests the causes of an entry together.
-use Prim.Native.Nat.{ℕ, ◌≤◌, ◌<◌}
-use mathlib.Core.Path.{◌≡◌, refl, ap, sym, ◌∙◌}
-use mathlib.Core.Bool.{Bool, true, false, not, cond}
+-- Causes tested one after another: the number that the code answers is that of the first that applies. `refusals` is what the tests of
+-- any function need for that, where the causes of its call and `first_cause` are unfolded. Where the causes of a lane are tested together before the
+-- others and one of them applies, it is handed on.
+use Prim.Native.Nat.{ℕ, ◌<◌}
+use mathlib.Core.Path.{◌≡◌}
+use mathlib.Core.Bool.{Bool, true, false, cond}
 use mathlib.Core.List.{List, [], ◌∷◌, ◌++◌}
 use native.Mathlib.Omega.{arith}
+use Rattle.std.specs.Prelude.{Result}
+use Rattle.std.specs.Result.{IsErrAnd}
+use Rattle.std.proofs.lemmas.Result.{err_from_is_err_and}
 use Rattle.model.specs.State.{State}
-use Rattle.model.specs.Rules.{Cause, cause, first_cause, of_lane, of_entry}
-use Rattle.representation.proofs.Causes.Passed.{Numbered, Clear, clear}
+use Rattle.model.specs.Rules.{Cause, first_cause, of_lane, of_entry}
+use Rattle.access.specs.declared.causes.Cause.{Cause as Refusal}
+use Rattle.access.specs.Causes.{number_of, refusal_of}
+use Rattle.access.proofs.Numbers.{numbered}
+use Rattle.access.proofs.LaneLaws.{counted}
 
--- ---- the first cause of a list, by the code's test b of it
+pub ruleset refusals = (numbered, counted)
 
-module _ (b x : Bool) (e : b ≡ x) (n : ℕ) (cs : List Cause) where
-  pub stops : b ≡ true → n ≡ first_cause (cause n x ∷ cs)
-  unfolding first_cause
-  stops q = rw (sym e ∙ q)
-
-  pub goes_by : (k : ℕ) → b ≡ false → n ≡ first_cause cs → n ≡ first_cause (cause k x ∷ cs)
-  unfolding first_cause
-  goes_by k q h = rw (sym e ∙ q) h
-
-  -- the cause is that x is not so
-  pub stops-not : not b ≡ true → n ≡ first_cause (cause n (not x) ∷ cs)
-  unfolding first_cause
-  stops-not q = rw (ap not (sym e) ∙ q)
-
-  pub goes-by-not : (k : ℕ) → not b ≡ false → n ≡ first_cause cs → n ≡ first_cause (cause k (not x) ∷ cs)
-  unfolding first_cause
-  goes-by-not k q h = rw (ap not (sym e) ∙ q) h
-
-pub none_left : 0 ≡ first_cause []
-unfolding first_cause
-none_left = refl
-
--- ---- some causes tested together, before the call's other ones
-
--- the first of some refuses
+-- the first of some causes, before others
 first-of-some : (cs ds : List Cause) (x : ℕ) → x ≡ first_cause cs → 0 < x → x ≡ first_cause (cs ++ ds)
 unfolding first_cause
 first-of-some [] ds x e h = absurd (omega arith)
@@ -46,32 +28,15 @@ first-of-some (c ∷ cs) ds x e h = go c.applies (λ q. first-of-some cs ds x q 
     go true ih q = q
     go false ih q = ih q
 
--- none of them does
-skipped : (cs ds : List Cause) → Clear cs → first_cause (cs ++ ds) ≡ first_cause ds
-unfolding first_cause
-skipped [] ds h = refl
-skipped (c ∷ cs) ds h = rw h.0 (skipped cs ds h.1)
-
--- none does, and the others decide
-first-of-others : (cs ds : List Cause) (x : ℕ) → Numbered cs → x ≡ first_cause cs → (n : ℕ) → x ≤ 0 → n ≡ first_cause ds → n ≡ first_cause (cs ++ ds)
-first-of-others cs ds x k e n h q = let z : x ≡ 0 = omega arith in q ∙ sym (skipped cs ds (clear cs k (sym e ∙ z)))
+handed-on : (cs ds : List Cause) (e : Refusal) (r : Result (Unit {0}) Refusal) → number_of e ≡ first_cause cs → IsErrAnd r (λ d. d ≡ e) → refusal_of r ≡ first_cause (cs ++ ds)
+handed-on cs ds e r q h = let p = err_from_is_err_and r h in rw (p.1, p.2) (first-of-some cs ds (number_of e) q (numbered e))
 
 -- those of a lane
-module _ (s : State) (i : ℕ) (cs : List Cause) (x : ℕ) (e : x ≡ first_cause (of_lane s i [])) where
-  pub lane-stops : 0 < x → x ≡ first_cause (of_lane s i cs)
-  lane-stops h = first-of-some (of_lane s i []) cs x e h
-
-  pub lane-goes-by : (n : ℕ) → x ≤ 0 → n ≡ first_cause cs → n ≡ first_cause (of_lane s i cs)
-  lane-goes-by = first-of-others (of_lane s i []) cs x (omega arith) e
+pub lane-stops : (s : State) (i : ℕ) (cs : List Cause) (e : Refusal) (r : Result (Unit {0}) Refusal) → number_of e ≡ first_cause (of_lane s i []) → IsErrAnd r (λ d. d ≡ e)
+    → refusal_of r ≡ first_cause (of_lane s i cs)
+lane-stops s i cs = handed-on (of_lane s i []) cs
 
 -- those of an entry of the office
-module _ (s : State) (i c d m : ℕ) (cs : List Cause) (x : ℕ) (e : x ≡ first_cause (of_entry s i c d m [])) where
-  pub entry-stops : 0 < x → x ≡ first_cause (of_entry s i c d m cs)
-  entry-stops h = first-of-some (of_entry s i c d m []) cs x e h
-
-  pub entry-goes-by : (n : ℕ) → x ≤ 0 → n ≡ first_cause cs → n ≡ first_cause (of_entry s i c d m cs)
-  entry-goes-by = first-of-others (of_entry s i c d m []) cs x (omega arith) e
-
-pub ruleset refusals = (stops, goes_by, stops-not, goes-by-not, none_left, lane-stops, lane-goes-by)
-
-pub ruleset entry-refusals = (stops, goes_by, stops-not, goes-by-not, none_left, entry-stops, entry-goes-by)
+pub entry-stops : (s : State) (i c d m : ℕ) (cs : List Cause) (e : Refusal) (r : Result (Unit {0}) Refusal) → number_of e ≡ first_cause (of_entry s i c d m [])
+    → IsErrAnd r (λ x. x ≡ e) → refusal_of r ≡ first_cause (of_entry s i c d m cs)
+entry-stops s i c d m cs = handed-on (of_entry s i c d m []) cs

@@ -1,13 +1,16 @@
 -- The three ways out of a call: the memory is not legal, a cause refuses it, or none does.
-use Prim.Native.Nat.{ℕ, zero, suc, ◌≤◌, ◌<◌}
-use mathlib.Core.Path.{◌≡◌, sym, ap, ◌∙◌}
+use Prim.Native.Nat.{ℕ, zero, suc, ◌≤◌}
+use mathlib.Core.Path.{◌≡◌, refl, sym, ap, ◌∙◌}
 use mathlib.Core.Bool.{Bool, true, false, not}
 use mathlib.Core.List.{List}
 use native.Mathlib.Omega.{arith}
 use lib.ListN.{length}
+use Rattle.std.specs.Prelude.{Result, Err}
+use Rattle.std.specs.Result.{IsErrAnd}
+use Rattle.std.proofs.lemmas.Result.{err_from_is_err_and}
 use borrow.Author.Tests.{not-true, not-false}
 use Rattle.model.specs.Layout.{total}
-use Rattle.model.specs.Rules.{Op, refused, refusal, answer, answer_of, next, next_of, result, performed}
+use Rattle.model.specs.Rules.{Op, refused, refusal, answer, answer_of as answer_by, next, next_of, result, performed}
 use Rattle.model.specs.Memory.{Words, sizes, state}
 use Rattle.model.specs.Legal.{legal}
 use Rattle.model.specs.Calls.{on_state, stored}
@@ -20,36 +23,44 @@ use Rattle.representation.specs.Sound.{Sound}
 use Rattle.representation.proofs.Causes.Accepted.{Accepted, accepts}
 use Rattle.changes.proofs.Shows.{Shows, shows-state}
 use Rattle.access.specs.declared.Answer.{Answer}
+use Rattle.access.specs.declared.causes.Cause.{Cause}
+use Rattle.access.specs.declared.causes.Cause.TheVariants.{NotLegal}
+use Rattle.access.specs.Causes.{number_of, answer_of}
 use Rattle.access.specs.Contract.{five, Does}
+use Rattle.access.proofs.Numbers.{numbered}
 
 module _ (m : List ℕ) (k : Op) where
   -- by the legality check b
-  pub illegal : (r : Answer) (b : Bool) → b ≡ legal m → not b ≡ true → five r ≡ refused 3 → Does (on_state k) m r m
-  illegal r b q t e =
+  pub illegal : (b : Bool) → b ≡ legal m → not b ≡ true → Does (on_state k) m (answer_of (Err NotLegal)) m
+  illegal b q t =
       let h : legal m ≡ false = sym q ∙ not-true b t in
-      record { answer = e ∙ sym (reply-illegal m k h); memory = sym (left-illegal m k h) }
+      record { answer = sym (reply-illegal m k h); memory = sym (left-illegal m k h) }
 
   module _ (v : Sound m) where
-    pub refuses : (x : ℕ) (r : Answer) → x ≡ refusal (state m) k → 0 < x → five r ≡ refused x → Does (on_state k) m r m
+    pub refuses : (e : Cause) (r : Result (List ℕ) Cause) → number_of e ≡ refusal (state m) k → IsErrAnd r (λ d. d ≡ e) → Does (on_state k) m (answer_of r) m
     unfolding answer next
-    refuses zero r e b f = absurd (omega arith)
-    refuses (suc x) r e b f = record {
-      answer = f ∙ sym (reply-legal m k v.lawful ∙ ap (λ (y : ℕ). answer_of (state m) y k) (sym e));
-      memory = sym (left-legal m k v.lawful v.words ∙ ap (λ (y : ℕ). stored (next_of (state m) y k) m) (sym e) ∙ stored-state m v.lawful v.words);
-    }
+    refuses e r q h = let p = err_from_is_err_and r h in rw (p.1, p.2) (go (number_of e) refl)
+      where
+        go : (x : ℕ) → number_of e ≡ x → Does (on_state k) m (answer_of (Err e)) m
+        go zero z = absurd (omega (arith, numbered e))
+        go (suc x) z =
+            let i : refusal (state m) k ≡ suc x = sym q ∙ z in
+            record {
+              answer = ap refused z ∙ sym (reply-legal m k v.lawful ∙ ap (λ (y : ℕ). answer_by (state m) y k) i);
+              memory = sym (left-legal m k v.lawful v.words ∙ ap (λ (y : ℕ). stored (next_of (state m) y k) m) i ∙ stored-state m v.lawful v.words);
+            }
 
-    pub performs : (x : ℕ) (r : Answer) (n : List ℕ) → x ≡ refusal (state m) k → x ≤ 0 → five r ≡ result (state m) k → n ≡ stored (performed (state m) k) m
+    pub performs : 0 ≡ refusal (state m) k → (r : Answer) (n : List ℕ) → five r ≡ result (state m) k → n ≡ stored (performed (state m) k) m
         → Does (on_state k) m r n
     unfolding answer next
-    performs (suc x) r n e b f g = absurd (omega arith)
-    performs zero r n e b f g = record {
-      answer = f ∙ sym (reply-legal m k v.lawful ∙ ap (λ (y : ℕ). answer_of (state m) y k) (sym e));
+    performs e r n f g = record {
+      answer = f ∙ sym (reply-legal m k v.lawful ∙ ap (λ (y : ℕ). answer_by (state m) y k) (sym e));
       memory = g ∙ sym (left-legal m k v.lawful v.words ∙ ap (λ (y : ℕ). stored (next_of (state m) y k) m) (sym e));
     }
 
 -- what is known of a call that no cause refuses
-pub passed : (m : List ℕ) (k : Op) (x : ℕ) → x ≡ refusal (state m) k → x ≤ 0 → Accepted (state m) k
-passed m k x e h = let z : x ≡ 0 = omega arith in accepts (state m) k (sym e ∙ z)
+pub passed : (m : List ℕ) (k : Op) → 0 ≡ refusal (state m) k → Accepted (state m) k
+passed m k e = accepts (state m) k (sym e)
 
 -- ---- what a legal memory has
 

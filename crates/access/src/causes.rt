@@ -1,38 +1,33 @@
-// The numbers of the causes, under the names that the C header has for them. They are the model's: each function that
-// answers one promises the model's number.
+// The causes that refuse a call, under the names that the C header has for their numbers.
+ghost use Rattle.std.specs.Prelude.{◌≡◌};
+ghost use Rattle.access.specs.Causes.{number_of};
 
-pub const BAD_SIZE: u32 = 1;
+#[derive(Clone, Copy, Debug, PartialEq, Eq)]
+pub enum Cause {
+    BadSize = 1,
+    ShortMemory = 2,
+    NotLegal = 3,
+    NoLane = 4,
+    Offline = 5,
+    AlreadyOnline = 6,
+    InSection = 7,
+    NoSection = 8,
+    InLookup = 9,
+    NoLookup = 10,
+    OutOfRange = 11,
+    CodePresent = 12,
+    CodeMissing = 13,
+    NoFreeSlot = 14,
+    LastLane = 15,
+    NothingDone = 16,
+    WrongDigit = 17,
+    WrongLabel = 18,
+}
 
-pub const SHORT_MEMORY: u32 = 2;
+impl From<Cause> for u32 {
+    ghost from_gives = { λ c n. n ≡ number_of c };
 
-pub const NOT_LEGAL: u32 = 3;
-
-pub const NO_LANE: u32 = 4;
-
-pub const OFFLINE: u32 = 5;
-
-pub const ALREADY_ONLINE: u32 = 6;
-
-pub const IN_SECTION: u32 = 7;
-
-pub const NO_SECTION: u32 = 8;
-
-pub const IN_LOOKUP: u32 = 9;
-
-pub const NO_LOOKUP: u32 = 10;
-
-pub const OUT_OF_RANGE: u32 = 11;
-
-pub const CODE_PRESENT: u32 = 12;
-
-pub const CODE_MISSING: u32 = 13;
-
-pub const NO_FREE_SLOT: u32 = 14;
-
-pub const LAST_LANE: u32 = 15;
-
-pub const NOTHING_DONE: u32 = 16;
-
-pub const WRONG_DIGIT: u32 = 17;
-
-pub const WRONG_LABEL: u32 = 18;
+    fn from(c: Cause) -> u32 {
+        c as u32
+    }
+}

@@ -4,27 +4,28 @@
 
 pub mod causes;
 
-ghost use Rattle.std.specs.Prelude.{◌≡◌, [], ◌+◌, ◌<◌, leb};
+ghost use Rattle.std.specs.Prelude.{◌≡◌, [], ◌∷◌, ◌+◌, ◌<◌, leb, OnOk};
 ghost use Rattle.model.specs.State.{lane_count, is_running};
 ghost use Rattle.model.specs.Layout.{heads_at};
 ghost use Rattle.model.specs.Lists.{first};
 ghost use Rattle.model.specs.Table.{chain_number, chain_of};
-ghost use Rattle.model.specs.Rules.{refused as refusedWords, accepted as acceptedWords, first_cause, of_lane, lane_of, wrong_code};
+ghost use Rattle.model.specs.Rules.{first_cause, of_lane, lane_of, wrong_code};
 ghost use Rattle.model.specs.Memory.{at, flag, state};
 ghost use Rattle.laws.specs.Subtractions.{subtracted};
 ghost use Rattle.representation.specs.Sound.{Sound};
 ghost use Rattle.words.specs.Lent.{sizes_of, Few};
 ghost use Rattle.words.specs.Flags.{bit_of};
-ghost use Rattle.access.specs.Contract.{five};
-ghost use Rattle.access.specs.Flags.{with_flag, flag_put};
+ghost use Rattle.access.specs.Causes.{refusal_of, answer_of};
+ghost use Rattle.access.specs.Flags.{flag_put};
 ghost use Rattle.access.specs.Lanes.{lane_named, Named, LaneIn, Standing, most_subtractions, split_of, yard_size, Placed};
 
+use causes::Cause;
 use words::flags::Flag;
 
 // ---- answers
 
 // The five words of an answer.
-#[derive(Clone, Copy)]
+#[derive(Clone, Copy, Debug, PartialEq, Eq)]
 pub struct Answer {
     pub status: u32,
     pub a: u32,
@@ -33,29 +34,38 @@ pub struct Answer {
     pub d: u32,
 }
 
-// The cause's number, then four zeros.
-pub fn refused(n: u32) -> Answer
-    ensures { five result ≡ refusedWords n }
-{
-    Answer {
-        status: n,
-        a: 0,
-        b: 0,
-        c: 0,
-        d: 0,
+// Status 0 and a call's four words, or the number of the cause that refuses it and four zeros.
+impl From<Result<[u32; 4], Cause>> for Answer {
+    ghost from_gives = { λ r x. x ≡ answer_of r };
+
+    fn from(r: Result<[u32; 4], Cause>) -> Answer {
+        match r {
+            Ok(words) => {
+                let [a, b, c, d] = words;
+                Answer {
+                    status: 0,
+                    a,
+                    b,
+                    c,
+                    d,
+                }
+            }
+            Err(cause) => Answer {
+                status: cause.into(),
+                a: 0,
+                b: 0,
+                c: 0,
+                d: 0,
+            },
+        }
     }
 }
 
-// Status 0, then four words.
-pub fn accepted(a: u32, b: u32, c: u32, d: u32) -> Answer
-    ensures { five result ≡ acceptedWords a b c d }
-{
-    Answer {
-        status: 0,
-        a,
-        b,
-        c,
-        d,
+impl From<Answer> for [u32; 5] {
+    ghost from_gives = { λ r w. w ≡ r.status ∷ r.a ∷ r.b ∷ r.c ∷ r.d ∷ [] };
+
+    fn from(r: Answer) -> [u32; 5] {
+        [r.status, r.a, r.b, r.c, r.d]
     }
 }
 
@@ -69,19 +79,85 @@ pub struct Lane {
     pub sizes: words::Sizes,
 }
 
-// The lane of a number; whether there is one is not tested.
-pub fn lane_at(m: &[u32], number: u32) -> Lane
-    requires { Sound m.now }
-    ensures { result ≡ lane_named m.now number }
-{
-    let sizes = words::Sizes::read(m);
-    let address = sizes.lane_address(number);
-    Lane {
-        number,
-        address,
-        sizes,
+impl Lane {
+    // The lane of a number; whether there is one is not tested.
+    pub fn at(m: &[u32], number: u32) -> Lane
+        requires { Sound m.now }
+        ensures { result ≡ lane_named m.now number }
+    {
+        let sizes = words::Sizes::read(m);
+        let address = sizes.lane_address(number);
+        Lane {
+            number,
+            address,
+            sizes,
+        }
+    }
+
+    // Whether there is no such lane.
+    pub fn is_unknown(self) -> bool
+        requires { Few (sizes_of self.sizes) }
+        ensures { result ≡ leb (lane_count (sizes_of self.sizes)) self.number }
+    {
+        self.number >= self.sizes.lane_count()
+    }
+
+    // Where a lane stands: its yard is as often as the yard's size can be subtracted from its number, its cabinet there as
+    // often as the cabinet's size from what is left, and its place is what is left then. Worked out once a call, of a lane
+    // that there is, and handed on.
+    pub fn place(self) -> lanes::Place
+        requires { Standing self }
+        ensures { Placed self result }
+    {
+        let z = self.sizes;
+        let y = subtract_size(self.number, yard_size(z));
+        let b = subtract_size(y.left, z.places);
+        lanes::cabinet::stand_at(z, y.times, b.times, b.left)
+    }
+
+    // Whether its flags have this one.
+    fn has(self, m: &[u32], of: Flag) -> bool
+        requires { LaneIn m.now self }
+        ensures { result ≡ flag (bit_of of) (at m.now self.address) }
+    {
+        of.is_set(m[self.address])
+    }
+
+    // Whether it is on.
+    pub fn is_online(self, m: &[u32]) -> bool
+        requires { LaneIn m.now self }
+        ensures { result ≡ (lane_of (state m.now) self.number).online }
+    {
+        self.has(m, Flag::Online)
+    }
+
+    // Whether its section is open.
+    pub fn is_reading(self, m: &[u32]) -> bool
+        requires { LaneIn m.now self }
+        ensures { result ≡ (lane_of (state m.now) self.number).reading }
+    {
+        self.has(m, Flag::Reading)
+    }
+
+    // Whether its lookup is running.
+    pub fn is_running(self, m: &[u32]) -> bool
+        requires { LaneIn m.now self }
+        ensures { result ≡ is_running (lane_of (state m.now) self.number).lookup }
+    {
+        self.has(m, Flag::Lookup)
+    }
+
+    // A flag of its becomes `on`. All other words stay.
+    pub fn put_flag(self, m: &mut [u32], of: Flag, on: bool)
+        requires { LaneIn m.old self }
+        ensures { m.new ≡ flag_put m.old self.address (bit_of of) on }
+    {
+        let flags = m[self.address];
+        m[self.address] = if on { of.set(flags) } else { of.clear(flags) };
     }
 }
+
+// ---- where a lane stands
 
 // How often a size was subtracted from a number, and what is left.
 #[derive(Clone, Copy)]
@@ -96,16 +172,17 @@ const MOST_SUBTRACTIONS: u32 = 7;
 fn subtract_size(number: u32, size: u32) -> Split
     ensures { split_of result ≡ subtracted most_subtractions size number }
 {
-    let mut times: u32 = 0;
     let mut left = number;
-    while times < MOST_SUBTRACTIONS {
+    for times in 0..MOST_SUBTRACTIONS {
         if left < size {
             return Split { times, left };
         }
-        left = left - size;
-        times = times + 1;
+        left -= size;
     }
-    Split { times, left }
+    Split {
+        times: MOST_SUBTRACTIONS,
+        left,
+    }
 }
 
 // The lanes of a yard.
@@ -116,77 +193,7 @@ fn yard_size(z: words::Sizes) -> u32
     z.cabinets * z.places
 }
 
-// Where a lane stands: its yard is as often as the yard's size can be subtracted from its number, its cabinet there as often
-// as the cabinet's size from what is left, and its place is what is left then. Worked out once a call, of a lane that there
-// is, and handed on.
-pub fn place_of(lane: Lane) -> lanes::Place
-    requires { Standing lane }
-    ensures { Placed lane result }
-{
-    let z = lane.sizes;
-    let y = subtract_size(lane.number, yard_size(z));
-    let b = subtract_size(y.left, z.places);
-    lanes::cabinet::stand_at(z, y.times, b.times, b.left)
-}
-
-// Whether a lane's flags have this one.
-fn lane_flag(m: &[u32], lane: Lane, of: Flag) -> bool
-    requires { LaneIn m.now lane }
-    ensures { result ≡ flag (bit_of of) (at m.now lane.address) }
-{
-    of.is_set(m[lane.address])
-}
-
-// Flags with or without this one.
-pub fn with_flag(flags: u32, of: Flag, on: bool) -> u32
-    ensures { result ≡ with_flag (bit_of of) on flags }
-{
-    if on { of.set(flags) } else { of.clear(flags) }
-}
-
-// Whether a lane is on.
-pub fn is_online(m: &[u32], lane: Lane) -> bool
-    requires { LaneIn m.now lane }
-    ensures { result ≡ (lane_of (state m.now) lane.number).online }
-{
-    lane_flag(m, lane, Flag::Online)
-}
-
-// Whether a lane's section is open.
-pub fn is_reading(m: &[u32], lane: Lane) -> bool
-    requires { LaneIn m.now lane }
-    ensures { result ≡ (lane_of (state m.now) lane.number).reading }
-{
-    lane_flag(m, lane, Flag::Reading)
-}
-
-// Whether a lane's lookup is running.
-pub fn is_running(m: &[u32], lane: Lane) -> bool
-    requires { LaneIn m.now lane }
-    ensures { result ≡ is_running (lane_of (state m.now) lane.number).lookup }
-{
-    lane_flag(m, lane, Flag::Lookup)
-}
-
-// A flag of a lane becomes `on`. All other words stay.
-pub fn put_flag(m: &mut [u32], lane: Lane, of: Flag, on: bool)
-    requires { LaneIn m.old lane }
-    ensures { m.new ≡ flag_put m.old lane.address (bit_of of) on }
-{
-    let a = lane.address;
-    m[a] = with_flag(m[a], of, on);
-}
-
 // ---- causes
-
-// Whether there is no such lane.
-pub fn is_unknown(lane: Lane) -> bool
-    requires { Few (sizes_of lane.sizes) }
-    ensures { result ≡ leb (lane_count (sizes_of lane.sizes)) lane.number }
-{
-    let z = lane.sizes;
-    lane.number >= z.lane_count()
-}
 
 // Whether a code is out of range.
 pub fn wrong_code(code: u64) -> bool
@@ -195,18 +202,20 @@ pub fn wrong_code(code: u64) -> bool
     code > words::MAX_CODE
 }
 
-// The causes of every call of a lane that has to be on: the number of the first that applies, 0 where none does.
-pub fn lane_refusal(m: &[u32], lane: Lane) -> u32
+// The causes of every call of a lane that has to be on.
+#[tactic(auto, using(crate::proofs::Refusals::refusals), unfolding(model::specs::Rules::first_cause))]
+pub fn check_lane(m: &[u32], lane: Lane) -> Result<(), Cause>
     requires { Named m.now lane }
-    ensures { result ≡ first_cause (of_lane (state m.now) lane.number []) }
+    ensures cause { refusal_of result ≡ first_cause (of_lane (state m.now) lane.number []) }
+    ensures lane { OnOk result (LaneIn m.now lane) }
 {
-    if is_unknown(lane) {
-        return causes::NO_LANE;
+    if lane.is_unknown() {
+        return Err(Cause::NoLane);
     }
-    if !is_online(m, lane) {
-        return causes::OFFLINE;
+    if !lane.is_online(m) {
+        return Err(Cause::Offline);
     }
-    0
+    Ok(())
 }
 
 // ---- chains

@@ -1,5 +1,8 @@
+use mathlib.Core.Path.{◌≡◌, ap, ◌∙◌}
+use Prim.Native.Nat.{ℕ}
 use native.Mathlib.Omega.{arith}
-use Rattle.laws.specs.Subtractions.{subtracting-on, subtracting-most, subtracting-below}
+use Rattle.laws.specs.Subtractions.{split, subtracting-on, subtracting-most, subtracting-below}
+use Rattle.access.specs.Lanes.{most_subtractions}
 use Rattle.access.proofs.subtract_size.Goals as goal
 
 pub returns-then-left-size : goal.returns-then-left-size
@@ -9,4 +12,6 @@ pub loop-times-preserved : goal.loop-times-preserved
 loop-times-preserved c = subtracting-on _ _ _ _ _ c.loop-times.invariant (omega (arith, c.loop-times-test.true)) (omega (arith, c.if-left-size.false))
 
 pub returns : goal.returns
-returns c = subtracting-most _ _ _ _ _ c.loop-times.invariant (omega (arith, c.loop-times-test.false))
+returns c =
+    let all : most_subtractions ≡ c.loop-times.times = omega arith in
+    ap (λ (t : ℕ). split t c.loop-times.left) all ∙ subtracting-most _ _ _ _ _ c.loop-times.invariant (omega arith)

@@ -3,10 +3,10 @@ use native.Mathlib.Omega.{arith}
 use Rattle.access.proofs.Ways.{long}
 use Rattle.access.proofs.LaneLaws.{few-read}
 use borrow.Author.Rules.{rules}
-use Rattle.access.proofs.lane_at.Goals as goal
+use Rattle.access.proofs.Lane.at.Goals as goal
 
-pub read_sizes-sizes-requires : goal.read_sizes-sizes-requires
-read_sizes-sizes-requires c = omega (arith, long _ c.requires)
+pub read-sizes-requires : goal.read-sizes-requires
+read-sizes-requires c = omega (arith, long _ c.requires)
 
 pub lane_address-address-requires : goal.lane_address-address-requires
 lane_address-address-requires c = search (rules, few-read)

@@ -1,7 +1,7 @@
 -- Yard and cabinet are the table's, since the lane is (`yard-known`, `bay-known`), and the lane stands there (`placed`).
 use Rattle.access.proofs.LaneLaws.{yard-known, bay-known, placed}
 use borrow.Author.Rules.{rules}
-use Rattle.access.proofs.place_of.Goals as goal
+use Rattle.access.proofs.Lane.place.Goals as goal
 
 pub stand_at-requires : goal.stand_at-requires
 stand_at-requires c =
