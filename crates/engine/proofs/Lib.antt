@@ -7,21 +7,17 @@ pub mod PeriodWords
 pub mod StartLaws
 pub mod PeriodLaws
 -- the release of a lane
-pub mod ReleaseWords
 pub mod ReleaseBits
 pub mod ReleaseStores
 pub mod ReleaseLaws
 -- the advance of an owner
-pub mod AdvanceWords
 pub mod AdvanceSteps
 pub mod AdvanceTests
 pub mod AdvanceLaws
 -- a lane that goes off
-pub mod OffWords
 pub mod OffSteps
 pub mod OffLaws
 -- the clock of a lane
-pub mod ClockWords
 pub mod CompareLaws
 pub mod SampleLaws
 pub mod ClockSteps

@@ -9,7 +9,7 @@ use Rattle.model.specs.Rules.{off, with_engine, performed}
 use Rattle.model.specs.Calls.{stored}
 use Rattle.representation.proofs.WellFormed.{WellFormed}
 use Rattle.representation.proofs.FromState.Standing.{fit}
-use Rattle.lanes.specs.declared.Change.TheVariants.{Leave}
+use Rattle.lanes.specs.Record.{offline_record}
 use Rattle.lanes.specs.declared.Place.{Place}
 use Rattle.lanes.specs.RecordChanges.{changed_at}
 use Rattle.lanes.specs.Cabinet.{stand}
@@ -43,7 +43,7 @@ module _ (s : State) (m : List ℕ) (shows : Shows m s) (w : WellFormed s) (c p 
 
   -- the steps, for the lane whose record begins at a
   abbrev steps_at : ℕ → List ℕ
-  steps_at a = advanced_all (released_words (handed_words (changed_at m a Leave) z a) z l)
+  steps_at a = advanced_all (released_words (handed_words (changed_at m a offline_record) z a) z l)
 
   pub off-stored : off_words m z l ≡ stored (performed s (off lane_number)) m
   unfolding off_words performed went_off

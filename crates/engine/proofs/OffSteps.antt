@@ -12,7 +12,7 @@ use Rattle.model.specs.Engine.{fresh_lane, lane_at, set_online, with_lanes, with
 use Rattle.model.specs.Rules.{with_engine, with_lane}
 use Rattle.model.specs.Calls.{stored}
 use Rattle.laws.specs.ListLaws.{get_or-update-same, update-update}
-use Rattle.lanes.specs.declared.Change.TheVariants.{Leave}
+use Rattle.lanes.specs.Record.{offline_record}
 use Rattle.lanes.specs.RecordChanges.{changed_at}
 use Rattle.changes.proofs.Shows.{Shows, shows_then, stored-then}
 use Rattle.changes.proofs.Shape.{Shape}
@@ -35,7 +35,7 @@ module _ (s : State) (m : List ℕ) (shows : Shows m s) (w : Shape s) (i : ℕ) 
   abbrev marked : State
   marked = with_lane s i (set_online false)
 
-  marked-stored : changed_at m a Leave ≡ stored marked m
+  marked-stored : changed_at m a offline_record ≡ stored marked m
   marked-stored = record-offline s m shows i within w.lanes
 
   shape-marked : Shape marked
@@ -81,20 +81,20 @@ module _ (s : State) (w : Shape s) (i : ℕ) (within : i < lane_count s.sizes) w
 
   module _ (m : List ℕ) (shows : Shows m s) where
     abbrev pub left_words : List ℕ
-    left_words = handed_words (changed_at m (lane_address s.sizes i) Leave) s.sizes (lane_address s.sizes i)
+    left_words = handed_words (changed_at m (lane_address s.sizes i) offline_record) s.sizes (lane_address s.sizes i)
 
-    marked-shows : Shows (changed_at m (lane_address s.sizes i) Leave) (with_lane s i (set_online false))
+    marked-shows : Shows (changed_at m (lane_address s.sizes i) offline_record) (with_lane s i (set_online false))
     marked-shows =
-        shows_then (with_lane s i (set_online false)) m (changed_at m (lane_address s.sizes i) Leave) shows.long (marked-stored s m shows w i within)
+        shows_then (with_lane s i (set_online false)) m (changed_at m (lane_address s.sizes i) offline_record) shows.long (marked-stored s m shows w i within)
 
     pub left-stored : left_words ≡ stored gone m
     left-stored =
         let t = with_lane s i (set_online false) in
-        let n = changed_at m (lane_address s.sizes i) Leave in
+        let n = changed_at m (lane_address s.sizes i) offline_record in
         stored-then t left m n left_words refl (marked-stored s m shows w i within) (handed-stored t n marked-shows (shape-marked s m shows w i within) i within)
         ∙ ap (λ (u : State). stored u m) left-gone
 
     pub shape-left : Shape gone
     shape-left =
         rw (sym left-gone)
-        (shape-handed (with_lane s i (set_online false)) (changed_at m (lane_address s.sizes i) Leave) marked-shows (shape-marked s m shows w i within) i within)
+        (shape-handed (with_lane s i (set_online false)) (changed_at m (lane_address s.sizes i) offline_record) marked-shows (shape-marked s m shows w i within) i within)

@@ -1,25 +1,21 @@
 -- Laws of the words of Period: what the lane masks leave, and what the code's steps give.
 use Prim.Native.Nat.{ℕ, zero, suc, ◌+◌, ◌<◌, ◌≤◌}
-use mathlib.Core.Bool.{Bool, true, false, cond}
 use mathlib.Core.Path.{◌≡◌, refl, ap, ap₂, sym, ◌∙◌}
 use mathlib.Core.List.{List}
 use native.Mathlib.Omega.{arith}
 use lib.ListN.{length, set, length-set}
 use lib.Seq.{get_or-set_same, get_or-set_other}
-use borrow.Author.Tests.{eq-eqb, ne_eqb}
 use native.Mathlib.Numerals.{add-one}
-use Rattle.model.specs.Word.{up, later}
 use Rattle.model.specs.Lists.{mask}
 use Rattle.model.specs.State.{Sizes, cabinet_count}
-use Rattle.model.specs.Layout.{current_generation_at, largest_generation_at, yard_mask_at, masks_at, online_bit, yards_body}
+use Rattle.model.specs.Layout.{masks_at, online_bit}
 use Rattle.model.specs.Memory.{at, flag}
 use Rattle.laws.specs.Tests.{same, other, decide}
 use Rattle.laws.specs.ListLaws.{map-from-alike}
-use Rattle.mask_tree.specs.Tree.{raised_to, raised_up}
 use Rattle.mask_tree.proofs.TreeLaws.{length-raised_up}
 use Rattle.lanes.specs.Cabinet.{place_at, cabinet_at, online_at, online_mask}
-use Rattle.engine.specs.Levels.{lane_level, yard_level, upper_levels}
-use Rattle.engine.specs.Period.{masks_set, started_words, ended_words, raised_words, requested_words}
+use Rattle.engine.specs.Levels.{lane_level, upper_levels}
+use Rattle.engine.specs.Period.{masks_set, started_words}
 
 module _ (m : List ℕ) (z : Sizes) where
   pub length-masks_set : (n : ℕ) → length (masks_set m z n) ≡ length m
@@ -66,55 +62,12 @@ module _ (m : List ℕ) (z : Sizes) where
       (λ p a b. ap (flag online_bit) (masks_set-else n (cabinet_at z c + place_at p) (λ k q e. omega arith))))
 
   -- one round of the loop: the lanes of cabinet n that are on
-  pub one_more : (n i v : ℕ) → n < cabinet_count z → (x : List ℕ) → x ≡ masks_set m z n → i ≡ n → v ≡ online_mask x z n
-      → set x (masks_at + i) v ≡ masks_set m z (n + 1)
+  pub one_more : (n v : ℕ) → n < cabinet_count z → (x : List ℕ) → x ≡ masks_set m z n → v ≡ online_mask x z n → set x (masks_at + n) v ≡ masks_set m z (n + 1)
   unfolding masks_set
-  one_more n i v h x e f g =
+  one_more n v h x e g =
       let o : v ≡ online_mask m z n = g ∙ ap (λ (l : List ℕ). online_mask l z n) e ∙ online-masks_set n n (omega arith) in
-      ap (λ (j : ℕ). set x (masks_at + j) v) f ∙ ap₂ (λ (l : List ℕ) (w : ℕ). set l (masks_at + n) w) e o ∙ ap (masks_set m z) (sym (add-one n))
-
-  -- the masks above, level by level; the yards' body begins at a
-  pub started-by : (a : ℕ) (x y w : List ℕ) → a ≡ yards_body z → x ≡ masks_set m z (cabinet_count z)
-      → y ≡ raised_to x masks_at (record { first = a; wide = z.cabinets; count = z.yards }) z.yards → w ≡ raised_to y a (yard_level z) 1 → w ≡ started_words m z
-  unfolding started_words raised_up
-  started-by a x y w e f g h =
-      h
-      ∙ ap (λ (l : List ℕ). raised_to l a (yard_level z) 1)
-      (g ∙ ap (λ (l : List ℕ). raised_to l masks_at (record { first = a; wide = z.cabinets; count = z.yards }) z.yards) f)
-      ∙ ap
-      (λ (i : ℕ). raised_to
-      (raised_to (masks_set m z (cabinet_count z)) masks_at (record { first = i; wide = z.cabinets; count = z.yards }) z.yards)
-      i
-      (yard_level z)
-      1)
-      e
+      ap₂ (λ (l : List ℕ) (w : ℕ). set l (masks_at + n) w) e o ∙ ap (masks_set m z) (sym (add-one n))
 
   pub length-started_words : length (started_words m z) ≡ length m
   unfolding started_words
   length-started_words = length-raised_up (masks_set m z (cabinet_count z)) (lane_level z) (upper_levels z) ∙ length-masks_set (cabinet_count z)
-
-  -- the two ways out of the end of a period, and of a request
-  module _ (g : ℕ) (b : Bool) (e : g ≡ up (at m current_generation_at)) (f : b ≡ later g (at m largest_generation_at)) where
-    ended_by : cond b (set m current_generation_at g) (started_words (set m current_generation_at g) z) ≡ ended_words m z
-    unfolding ended_words
-    ended_by =
-        ap (λ (d : Bool). cond d (set m current_generation_at g) (started_words (set m current_generation_at g) z)) f
-        ∙ ap (λ (x : ℕ). cond (later x (at m largest_generation_at)) (set m current_generation_at x) (started_words (set m current_generation_at x) z)) e
-
-    pub ended-rests : b ≡ true → set m current_generation_at g ≡ ended_words m z
-    ended-rests t = ap (λ (d : Bool). cond d (set m current_generation_at g) (started_words (set m current_generation_at g) z)) (sym t) ∙ ended_by
-
-    pub ended-goes : b ≡ false → (n : List ℕ) → n ≡ started_words (set m current_generation_at g) z → n ≡ ended_words m z
-    ended-goes t n q = q ∙ ap (λ (d : Bool). cond d (set m current_generation_at g) (started_words (set m current_generation_at g) z)) (sym t) ∙ ended_by
-
-  module _ (g : ℕ) (x : List ℕ) (e : x ≡ raised_words m g) where
-    pub requested-goes : at m yard_mask_at ≡ 0 → (n : List ℕ) → n ≡ started_words x z → n ≡ requested_words m z g
-    unfolding requested_words
-    requested-goes t n q =
-        q ∙ ap (λ (l : List ℕ). started_words l z) e
-        ∙ ap (λ (d : Bool). cond d (started_words (raised_words m g) z) (raised_words m g)) (sym (eq-eqb (at m yard_mask_at) 0 t))
-
-    pub requested-rests : (at m yard_mask_at ≡ 0 → ⊥) → x ≡ requested_words m z g
-    unfolding requested_words
-    requested-rests t =
-        e ∙ ap (λ (d : Bool). cond d (started_words (raised_words m g) z) (raised_words m g)) (sym (ne_eqb (at m yard_mask_at) 0 t))

@@ -15,7 +15,7 @@ use Rattle.representation.proofs.Sentences.Facts.{SizesFit}
 use Rattle.changes.proofs.Shows.{Shows, shows_then, stored-then}
 use Rattle.changes.proofs.Shape.{LaneAtEach, Shape}
 use Rattle.changes.proofs.OfLanes.EngineWords.{shape-engine}
-use Rattle.lanes.specs.declared.Change.TheVariants.{Drop}
+use Rattle.lanes.specs.Record.{dropped_record}
 use Rattle.lanes.specs.declared.Place.{Place}
 use Rattle.lanes.specs.RecordChanges.{changed_at}
 use Rattle.lanes.specs.Cabinet.{stand}
@@ -40,13 +40,13 @@ module _ (s : State) (m : List ℕ) (shows : Shows m s) (each : LaneAtEach s) (c
   l = stand s.sizes c p
 
   abbrev dropped : List ℕ
-  dropped = changed_at m l.address Drop
+  dropped = changed_at m l.address dropped_record
 
   lane-within : lane_number < lane_count s.sizes
   lane-within = omega (arith, row_within c (cabinet_count s.sizes) s.sizes.places in_cabinets)
 
   first-stored : dropped ≡ stored u m
-  first-stored = ap (λ (a : ℕ). changed_at m a Drop) (cabinet_at-lane s.sizes c p) ∙ record-dropped s m shows lane_number lane-within each
+  first-stored = ap (λ (a : ℕ). changed_at m a dropped_record) (cabinet_at-lane s.sizes c p) ∙ record-dropped s m shows lane_number lane-within each
 
   each-u : LaneAtEach u
   each-u = length-update s.engine.lanes lane_number unsampled ∙ each

@@ -18,7 +18,7 @@ use Rattle.changes.proofs.Shows.{Shows, stored-shown}
 use Rattle.changes.proofs.Shape.{LaneAtEach, Shape}
 use Rattle.changes.proofs.OfLanes.OneLane.{shape-lane}
 use Rattle.changes.proofs.OfLanes.LaneRecords.{holding, record-sampled}
-use Rattle.lanes.specs.declared.Change.TheVariants.{Sample}
+use Rattle.lanes.specs.Record.{sampled_record}
 use Rattle.lanes.specs.Record.{record_at, is_holding}
 use Rattle.lanes.specs.RecordChanges.{changed_at}
 use Rattle.lanes.specs.Cabinet.{stand}
@@ -37,7 +37,7 @@ module _ (s : State) (m : List ℕ) (shows : Shows m s) (i : ℕ) (h : i < lane_
   unsampled = l.pending && not (is_held l.snapshot)
 
   -- the lane's words are copied by this test, or stay
-  copied-by : LaneAtEach s → (b : Bool) → unsampled ≡ b → cond b (changed_at m a Sample) m ≡ stored (with_lane s i sampled) m
+  copied-by : LaneAtEach s → (b : Bool) → unsampled ≡ b → cond b (changed_at m a sampled_record) m ≡ stored (with_lane s i sampled) m
   unfolding sampled
   copied-by each true e =
       record-sampled s m shows i h each
@@ -64,8 +64,8 @@ module _ (s : State) (m : List ℕ) (shows : Shows m s) (each : LaneAtEach s) (c
   pub sample-stored : sample_words m (stand z c p) ≡ stored (with_lane s i sampled) m
   unfolding sample_words record_at
   sample-stored =
-      ap (λ (x : ℕ). cond (flag p (at m (masks_at + c)) && not (is_holding (record_at m x))) (changed_at m x Sample) m) (cabinet_at-lane z c p)
-      ∙ ap₂ (λ (b d : Bool). cond (b && not d) (changed_at m (lane_address z i) Sample) m)
+      ap (λ (x : ℕ). cond (flag p (at m (masks_at + c)) && not (is_holding (record_at m x))) (changed_at m x sampled_record) m) (cabinet_at-lane z c p)
+      ∙ ap₂ (λ (b d : Bool). cond (b && not d) (changed_at m (lane_address z i) sampled_record) m)
       (ap (flag p) (shows.image (mask c) in_cabinets) ∙ flag-group z.places (lane_bit s) c p in_places)
       (held-shown s m shows i within-lanes)
       ∙ copied-by s m shows i within-lanes each (unsampled s m shows i within-lanes) refl

@@ -4,7 +4,7 @@ use Rattle.model.specs.State.{Sizes}
 use Rattle.model.specs.Layout.{masks_at}
 use Rattle.model.specs.Memory.{at, flag}
 use Rattle.lanes.specs.declared.Place.{Place}
-use Rattle.lanes.specs.declared.Change.TheVariants.{Sample}
+use Rattle.lanes.specs.Record.{sampled_record}
 use Rattle.lanes.specs.Record.{record_at, is_holding, moved_on}
 use Rattle.lanes.specs.RecordChanges.{changed_at}
 use Rattle.engine.specs.Release.{released_words}
@@ -21,7 +21,7 @@ module _ (m : List ℕ) (l : Place) where
 
   -- then its counts are copied
   unfoldable pub sample_words : List ℕ
-  sample_words = cond unsampled_in (changed_at m l.address Sample) m
+  sample_words = cond unsampled_in (changed_at m l.address sampled_record) m
 
 -- compare, advance the lane, advance the global queues, copy
 unfoldable pub clock_words : List ℕ → Sizes → Place → List ℕ

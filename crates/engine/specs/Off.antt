@@ -4,7 +4,7 @@ use Rattle.model.specs.State.{Sizes}
 use Rattle.model.specs.Layout.{done_offset, current_offset, global_queues_at, queues_at, generation_at}
 use Rattle.queues.specs.Queue.{joined}
 use Rattle.lanes.specs.declared.Place.{Place}
-use Rattle.lanes.specs.declared.Change.TheVariants.{Leave}
+use Rattle.lanes.specs.Record.{offline_record}
 use Rattle.lanes.specs.RecordChanges.{changed_at}
 use Rattle.engine.specs.Release.{released_words}
 use Rattle.engine.specs.Advance.{of_all, advanced_words}
@@ -20,4 +20,4 @@ handed_words m z a =
 
 -- the lane is marked off and hands its queues over, then it drops its snapshot and its bit, and the global queues advance
 unfoldable pub off_words : List ℕ → Sizes → Place → List ℕ
-off_words m z l = advanced_words (released_words (handed_words (changed_at m l.address Leave) z l.address) z l) z of_all
+off_words m z l = advanced_words (released_words (handed_words (changed_at m l.address offline_record) z l.address) z l) z of_all

@@ -5,7 +5,7 @@ use Rattle.model.specs.Layout.{yard_mask_at, masks_at}
 use Rattle.model.specs.Memory.{at, flag}
 use Rattle.mask_tree.specs.Tree.{cleared_up}
 use Rattle.lanes.specs.declared.Place.{Place}
-use Rattle.lanes.specs.declared.Change.TheVariants.{Drop}
+use Rattle.lanes.specs.Record.{dropped_record}
 use Rattle.lanes.specs.RecordChanges.{changed_at}
 use Rattle.engine.specs.Levels.{rungs}
 use Rattle.engine.specs.Period.{ended_words}
@@ -24,4 +24,4 @@ passed_words m z l = cond (flag l.place (at m (masks_at + l.cabinet))) (over_wor
 
 -- the lane drops its snapshot too
 unfoldable pub released_words : List ℕ → Sizes → Place → List ℕ
-released_words m z l = passed_words (changed_at m l.address Drop) z l
+released_words m z l = passed_words (changed_at m l.address dropped_record) z l

@@ -7,40 +7,43 @@ ghost use Rattle.lanes.specs.Cabinet.{LaneLent};
 ghost use Rattle.engine.specs.Period.{masks_set, started_words, ended_words, raised_words, requested_words};
 ghost use Rattle.engine.specs.Release.{over_words, cleared_words, passed_words, released_words};
 
+use mask_tree::Level;
+
 // The period waits for the lanes that are on: each cabinet's lane mask is theirs.
+#[tactic(auto, using(crate::proofs::PeriodWords::one_more), unfolding(crate::specs::Period::masks_set))]
 fn await_lanes(m: &mut [u32], z: words::Sizes)
     requires { Lent m.old (sizes_of z) }
     ensures { m.new ≡ masks_set m.old (sizes_of z) (cabinet_count (sizes_of z)) }
 {
-    let cabinets = z.cabinet_count();
-    for c in 0..cabinets {
-        let online = lanes::cabinet::cabinet_online(m, z, c);
-        m[words::MASKS_AT + words::index(c)] = online;
+    for c in 0..z.cabinet_count() {
+        m[words::MASKS_AT + c as usize] = lanes::cabinet::cabinet_online(m, z, c);
     }
 }
 
 // Begins a period: the bits of all lanes that are on, and above them those of their cabinets and of their yards.
+#[tactic(auto, unfolding(crate::specs::Period::started_words, mask_tree::specs::Tree::raised_up))]
 pub fn start_period(m: &mut [u32], z: words::Sizes)
     requires { Lent m.old (sizes_of z) }
     ensures { m.new ≡ started_words m.old (sizes_of z) }
 {
     let yards = z.yards_start();
     await_lanes(m, z);
-    let cabinets = mask_tree::Level {
+    let cabinets = Level {
         first: yards,
         wide: z.cabinets,
         count: z.yards,
     };
-    mask_tree::raise(m, words::MASKS_AT, cabinets);
-    let top = mask_tree::Level {
+    cabinets.raise(m, words::MASKS_AT);
+    let top = Level {
         first: words::YARD_MASK_AT,
         wide: z.yards,
         count: 1,
     };
-    mask_tree::raise(m, yards, top);
+    top.raise(m, yards);
 }
 
 // Ends a period: the current generation goes up, and if the largest requested is not earlier, another begins.
+#[tactic(auto, unfolding(crate::specs::Period::ended_words))]
 pub fn end_period(m: &mut [u32], z: words::Sizes)
     requires { Lent m.old (sizes_of z) }
     ensures { m.new ≡ ended_words m.old (sizes_of z) }
@@ -48,13 +51,13 @@ pub fn end_period(m: &mut [u32], z: words::Sizes)
     let largest = m[words::LARGEST_GENERATION_AT];
     let current = masks::up(m[words::CURRENT_GENERATION_AT]);
     m[words::CURRENT_GENERATION_AT] = current;
-    if masks::later(current, largest) {
-        return;
+    if !masks::later(current, largest) {
+        start_period(m, z);
     }
-    start_period(m, z);
 }
 
 // The largest generation requested becomes g if g is later.
+#[tactic(auto, unfolding(crate::specs::Period::raised_words))]
 fn raise_largest(m: &mut [u32], g: u32)
     requires { largest_generation_at < length m.old }
     ensures { m.new ≡ raised_words m.old g }
@@ -65,6 +68,7 @@ fn raise_largest(m: &mut [u32], g: u32)
 }
 
 // Requests generation g: the largest requested is raised, and if no period runs, one begins.
+#[tactic(auto, unfolding(crate::specs::Period::requested_words))]
 pub fn request(m: &mut [u32], z: words::Sizes, g: u32)
     requires { Lent m.old (sizes_of z) }
     ensures { m.new ≡ requested_words m.old (sizes_of z) g }
@@ -77,6 +81,7 @@ pub fn request(m: &mut [u32], z: words::Sizes, g: u32)
 }
 
 // If no lane is awaited any more, the period ends.
+#[tactic(auto, unfolding(crate::specs::Release::over_words))]
 fn end_if_over(m: &mut [u32], z: words::Sizes)
     requires { Lent m.old (sizes_of z) }
     ensures { m.new ≡ over_words m.old (sizes_of z) }
@@ -87,37 +92,36 @@ fn end_if_over(m: &mut [u32], z: words::Sizes)
 }
 
 // The bit of a lane goes, its cabinet's with the last of the cabinet, and its yard's with the last of the yard.
+#[tactic(auto, unfolding(crate::specs::Release::cleared_words, mask_tree::specs::Tree::cleared_up))]
 fn clear_pending(m: &mut [u32], z: words::Sizes, lane: lanes::Place)
     requires { LaneLent m.old (sizes_of z) lane }
     ensures { m.new ≡ cleared_words m.old (sizes_of z) lane }
 {
-    let cabinet = words::MASKS_AT + words::index(lane.cabinet);
-    let yard = z.yards_start() + words::index(lane.yard);
-    if !mask_tree::clear(m, cabinet, lane.place) {
-        return;
+    let cabinet = words::MASKS_AT + lane.cabinet as usize;
+    let yard = z.yards_start() + lane.yard as usize;
+    if mask_tree::clear(m, cabinet, lane.place) && mask_tree::clear(m, yard, lane.bay) {
+        mask_tree::clear(m, words::YARD_MASK_AT, lane.yard);
     }
-    if !mask_tree::clear(m, yard, lane.bay) {
-        return;
-    }
-    mask_tree::clear(m, words::YARD_MASK_AT, lane.yard);
 }
 
 // The bit of a lane goes if it is set, and the period ends if it was the last.
+#[tactic(auto, unfolding(crate::specs::Release::passed_words))]
 fn pass_period(m: &mut [u32], z: words::Sizes, lane: lanes::Place)
     requires { LaneLent m.old (sizes_of z) lane }
     ensures { m.new ≡ passed_words m.old (sizes_of z) lane }
 {
-    if masks::test(m[words::MASKS_AT + words::index(lane.cabinet)], lane.place) {
+    if masks::test(m[words::MASKS_AT + lane.cabinet as usize], lane.place) {
         clear_pending(m, z, lane);
         end_if_over(m, z);
     }
 }
 
 // A lane drops its snapshot and its bit, and the period ends if that was the last.
+#[tactic(auto, unfolding(crate::specs::Release::released_words))]
 pub fn release(m: &mut [u32], z: words::Sizes, lane: lanes::Place)
     requires { LaneLent m.old (sizes_of z) lane }
     ensures { m.new ≡ released_words m.old (sizes_of z) lane }
 {
-    lanes::cabinet::change_lane(m, z, lane, lanes::Change::Drop);
+    lane.change(m, z, |r| r.dropped());
     pass_period(m, z, lane);
 }

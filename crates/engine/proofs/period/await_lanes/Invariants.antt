@@ -1,13 +1,8 @@
--- The loop's invariant: the masks of the cabinets passed are those of their lanes that are on. The measure is the number of cabinets left.
-use Prim.Native.Nat.{◌≤◌, ◌-◌}
+-- The loop's invariant: the masks of the cabinets passed are those of their lanes that are on.
 use mathlib.Core.Path.{◌≡◌}
-use lib.ListN.{length}
 use Rattle.words.specs.Lent.{sizes_of}
 use Rattle.engine.specs.Period.{masks_set}
 use Rattle.engine.proofs.period.await_lanes.Given as goal
 
 abbrev pub invariant-loop-c : goal.invariant-loop-c
-invariant-loop-c l = (l.c ≤ l.cabinets) × ((length l.m ≡ length l.initial.m) × (l.m ≡ masks_set l.initial.m (sizes_of l.z) l.c))
-
-abbrev pub decreases-loop-c : goal.decreases-loop-c
-decreases-loop-c l = l.cabinets - l.c
+invariant-loop-c l = l.m ≡ masks_set l.initial.m (sizes_of l.z) l.c
