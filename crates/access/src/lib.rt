@@ -20,6 +20,7 @@ ghost use Rattle.access.specs.Flags.{flag_put};
 ghost use Rattle.access.specs.Lanes.{lane_named, Named, LaneIn, Standing, most_subtractions, split_of, yard_size, Placed};
 
 use causes::Cause;
+use lanes::Place;
 use words::flags::Flag;
 
 // ---- answers
@@ -105,14 +106,14 @@ impl Lane {
     // Where a lane stands: its yard is as often as the yard's size can be subtracted from its number, its cabinet there as
     // often as the cabinet's size from what is left, and its place is what is left then. Worked out once a call, of a lane
     // that there is, and handed on.
-    pub fn place(self) -> lanes::Place
+    pub fn place(self) -> Place
         requires { Standing self }
         ensures { Placed self result }
     {
         let z = self.sizes;
         let y = subtract_size(self.number, yard_size(z));
         let b = subtract_size(y.left, z.places);
-        lanes::cabinet::stand_at(z, y.times, b.times, b.left)
+        Place::new(z, y.times, b.times, b.left)
     }
 
     // Whether its flags have this one.

@@ -3,8 +3,8 @@ use Rattle.access.proofs.LaneLaws.{yard-known, bay-known, placed}
 use borrow.Author.Rules.{rules}
 use Rattle.access.proofs.Lane.place.Goals as goal
 
-pub stand_at-requires : goal.stand_at-requires
-stand_at-requires c =
+pub new-requires : goal.new-requires
+new-requires c =
     let size = c.yard_size.ensures in
     let yard = c.subtract_size-y.ensures in
     let bay = c.subtract_size-b.ensures in
