@@ -1,11 +1,10 @@
 -- What is lent stays lent: `Lent` asks for the length of a memory, which no store changes. Sizes that fit are not too large.
-use Rattle.std.proofs.Common.{◌≡◌, ℕ, Bool, true, List, length, set, sym, ◌∙◌, subst, mul-le-mul, arith, length-set, leb-true}
+use Rattle.std.proofs.Common.{◌≡◌, ℕ, true, List, length, set, sym, subst, mul-le-mul, arith, length-set, leb-true}
 use Rattle.model.specs.State.{Sizes}
 use Rattle.model.specs.Legal.{sizes_fit}
 use Rattle.laws.specs.Tests.{every_true}
 use Rattle.model.specs.Memory.{sizes}
-use Rattle.words.specs.declared.Sizes as code
-use Rattle.words.specs.Lent.{sizes_of, sizes_in, Few, Lent}
+use Rattle.words.specs.Lent.{Few, Lent}
 
 module _ (m : List ℕ) (z : Sizes) (lent : Lent m z) where
   pub lent_same : (n : List ℕ) → length n ≡ length m → Lent n z
@@ -15,8 +14,8 @@ module _ (m : List ℕ) (z : Sizes) (lent : Lent m z) where
   lent-set i v = lent_same (set m i v) (length-set m i v)
 
 -- the sizes that were read
-pub lent-read : (m : List ℕ) (z : code.Sizes) → Lent m (sizes m) → z ≡ sizes_in m → Lent m (sizes_of z)
-lent-read m z l e = subst (λ (x : code.Sizes). Lent m (sizes_of x)) (sym e) l
+pub lent-read : (m : List ℕ) (z : Sizes) → Lent m (sizes m) → z ≡ sizes m → Lent m z
+lent-read m z l e = subst (Lent m) (sym e) l
 
 -- ---- sizes that fit
 
@@ -29,7 +28,3 @@ few-fits z h =
     let p = leb-true _ _ e.1.1.1.1.1.0 in
     let a = mul-le-mul y c in
     record { yards = y; cabinets = c; places = p; all_cabinets = a; lanes = mul-le-mul a p; slots = leb-true _ _ e.1.1.1.1.1.1.1.0 }
-
--- by the test r
-pub few-tested : (z : Sizes) (r : Bool) → r ≡ sizes_fit z → r ≡ true → Few z
-few-tested z r e t = few-fits z (sym e ∙ t)

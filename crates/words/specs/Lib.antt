@@ -5,3 +5,5 @@ pub mod Links
 pub mod Contents
 pub mod Sums
 pub mod Flags
+pub mod Few
+pub mod Sizing

@@ -4,7 +4,7 @@ ghost use Rattle.std.specs.Prelude.{◌≡◌, ◌≤◌, length};
 ghost use Rattle.std.proofs.lemmas.List.Edits.{sets};
 ghost use Rattle.model.specs.Layout.{contents_length};
 ghost use Rattle.model.specs.Memory.{contents};
-ghost use Rattle.words.specs.Lent.{sizes_of, Few};
+ghost use Rattle.words.specs.Lent.{sizes_of};
 ghost use Rattle.words.specs.Contents.{BodiesOf};
 
 // where first word and length of each body stand
@@ -54,7 +54,6 @@ pub struct Bodies {
 
 // The bodies of a table with these sizes.
 pub fn bodies_of(z: crate::Sizes) -> Bodies
-    requires { Few (sizes_of z) }
     ensures { BodiesOf (sizes_of z) result }
 {
     let cabinets = z.cabinet_count();
@@ -76,7 +75,7 @@ pub fn bodies_of(z: crate::Sizes) -> Bodies
 
 // Writes the contents of a table with these sizes.
 pub fn write(m: &mut [u32], z: crate::Sizes)
-    requires { (contents_length ≤ length m.old) × Few (sizes_of z) }
+    requires { contents_length ≤ length m.old }
     ensures { m.new ≡ sets m.old 0 (contents (sizes_of z)) }
 {
     let b = bodies_of(z);

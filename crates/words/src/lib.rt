@@ -7,15 +7,19 @@ pub mod contents;
 pub mod flags;
 pub mod links;
 pub mod product;
+pub mod sizes;
 
 ghost use Rattle.std.specs.Prelude.{◌≡◌, ◌+◌, ◌<◌, ◌≤◌, length};
 ghost use Rattle.model.specs.Word.{word_limit, less as differenceOf};
 ghost use Rattle.model.specs.State.{cabinet_count, lane_count};
 ghost use Rattle.model.specs.Layout.{contents_length, lane_address, slots_body, slot_address, yards_body};
 ghost use Rattle.model.specs.Legal.{sizes_fit};
-ghost use Rattle.model.specs.Memory.{wide, whole_of, low as low_word, high as high_word};
-ghost use Rattle.words.specs.Lent.{sizes_of, sizes_in, Few};
+ghost use Rattle.model.specs.Memory.{sizes, wide, whole_of, low as low_word, high as high_word};
+ghost use Rattle.words.specs.Lent.{sizes_of, Lent};
+ghost use Rattle.words.specs.Sizing.{Sized};
 ghost use Rattle.words.specs.Sums.{plus as sum_of};
+
+pub use sizes::Sizes;
 
 // one more than the largest word
 pub const WORD_LIMIT: u64 = 4294967296;
@@ -129,20 +133,40 @@ pub const SLOT_LENGTH: usize = QUEUE_LINK_AT + 1;
 
 // ---- sizes
 
-// The sizes of a table, handed on by value.
-#[derive(Clone, Copy)]
-pub struct Sizes {
-    pub yards: u32,
-    pub cabinets: u32,
-    pub places: u32,
-    pub slots: u32,
+// Yards 1 to 8, cabinets of a yard 1 to 8, lanes of a cabinet 1 to 8, slots 1 to 1,024.
+fn sizes_fit(yards: u32, cabinets: u32, places: u32, slots: u32) -> bool
+    ensures { result ≡ sizes_fit (record { yards = yards; cabinets = cabinets; places = places; slots = slots }) }
+{
+    (1 <= yards)
+        & ((yards <= MAX_YARDS)
+            & ((1 <= cabinets)
+                & ((cabinets <= MAX_CABINETS)
+                    & ((1 <= places)
+                        & ((places <= MAX_PLACES)
+                            & ((1 <= slots) & ((slots <= MAX_SLOTS) & true)))))))
 }
 
 impl Sizes {
-    // The sizes that a memory's contents name.
+    // These sizes, where they are in range.
+    pub fn new(yards: u32, cabinets: u32, places: u32, slots: u32) -> Option<Sizes>
+        ensures { Sized (record { yards = yards; cabinets = cabinets; places = places; slots = slots }) result }
+    {
+        if sizes_fit(yards, cabinets, places, slots) {
+            Some(Sizes {
+                yards,
+                cabinets,
+                places,
+                slots,
+            })
+        } else {
+            None
+        }
+    }
+
+    // The sizes that the contents of a table's memory name.
     pub fn read(m: &[u32]) -> Sizes
-        requires { contents_length ≤ length m.now }
-        ensures { result ≡ sizes_in m.now }
+        requires { Lent m.now (sizes m.now) }
+        ensures { sizes_of result ≡ sizes m.now }
     {
         Sizes {
             yards: m[YARDS_AT],
@@ -152,22 +176,8 @@ impl Sizes {
         }
     }
 
-    // Yards 1 to 8, cabinets of a yard 1 to 8, lanes of a cabinet 1 to 8, slots 1 to 1,024.
-    pub fn fit(self) -> bool
-        ensures { result ≡ sizes_fit (sizes_of self) }
-    {
-        (1 <= self.yards)
-            & ((self.yards <= MAX_YARDS)
-                & ((1 <= self.cabinets)
-                    & ((self.cabinets <= MAX_CABINETS)
-                        & ((1 <= self.places)
-                            & ((self.places <= MAX_PLACES)
-                                & ((1 <= self.slots) & ((self.slots <= MAX_SLOTS) & true)))))))
-    }
-
     // The number of cabinets of all yards.
     pub fn cabinet_count(self) -> u32
-        requires { Few (sizes_of self) }
         ensures { result ≡ cabinet_count (sizes_of self) }
     {
         self.yards * self.cabinets
@@ -175,7 +185,6 @@ impl Sizes {
 
     // The number of lanes.
     pub fn lane_count(self) -> u32
-        requires { Few (sizes_of self) }
         ensures { result ≡ lane_count (sizes_of self) }
     {
         self.yards * self.cabinets * self.places
@@ -183,7 +192,6 @@ impl Sizes {
 
     // Where the record of a lane begins.
     pub fn lane_address(self, lane: u32) -> usize
-        requires { Few (sizes_of self) }
         ensures { result ≡ lane_address (sizes_of self) lane }
     {
         MASKS_AT + self.cabinet_count() as usize + LANE_LENGTH * lane as usize
@@ -191,7 +199,6 @@ impl Sizes {
 
     // Where the slots' records begin.
     pub fn slots_start(self) -> usize
-        requires { Few (sizes_of self) }
         ensures { result ≡ slots_body (sizes_of self) }
     {
         self.lane_address(self.lane_count())
@@ -199,7 +206,6 @@ impl Sizes {
 
     // Where the record of a slot begins.
     pub fn slot_address(self, slot: u32) -> usize
-        requires { Few (sizes_of self) }
         ensures { result ≡ slot_address (sizes_of self) slot }
     {
         self.slots_start() + SLOT_LENGTH * slot as usize
@@ -207,7 +213,6 @@ impl Sizes {
 
     // Where the yards' cabinet masks begin.
     pub fn yards_start(self) -> usize
-        requires { Few (sizes_of self) }
         ensures { result ≡ yards_body (sizes_of self) }
     {
         self.slot_address(self.slots)

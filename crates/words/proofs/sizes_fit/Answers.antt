@@ -2,7 +2,7 @@
 use Rattle.std.proofs.Common.{refl}
 use Rattle.model.specs.Lists.{every}
 use Rattle.model.specs.Legal.{sizes_fit}
-use Rattle.words.proofs.Sizes.fit.Goals as goal
+use Rattle.words.proofs.sizes_fit.Goals as goal
 
 pub returns : goal.returns
 unfolding sizes_fit every
