@@ -7,7 +7,7 @@ ghost use Rattle.model.specs.Word.{none};
 ghost use Rattle.model.specs.Layout.{slot_address};
 ghost use Rattle.model.specs.Memory.{at};
 ghost use Rattle.model.specs.Rules.{outcome_answer};
-ghost use Rattle.words.specs.Lent.{sizes_of, Few, Lent};
+ghost use Rattle.words.specs.Lent.{sizes_of, Lent};
 ghost use Rattle.chains.specs.Chain.{link_address, code_words, seek, found, pointed, linked_at_head, put_in_place, unlinked, product_set, cleared};
 ghost use Rattle.chains.specs.Outcome.{outcome_of, outcome_at, answer_words, step_words};
 
@@ -41,7 +41,6 @@ pub enum Step {
 // Where the chain link of a slot stands.
 // Stays: `queues` has this line with its own constant; one function for both would only name the constant at each call.
 fn link_address(z: words::Sizes, slot: u32) -> usize
-    requires { Few (sizes_of z) }
     ensures { result ≡ link_address (sizes_of z) slot }
 {
     z.slot_address(slot) + words::CHAIN_LINK_AT

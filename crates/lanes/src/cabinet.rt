@@ -6,7 +6,7 @@ ghost use Rattle.model.specs.Lists.{from, mask};
 ghost use Rattle.model.specs.State.{cabinet_count};
 ghost use Rattle.model.specs.Layout.{lane_length};
 ghost use Rattle.model.specs.Memory.{at as word_at};
-ghost use Rattle.words.specs.Lent.{sizes_of, Few, Lent};
+ghost use Rattle.words.specs.Lent.{sizes_of, Lent};
 ghost use Rattle.masks.specs.Bits.{width};
 ghost use Rattle.lanes.specs.Record.{record_at};
 ghost use Rattle.lanes.specs.RecordChanges.{Changed};
@@ -61,7 +61,7 @@ pub fn change_in<F: FnOnce(LaneRecord) -> LaneRecord>(cabinet: &mut [u32], place
 
 // Where the part of a cabinet begins.
 fn cabinet_start(z: words::Sizes, cabinet: u32) -> usize
-    requires { (Few (sizes_of z)) × (cabinet < cabinet_count (sizes_of z)) }
+    requires { cabinet < cabinet_count (sizes_of z) }
     ensures { result ≡ cabinet_at (sizes_of z) cabinet }
 {
     z.lane_address(cabinet * z.places)
@@ -81,7 +81,7 @@ pub fn cabinet_online(m: &[u32], z: words::Sizes, cabinet: u32) -> u32
 impl Place {
     // The lane at a place of a cabinet, which is number `bay` of a yard.
     pub fn new(z: words::Sizes, yard: u32, bay: u32, place: u32) -> Place
-        requires { (Few (sizes_of z)) × ((yard < z.yards) × (bay < z.cabinets)) }
+        requires { (yard < z.yards) × (bay < z.cabinets) }
         ensures { result ≡ stand (sizes_of z) (yard * z.cabinets + bay) place }
     {
         let cabinet = yard * z.cabinets + bay;

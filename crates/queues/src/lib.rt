@@ -5,7 +5,7 @@
 ghost use Rattle.std.specs.Prelude.{not, ◌≡◌, ◌+◌, ◌≤◌, ◌<◌, ltb, length};
 ghost use Rattle.model.specs.Layout.{queue_width};
 ghost use Rattle.model.specs.Memory.{at};
-ghost use Rattle.words.specs.Lent.{sizes_of, Few, Lent};
+ghost use Rattle.words.specs.Lent.{sizes_of, Lent};
 ghost use Rattle.queues.specs.Queue.{link_address, cleared, lengthened, shortened, begun_at, followed, appended_run, appended};
 ghost use Rattle.queues.specs.Queue.{joined, Taken};
 
@@ -23,7 +23,6 @@ pub const FREE: QueueAt = QueueAt {
 // Where the queue link of a slot stands.
 // Stays: `chains` has this line with its own constant; one function for both would only name the constant at each call.
 fn link_address(z: words::Sizes, slot: u32) -> usize
-    requires { Few (sizes_of z) }
     ensures { result ≡ link_address (sizes_of z) slot }
 {
     z.slot_address(slot) + words::QUEUE_LINK_AT
