@@ -146,6 +146,7 @@ impl Lookup {
 
 impl LaneRecord {
     // The record that stands from at on.
+    #[tactic(auto, unfolding(crate::specs::Record::record_at))]
     pub fn read(m: &[u32], at: usize) -> LaneRecord
         requires { at + lane_length ≤ length m.now }
         ensures { result ≡ record_at m.now at }
@@ -183,6 +184,7 @@ impl LaneRecord {
 
     // The record after a quiescent state of a kind: that count goes up, wrapping from the largest 64-bit number to 0, and
     // all else stays.
+    #[tactic(auto, unfolding(crate::specs::Record::counted_record))]
     pub fn counted(self, kind: Kind) -> LaneRecord
         ensures { result ≡ counted_record self (number_of kind) }
     {
@@ -213,6 +215,7 @@ impl LaneRecord {
     // ---- snapshots
 
     // The record after its counts were copied: the snapshot is held.
+    #[tactic(auto, unfolding(crate::specs::Record::sampled_record))]
     pub fn sampled(self) -> LaneRecord
         ensures { result ≡ sampled_record self }
     {
@@ -225,6 +228,7 @@ impl LaneRecord {
     }
 
     // The record without its snapshot: the bit and the counts of it are at rest.
+    #[tactic(auto, unfolding(crate::specs::Record::dropped_record))]
     pub fn dropped(self) -> LaneRecord
         ensures { result ≡ dropped_record self }
     {
@@ -254,6 +258,7 @@ impl LaneRecord {
     // ---- a lane that goes off
 
     // The record of a lane that went off.
+    #[tactic(auto, unfolding(crate::specs::Record::offline_record))]
     pub fn offline(self) -> LaneRecord
         ensures { result ≡ offline_record self }
     {

@@ -134,6 +134,7 @@ pub const SLOT_LENGTH: usize = QUEUE_LINK_AT + 1;
 // ---- sizes
 
 // Yards 1 to 8, cabinets of a yard 1 to 8, lanes of a cabinet 1 to 8, slots 1 to 1,024.
+#[tactic(auto, unfolding(model::specs::Legal::sizes_fit, model::specs::Lists::every))]
 fn sizes_fit(yards: u32, cabinets: u32, places: u32, slots: u32) -> bool
     ensures { result ≡ sizes_fit (record { yards = yards; cabinets = cabinets; places = places; slots = slots }) }
 {
