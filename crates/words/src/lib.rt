@@ -14,12 +14,12 @@ ghost use Rattle.model.specs.Word.{word_limit, less as differenceOf};
 ghost use Rattle.model.specs.State.{cabinet_count, lane_count};
 ghost use Rattle.model.specs.Layout.{contents_length, lane_address, slots_body, slot_address, yards_body};
 ghost use Rattle.model.specs.Legal.{sizes_fit};
-ghost use Rattle.model.specs.Memory.{sizes, wide, whole_of, low as low_word, high as high_word};
-ghost use Rattle.words.specs.Lent.{sizes_of, Lent};
+ghost use Rattle.model.specs.Memory.{wide, whole_of, low as low_word, high as high_word};
+ghost use Rattle.words.specs.Lent.{sizes_of, named, sizes_in, Few};
 ghost use Rattle.words.specs.Sizing.{Sized};
 ghost use Rattle.words.specs.Sums.{plus as sum_of};
 
-pub use sizes::Sizes;
+pub use sizes::{NamedSizes, Sizes, SizesOutOfRange};
 
 // one more than the largest word
 pub const WORD_LIMIT: u64 = 4294967296;
@@ -133,43 +133,13 @@ pub const SLOT_LENGTH: usize = QUEUE_LINK_AT + 1;
 
 // ---- sizes
 
-// Yards 1 to 8, cabinets of a yard 1 to 8, lanes of a cabinet 1 to 8, slots 1 to 1,024.
-#[tactic(auto, unfolding(model::specs::Legal::sizes_fit, model::specs::Lists::every))]
-fn sizes_fit(yards: u32, cabinets: u32, places: u32, slots: u32) -> bool
-    ensures { result ≡ sizes_fit (record { yards = yards; cabinets = cabinets; places = places; slots = slots }) }
-{
-    (1 <= yards)
-        & ((yards <= MAX_YARDS)
-            & ((1 <= cabinets)
-                & ((cabinets <= MAX_CABINETS)
-                    & ((1 <= places)
-                        & ((places <= MAX_PLACES)
-                            & ((1 <= slots) & ((slots <= MAX_SLOTS) & true)))))))
-}
-
-impl Sizes {
-    // These sizes, where they are in range.
-    pub fn new(yards: u32, cabinets: u32, places: u32, slots: u32) -> Option<Sizes>
-        ensures { Sized (record { yards = yards; cabinets = cabinets; places = places; slots = slots }) result }
+impl NamedSizes {
+    // The sizes that a memory's contents name.
+    pub fn read(m: &[u32]) -> NamedSizes
+        requires { contents_length ≤ length m.now }
+        ensures { result ≡ sizes_in m.now }
     {
-        if sizes_fit(yards, cabinets, places, slots) {
-            Some(Sizes {
-                yards,
-                cabinets,
-                places,
-                slots,
-            })
-        } else {
-            None
-        }
-    }
-
-    // The sizes that the contents of a table's memory name.
-    pub fn read(m: &[u32]) -> Sizes
-        requires { Lent m.now (sizes m.now) }
-        ensures { sizes_of result ≡ sizes m.now }
-    {
-        Sizes {
+        NamedSizes {
             yards: m[YARDS_AT],
             cabinets: m[CABINETS_AT],
             places: m[PLACES_AT],
@@ -177,6 +147,49 @@ impl Sizes {
         }
     }
 
+    // Yards 1 to 8, cabinets of a yard 1 to 8, lanes of a cabinet 1 to 8, slots 1 to 1,024.
+    #[tactic(auto, unfolding(model::specs::Legal::sizes_fit, model::specs::Lists::every))]
+    pub fn fit(self) -> bool
+        ensures { result ≡ sizes_fit (named self) }
+    {
+        (1 <= self.yards)
+            & ((self.yards <= MAX_YARDS)
+                & ((1 <= self.cabinets)
+                    & ((self.cabinets <= MAX_CABINETS)
+                        & ((1 <= self.places)
+                            & ((self.places <= MAX_PLACES)
+                                & ((1 <= self.slots) & ((self.slots <= MAX_SLOTS) & true)))))))
+    }
+
+    // The same as a table's, where none is above the largest.
+    pub fn of_table(self) -> Sizes
+        requires { Few (named self) }
+        ensures { sizes_of result ≡ named self }
+    {
+        Sizes {
+            yards: self.yards,
+            cabinets: self.cabinets,
+            places: self.places,
+            slots: self.slots,
+        }
+    }
+}
+
+impl TryFrom<NamedSizes> for Sizes {
+    type Error = SizesOutOfRange;
+
+    ghost try_from_gives = { Sized };
+
+    fn try_from(sizes: NamedSizes) -> Result<Self, SizesOutOfRange> {
+        if sizes.fit() {
+            Ok(sizes.of_table())
+        } else {
+            Err(SizesOutOfRange)
+        }
+    }
+}
+
+impl Sizes {
     // The number of cabinets of all yards.
     pub fn cabinet_count(self) -> u32
         ensures { result ≡ cabinet_count (sizes_of self) }
