@@ -15,15 +15,15 @@ use Rattle.model.specs.Table.{chain_number, chain_of}
 use Rattle.laws.specs.Subtractions.{Split as Subtracted, split, subtracted, subtracted-few, subtracted-divides, group-divides, rest-divides, rest-left}
 use Rattle.representation.proofs.Causes.Accepted.{lane-accepted}
 use Rattle.representation.specs.Sound.{Sound}
-use Rattle.words.specs.declared.Sizes as code-sizes
-use Rattle.words.specs.Lent.{sizes_of, sizes_in, Few, Lent}
+use Rattle.words.specs.declared.sizes.NamedSizes as words
+use Rattle.words.specs.Lent.{sizes_of, named, sizes_in, Few, Lent}
 use Rattle.lanes.specs.declared.Place.{Place}
 use Rattle.lanes.specs.Cabinet.{stand, LaneLent}
 use Rattle.lanes.proofs.CabinetLaws.{cabinet_at-lane, lane-lent}
 use Rattle.changes.proofs.OfChains.ChainChanges.{head-shown}
 use Rattle.access.specs.declared.Lane.{Lane}
 use Rattle.access.specs.declared.Split.{Split}
-use Rattle.access.specs.Lanes.{lane_named, Named, LaneIn, place_of, Standing, most_subtractions, split_of, yard_size, yard_split, bay_split, Placed}
+use Rattle.access.specs.Lanes.{Named, LaneIn, place_of, Standing, most_subtractions, split_of, yard_size, yard_split, bay_split, Placed}
 use Rattle.access.proofs.Ways.{shown, in_range, long}
 
 -- ---- a legal memory
@@ -42,13 +42,9 @@ module _ (m : List ℕ) (v : Sound m) where
   pub lent : Lent m (sizes m)
   lent = record { few = few; long = long m v }
 
-  -- the sizes that were read
-  pub few-read : (z : code-sizes.Sizes) → z ≡ sizes_in m → Few (sizes_of z)
-  few-read z e = subst (λ (x : code-sizes.Sizes). Few (sizes_of x)) (sym e) few
-
-  -- a lane's number, and what was worked out of it
-  pub named : (i : ℕ) → Named m (lane_named m i)
-  named i = record { sound = v; address = refl; sizes = refl; lent = lent }
+  -- what the code reads of the sizes
+  pub few-read : (z : words.NamedSizes) → z ≡ sizes_in m → Few (named z)
+  few-read z e = subst (λ (x : words.NamedSizes). Few (named x)) (sym e) few
 
   -- the head of a code's chain
   pub chain_head : (c : ℕ) → at m (heads_at + chain_number c) ≡ first (chain_of (state m).table c)
@@ -57,17 +53,19 @@ module _ (m : List ℕ) (v : Sound m) where
   pub head-by : (c a : ℕ) → a ≡ heads_at + chain_number c → at m a ≡ first (chain_of (state m).table c)
   head-by c a e = ap (at m) e ∙ chain_head c
 
--- by what was read and worked out
-pub named_by : (m : List ℕ) (i a : ℕ) (z : code-sizes.Sizes) → z ≡ sizes_in m → a ≡ lane_address (sizes_of z) i
-    → record { number = i; address = a; sizes = z } ≡ lane_named m i
-named_by m i a z ez ea = rw (ea, ez)
+-- a lane by what was read and worked out
+pub named_by : (m : List ℕ) → Sound m → (l : Lane) (n : words.NamedSizes) → n ≡ sizes_in m → sizes_of l.sizes ≡ named n
+    → l.address ≡ lane_address (sizes_of l.sizes) l.number → Named m l
+named_by m v l n en ez ea =
+    let e : sizes_of l.sizes ≡ sizes m = ez ∙ ap named en in
+    record { sound = v; address = ea ∙ ap (λ (z : Sizes). lane_address z l.number) e; sizes = e; lent = subst (Lent m) (sym e) (lent m v) }
 
 -- ---- what the tests of a lane say
 
 module _ (m : List ℕ) (l : Lane) (k : Named m l) where
   -- as many lanes as the memory has
   pub count-is : lane_count (sizes_of l.sizes) ≡ lane_count (sizes m)
-  count-is = ap (λ (z : code-sizes.Sizes). lane_count (sizes_of z)) k.sizes
+  count-is = ap lane_count k.sizes
 
   -- by the state
   pub counted : lane_count (state m).sizes ≡ lane_count (sizes_of l.sizes)
@@ -95,13 +93,12 @@ module _ (m : List ℕ) (l : Lane) (k : Named m l) where
 pub lane-again : (m n : List ℕ) (l : Lane) → LaneIn m l → Sound n → sizes n ≡ sizes m → LaneIn n l
 unfolding state
 lane-again m n l k v e =
-    let here : l.sizes ≡ sizes_in n =
-    k.named.sizes ∙ ap (λ (z : Sizes). record { yards = z.yards; cabinets = z.cabinets; places = z.places; slots = z.slots }) (sym e) in
+    let here : sizes_of l.sizes ≡ sizes n = k.named.sizes ∙ sym e in
     lane-known n l (record {
       sound = v;
       address = k.named.address ∙ ap (λ (z : Sizes). lane_address z l.number) (sym e);
       sizes = here;
-      lent = subst (Lent n) (sym (ap sizes_of here)) (lent n v);
+      lent = subst (Lent n) (sym here) (lent n v);
     })
     (subst (λ (z : Sizes). l.number < lane_count z) (sym e) k.known)
 
@@ -110,10 +107,9 @@ lane-again m n l k v e =
 module _ (m : List ℕ) (l : Lane) (k : LaneIn m l) where
   pub standing : Standing l
   standing = record {
-    few = k.named.lent.few;
-    some_cabinets = subst (λ (z : code-sizes.Sizes). 1 ≤ z.cabinets) (sym k.named.sizes) (in_range m k.named.sound).some_cabinets;
-    some_places = subst (λ (z : code-sizes.Sizes). 1 ≤ z.places) (sym k.named.sizes) (in_range m k.named.sound).some_places;
-    known = subst (λ (z : code-sizes.Sizes). l.number < lane_count (sizes_of z)) (sym k.named.sizes) k.known;
+    some_cabinets = subst (λ (z : Sizes). 1 ≤ z.cabinets) (sym k.named.sizes) (in_range m k.named.sound).some_cabinets;
+    some_places = subst (λ (z : Sizes). 1 ≤ z.places) (sym k.named.sizes) (in_range m k.named.sound).some_places;
+    known = subst (λ (z : Sizes). l.number < lane_count z) (sym k.named.sizes) k.known;
   }
 
 module _ (l : Lane) (k : Standing l) where
@@ -134,10 +130,10 @@ module _ (l : Lane) (k : Standing l) where
 
   -- few enough subtractions: of a yard's size, and of a cabinet's from what is left
   yards-few : l.number < suc most_subtractions * yard_size z
-  yards-few = omega (arith, k.known, mul_assoc z.yards z.cabinets z.places, mul-le-mul_right (yard_size z) k.few.yards)
+  yards-few = omega (arith, k.known, mul_assoc z.yards z.cabinets z.places, mul-le-mul_right (yard_size z) l.sizes.few.yards)
 
   bays-few : l.number % yard_size z < suc most_subtractions * z.places
-  bays-few = omega (arith, mod-lt l.number (mul-pos k.some_cabinets k.some_places), mul-le-mul_right z.places k.few.cabinets)
+  bays-few = omega (arith, mod-lt l.number (mul-pos k.some_cabinets k.some_places), mul-le-mul_right z.places l.sizes.few.cabinets)
 
 -- by the subtractions that were made
 module _ (l : Lane) (k : Standing l) (y b : Split) (size : ℕ) (es : size ≡ yard_size (sizes_of l.sizes))
@@ -195,7 +191,7 @@ lane_of z i = div-add-mod' i z.places
 -- of a legal memory
 pub cabinet-known : (m : List ℕ) (l : Lane) → LaneIn m l → l.number / (sizes m).places < cabinet_count (sizes m)
 cabinet-known m l k =
-    subst (λ (z : code-sizes.Sizes). l.number / z.places < cabinet_count (sizes_of z)) k.named.sizes (cabinet-of l (standing m l k))
+    subst (λ (z : Sizes). l.number / z.places < cabinet_count z) k.named.sizes (cabinet-of l (standing m l k))
 
 -- what the engine asks for
 pub place-lent : (m : List ℕ) (l : Lane) (p : Place) → LaneIn m l → p ≡ place_of (sizes_of l.sizes) l.number → LaneLent m (sizes_of l.sizes) p
@@ -211,5 +207,5 @@ place-address m l p k e =
     ap (λ (q : Place). q.address) e
     ∙ cabinet_at-lane z (l.number / z.places) (l.number % z.places)
     ∙ ap (lane_address z) (lane_of z l.number)
-    ∙ ap (λ (y : code-sizes.Sizes). lane_address (sizes_of y) l.number) k.sizes
+    ∙ ap (λ (y : Sizes). lane_address y l.number) k.sizes
     ∙ sym k.address

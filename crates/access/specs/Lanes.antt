@@ -5,21 +5,17 @@ use Rattle.model.specs.Layout.{lane_length, lane_address}
 use Rattle.model.specs.Memory.{sizes}
 use Rattle.laws.specs.Subtractions.{Split as Subtracted, split, subtracted}
 use Rattle.representation.specs.Sound.{Sound}
-use Rattle.words.specs.Lent.{sizes_of, sizes_in, Few, Lent}
+use Rattle.words.specs.Lent.{sizes_of, Lent}
 use Rattle.lanes.specs.declared.Place.{Place}
 use Rattle.lanes.specs.Cabinet.{stand}
 use Rattle.access.specs.declared.Lane.{Lane}
 use Rattle.access.specs.declared.Split.{Split}
 
--- the lane of number i
-abbrev pub lane_named : List ℕ → ℕ → Lane
-lane_named m i = record { number = i; address = lane_address (sizes m) i; sizes = sizes_in m }
-
 -- a legal memory, and what was worked out of a lane's number; whether there is such a lane is not told
 pub record Named (m : List ℕ) (l : Lane) : Type 0 where
   pub sound : Sound m
   pub address : l.address ≡ lane_address (sizes m) l.number
-  pub sizes : l.sizes ≡ sizes_in m
+  pub sizes : sizes_of l.sizes ≡ sizes m
   -- the table is lent
   pub lent : Lent m (sizes_of l.sizes)
 
@@ -37,7 +33,6 @@ place_of z i = stand z (i / z.places) (i % z.places)
 
 -- a lane of a table of its sizes
 pub record Standing (l : Lane) : Type 0 where
-  pub few : Few (sizes_of l.sizes)
   pub some_cabinets : 1 ≤ l.sizes.cabinets
   pub some_places : 1 ≤ l.sizes.places
   pub known : l.number < lane_count (sizes_of l.sizes)

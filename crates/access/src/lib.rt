@@ -13,11 +13,11 @@ ghost use Rattle.model.specs.Rules.{first_cause, of_lane, lane_of, wrong_code};
 ghost use Rattle.model.specs.Memory.{at, flag, state};
 ghost use Rattle.laws.specs.Subtractions.{subtracted};
 ghost use Rattle.representation.specs.Sound.{Sound};
-ghost use Rattle.words.specs.Lent.{sizes_of, Few};
+ghost use Rattle.words.specs.Lent.{sizes_of};
 ghost use Rattle.words.specs.Flags.{bit_of};
 ghost use Rattle.access.specs.Causes.{refusal_of, answer_of};
 ghost use Rattle.access.specs.Flags.{flag_put};
-ghost use Rattle.access.specs.Lanes.{lane_named, Named, LaneIn, Standing, most_subtractions, split_of, yard_size, Placed};
+ghost use Rattle.access.specs.Lanes.{Named, LaneIn, Standing, most_subtractions, split_of, yard_size, Placed};
 
 use causes::Cause;
 use lanes::Place;
@@ -84,9 +84,10 @@ impl Lane {
     // The lane of a number; whether there is one is not tested.
     pub fn at(m: &[u32], number: u32) -> Lane
         requires { Sound m.now }
-        ensures { result ≡ lane_named m.now number }
+        ensures named { Named m.now result }
+        ensures number { result.number ≡ number }
     {
-        let sizes = words::Sizes::read(m);
+        let sizes = words::NamedSizes::read(m).of_table();
         let address = sizes.lane_address(number);
         Lane {
             number,
@@ -97,7 +98,6 @@ impl Lane {
 
     // Whether there is no such lane.
     pub fn is_unknown(self) -> bool
-        requires { Few (sizes_of self.sizes) }
         ensures { result ≡ leb (lane_count (sizes_of self.sizes)) self.number }
     {
         self.number >= self.sizes.lane_count()
@@ -188,7 +188,6 @@ fn subtract_size(number: u32, size: u32) -> Split
 
 // The lanes of a yard.
 fn yard_size(z: words::Sizes) -> u32
-    requires { Few (sizes_of z) }
     ensures { result ≡ yard_size (sizes_of z) }
 {
     z.cabinets * z.places

@@ -1,12 +1,14 @@
 -- The sizes are read from the contents, and the address is that of the layout.
 use native.Mathlib.Omega.{arith}
 use Rattle.access.proofs.Ways.{long}
-use Rattle.access.proofs.LaneLaws.{few-read}
-use borrow.Author.Rules.{rules}
+use Rattle.access.proofs.LaneLaws.{few-read, named_by}
 use Rattle.access.proofs.Lane.at.Goals as goal
 
-pub read-sizes-requires : goal.read-sizes-requires
-read-sizes-requires c = omega (arith, long _ c.requires)
+pub read-requires : goal.read-requires
+read-requires c = omega (arith, long _ c.requires)
 
-pub lane_address-address-requires : goal.lane_address-address-requires
-lane_address-address-requires c = search (rules, few-read)
+pub of_table-sizes-requires : goal.of_table-sizes-requires
+of_table-sizes-requires c = few-read _ c.requires _ c.read.ensures
+
+pub returns-clause-named : goal.returns-clause-named
+returns-clause-named c = named_by _ c.requires _ _ c.read.ensures c.of_table-sizes.ensures c.lane_address-address.ensures

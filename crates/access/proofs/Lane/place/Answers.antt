@@ -8,7 +8,7 @@ new-requires c =
     let size = c.yard_size.ensures in
     let yard = c.subtract_size-y.ensures in
     let bay = c.subtract_size-b.ensures in
-    (c.requires.few, (yard-known _ c.requires _ _ _ size yard bay, bay-known _ c.requires _ _ _ size yard bay))
+    (yard-known _ c.requires _ _ _ size yard bay, bay-known _ c.requires _ _ _ size yard bay)
 
 pub returns : goal.returns
 returns c = search (rules, placed)
