@@ -39,7 +39,6 @@ pub enum Step {
 }
 
 // Where the chain link of a slot stands.
-// Stays: `queues` has this line with its own constant; one function for both would only name the constant at each call.
 fn link_address(z: words::Sizes, slot: u32) -> usize
     ensures { result ≡ link_address (sizes_of z) slot }
 {

@@ -1,6 +1,6 @@
 -- The words of Advance at an owner's addresses, and what their tests read of the state that a memory shows.
 use Prim.Native.Nat.{ℕ, ◌-◌}
-use mathlib.Core.Bool.{Bool, true, false, not, cond}
+use mathlib.Core.Bool.{Bool, not, cond}
 use mathlib.Core.Path.{◌≡◌, refl, ap, ap₂, sym, ◌∙◌}
 use mathlib.Core.List.{List}
 use native.Mathlib.Omega.{arith}
@@ -22,7 +22,7 @@ use Rattle.changes.proofs.OfOwners.Owners.{named_by, Owner, all_lanes, one_lane,
 use Rattle.engine.specs.declared.OwnerWords.{OwnerWords}
 use Rattle.engine.specs.Period.{requested_words}
 use Rattle.representation.proofs.FromState.Periods.{yard_mask-runs}
-use Rattle.engine.proofs.PeriodLaws.{current-shown, mask-shown}
+use Rattle.engine.proofs.PeriodLaws.{turned, current-shown, mask-shown}
 use Rattle.engine.specs.Advance.{target_word, settled_words, batched_words, begun_words}
 
 -- ---- the words at the owner's addresses
@@ -91,8 +91,4 @@ module _ (s : State) (m : List ℕ) (shows : Shows m s) where
     unfolding target_word target
     target-shown =
         ap₂ (λ (b : Bool) (g : ℕ). cond b g (up g)) (ap (λ (k : ℕ). eqb k 0) (mask-shown s m shows) ∙ yard_mask-runs s w.lanes) (current-shown s m shows)
-        ∙ turned (runs e)
-      where
-        turned : (b : Bool) → cond (not b) e.current (up e.current) ≡ cond b (up e.current) e.current
-        turned true = refl
-        turned false = refl
+        ∙ turned (runs e) e.current (up e.current)

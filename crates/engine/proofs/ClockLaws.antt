@@ -1,7 +1,7 @@
 -- The clock of a lane that no cause refuses: the words after it are those of the state after the call, and its answer is read from them.
 use Prim.Native.Nat.{ℕ, ◌+◌, ◌*◌, ◌<◌}
-use mathlib.Core.Bool.{Bool, true, false, not, cond}
-use mathlib.Core.Path.{◌≡◌, refl, ap, ap₂, sym, ◌∙◌}
+use mathlib.Core.Bool.{Bool, cond}
+use mathlib.Core.Path.{◌≡◌, ap, ap₂, sym, ◌∙◌}
 use mathlib.Core.List.{List}
 use lib.Dec.{eqb}
 use Rattle.model.specs.State.{cabinet_count, Sizes, State}
@@ -15,7 +15,7 @@ use Rattle.representation.proofs.WellFormed.{WellFormed}
 use Rattle.changes.proofs.Shows.{Shows, shows_then}
 use Rattle.changes.proofs.Shape.{Shape, LaneAtEach}
 use Rattle.lanes.specs.Cabinet.{stand}
-use Rattle.engine.proofs.PeriodLaws.{current-shown, largest-shown, mask-shown}
+use Rattle.engine.proofs.PeriodLaws.{turned, current-shown, largest-shown, mask-shown}
 use Rattle.engine.specs.Clock.{clock_words}
 use Rattle.engine.proofs.ClockSteps.{clock-steps, shape-clock}
 
@@ -25,11 +25,7 @@ answer-shown : (s : State) (m : List ℕ) (n : ℕ) → Shows m s → LaneAtEach
 answer-shown s m n shows each =
     ap₂ (λ (x y : ℕ). accepted x y (cond (eqb (at m yard_mask_at) 0) 0 1) n) (current-shown s m shows) (largest-shown s m shows)
     ∙ ap (λ (b : Bool). accepted s.engine.current s.engine.largest (cond b 0 1) n) (ap (λ (x : ℕ). eqb x 0) (mask-shown s m shows) ∙ yard_mask-runs s each)
-    ∙ ap (λ (x : ℕ). accepted s.engine.current s.engine.largest x n) (turned (runs s.engine))
-  where
-    turned : (b : Bool) → ◌≡◌ {A = ℕ} (cond (not b) 0 1) (cond b 1 0)
-    turned true = refl
-    turned false = refl
+    ∙ ap (λ (x : ℕ). accepted s.engine.current s.engine.largest x n) (turned (runs s.engine) 0 1)
 
 module _ (s : State) (m : List ℕ) (shows : Shows m s) (w : WellFormed s) (c p : ℕ) (in_cabinets : c < cabinet_count s.sizes) (in_places : p < s.sizes.places) where
   abbrev z : Sizes

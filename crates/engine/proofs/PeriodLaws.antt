@@ -24,6 +24,11 @@ use Rattle.engine.proofs.StartLaws.{shape-started, started-stored}
 
 -- ---- end period, and request
 
+-- a choice by a test that is turned round
+pub turned : {A : Type 0} (b : Bool) (x y : A) → cond (not b) x y ≡ cond b y x
+turned true x y = refl
+turned false x y = refl
+
 module _ (s : State) (m : List ℕ) (shows : Shows m s) where
   pub current-shown : at m current_generation_at ≡ s.engine.current
   unfolding contents

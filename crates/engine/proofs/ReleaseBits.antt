@@ -39,11 +39,13 @@ words-unawaited (l ∷ ls) zero (suc j) = refl
 words-unawaited (l ∷ ls) (suc i) zero = refl
 words-unawaited (l ∷ ls) (suc i) (suc j) = words-unawaited ls i j
 
-pub queues-unawaited : (ls : List Lane) (i : ℕ) → concat_map lane_queues (update ls i unawaited) ≡ concat_map lane_queues ls
+-- a change of a lane that keeps its queues keeps all
+pub queues-alike : (f : Lane → Lane) → ((l : Lane) → lane_queues (f l) ≡ lane_queues l) → (ls : List Lane) (i : ℕ)
+    → concat_map lane_queues (update ls i f) ≡ concat_map lane_queues ls
 unfolding concat_map update
-queues-unawaited [] i = refl
-queues-unawaited (l ∷ ls) zero = refl
-queues-unawaited (l ∷ ls) (suc i) = ap (λ (r : List (List ℕ)). lane_queues l ++ r) (queues-unawaited ls i)
+queues-alike f e [] i = refl
+queues-alike f e (l ∷ ls) zero = ap (λ (r : List (List ℕ)). r ++ concat_map lane_queues ls) (e l)
+queues-alike f e (l ∷ ls) (suc i) = ap (λ (r : List (List ℕ)). lane_queues l ++ r) (queues-alike f e ls i)
 
 -- if no lane is awaited any more, the period ends
 pub over-stored : (s : State) (m : List ℕ) → Shows m s → LaneAtEach s

@@ -1,14 +1,14 @@
 -- Which change of the state the words of Release are: lane c × places + p drops its snapshot and its bit.
-use Prim.Native.Nat.{ℕ, zero, suc, ◌+◌, ◌*◌, ◌<◌}
+use Prim.Native.Nat.{ℕ, ◌+◌, ◌*◌, ◌<◌}
 use mathlib.Core.Bool.{Bool, true, false, not, cond, ◌&&◌}
 use mathlib.Core.Path.{◌≡◌, refl, ap, ap₂, ◌∙◌}
-use mathlib.Core.List.{List, [], ◌∷◌, ◌++◌}
+use mathlib.Core.List.{List, ◌∷◌, ◌++◌}
 use native.Mathlib.Omega.{arith}
-use Rattle.model.specs.Lists.{update, concat, concat_map, count}
+use Rattle.model.specs.Lists.{concat, count}
 use Rattle.model.specs.State.{cabinet_count, lane_count, unheld, Lane, Engine, State}
 use Rattle.model.specs.Engine.{fresh_lane, lane_at, set_pending, with_lanes, at_lane, runs, ended, released}
 use Rattle.model.specs.Rules.{with_engine, with_lane}
-use Rattle.model.specs.Memory.{lane_queues, queues_of}
+use Rattle.model.specs.Memory.{queues_of}
 use Rattle.model.specs.Calls.{stored}
 use Rattle.laws.specs.ListLaws.{get_or-update-same, update-update, length-update}
 use Rattle.representation.proofs.Sentences.Facts.{SizesFit}
@@ -23,7 +23,7 @@ use Rattle.lanes.proofs.CabinetLaws.{cabinet_at-lane, row_within}
 use Rattle.engine.proofs.PeriodLaws.{shape-ended}
 use Rattle.engine.specs.Release.{passed_words, released_words}
 use Rattle.changes.proofs.OfLanes.LaneRecords.{record-dropped}
-use Rattle.engine.proofs.ReleaseBits.{unsampled, unawaited}
+use Rattle.engine.proofs.ReleaseBits.{unsampled, unawaited, queues-alike}
 use Rattle.engine.proofs.ReleaseStores.{passed_engine, passed-stored}
 
 -- ---- both
@@ -71,16 +71,10 @@ module _ (s : State) (i : ℕ) (w : Shape s) where
   abbrev without : Engine
   without = at_lane i (set_pending false unheld) s.engine
 
-  queues-without : (ls : List Lane) (i : ℕ) → concat_map lane_queues (update ls i (set_pending false unheld)) ≡ concat_map lane_queues ls
-  unfolding concat_map update
-  queues-without [] i = refl
-  queues-without (l ∷ ls) zero = refl
-  queues-without (l ∷ ls) (suc i) = ap (λ (r : List (List ℕ)). lane_queues l ++ r) (queues-without ls i)
-
   shape-without : Shape (with_engine s without)
   shape-without =
       shape-engine s without w (length-update s.engine.lanes i (set_pending false unheld))
-      (λ x. ap (λ (r : List (List ℕ)). count x (concat (s.table.free ∷ queues_of s.engine.global ++ r))) (queues-without s.engine.lanes i))
+      (λ x. ap (λ (r : List (List ℕ)). count x (concat (s.table.free ∷ queues_of s.engine.global ++ r))) (queues-alike (set_pending false unheld) (λ l. refl) s.engine.lanes i))
 
   shape-over : (b : Bool) → Shape (with_engine s (cond b (ended without) without))
   shape-over true = shape-ended (with_engine s without) shape-without

@@ -28,7 +28,7 @@ use Rattle.lanes.proofs.CabinetLaws.{row_within}
 use Rattle.engine.specs.Levels.{rungs}
 use Rattle.engine.specs.Release.{over_words, cleared_words, passed_words}
 use Rattle.engine.proofs.MaskLevels.{all_levels, apart, inside, shows-masked, masked-stored}
-use Rattle.engine.proofs.ReleaseBits.{unawaited, words-unawaited, queues-unawaited, over-stored}
+use Rattle.engine.proofs.ReleaseBits.{unawaited, words-unawaited, queues-alike, over-stored}
 
 module _ (s : State) (m : List ℕ) (shows : Shows m s) (each : LaneAtEach s) (c p : ℕ) (in_cabinets : c < cabinet_count s.sizes)
     (in_places : p < s.sizes.places) (fit : SizesFit s.sizes) where
@@ -81,7 +81,7 @@ module _ (s : State) (m : List ℕ) (shows : Shows m s) (each : LaneAtEach s) (c
   cleared-stored : cleared_words m z (stand z c p) ≡ stored t m
   unfolding cleared_words
   cleared-stored =
-      masked-stored s m shows ls (words-unawaited s.engine.lanes i) (queues-unawaited s.engine.lanes i) _ (length-cleared_up m (rungs z (stand z c p)))
+      masked-stored s m shows ls (words-unawaited s.engine.lanes i) (queues-alike unawaited (λ l. refl) s.engine.lanes i) _ (length-cleared_up m (rungs z (stand z c p)))
       (masked-alike (cleared_up m (rungs z (stand z c p))) (all_levels z) (but i (lane_bit s)) (lane_bit t) bits
       (cleared_up-masked (lane_bit s) m i (rungs z (stand z c p)) climbs (apart z) (inside z m shows.long) (shows-masked s m shows)))
       (λ a o. cleared_up-else m (rungs z (stand z c p)) a (o.0 c in_cabinets, (o.1.0 (c / z.cabinets) in_yards, (o.1.1.0 0 (omega arith), tt))))

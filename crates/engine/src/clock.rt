@@ -22,7 +22,7 @@ fn is_unsampled(m: &[u32], z: words::Sizes, lane: lanes::Place) -> bool
     requires { LaneLent m.now (sizes_of z) lane }
     ensures { result ≡ unsampled_in m.now lane }
 {
-    let pending = masks::test(m[words::MASKS_AT + lane.cabinet as usize], lane.place);
+    let pending = crate::period::is_pending(m, z, lane);
     let held = lane.record(m, z).is_holding();
     pending & !held
 }

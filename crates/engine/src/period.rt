@@ -5,7 +5,7 @@ ghost use Rattle.model.specs.Layout.{largest_generation_at};
 ghost use Rattle.words.specs.Lent.{sizes_of, Lent};
 ghost use Rattle.lanes.specs.Cabinet.{LaneLent};
 ghost use Rattle.engine.specs.Period.{masks_set, started_words, ended_words, raised_words, requested_words};
-ghost use Rattle.engine.specs.Release.{over_words, cleared_words, passed_words, released_words};
+ghost use Rattle.engine.specs.Release.{over_words, pending_in, cleared_words, passed_words, released_words};
 
 use mask_tree::Level;
 
@@ -91,6 +91,14 @@ fn end_if_over(m: &mut [u32], z: words::Sizes)
     }
 }
 
+// Whether the bit of a lane is set.
+pub fn is_pending(m: &[u32], z: words::Sizes, lane: lanes::Place) -> bool
+    requires { LaneLent m.now (sizes_of z) lane }
+    ensures { result ≡ pending_in m.now lane }
+{
+    masks::test(m[words::MASKS_AT + lane.cabinet as usize], lane.place)
+}
+
 // The bit of a lane goes, its cabinet's with the last of the cabinet, and its yard's with the last of the yard.
 #[tactic(auto, unfolding(crate::specs::Release::cleared_words, mask_tree::specs::Tree::cleared_up))]
 fn clear_pending(m: &mut [u32], z: words::Sizes, lane: lanes::Place)
@@ -110,7 +118,7 @@ fn pass_period(m: &mut [u32], z: words::Sizes, lane: lanes::Place)
     requires { LaneLent m.old (sizes_of z) lane }
     ensures { m.new ≡ passed_words m.old (sizes_of z) lane }
 {
-    if masks::test(m[words::MASKS_AT + lane.cabinet as usize], lane.place) {
+    if is_pending(m, z, lane) {
         clear_pending(m, z, lane);
         end_if_over(m, z);
     }

@@ -1,15 +1,20 @@
 -- What the code does to a queue, in words of the memory: its first, last and length stand from `ends` on, in a table of sizes z. No legality is
 -- needed. A word that is no slot's number ends a queue, as none does; a length wraps.
-use Rattle.std.specs.Prelude.{ℕ, ◌+◌, cond, Option, Some, None, ◌≡◌, List, set, ltb}
+use Rattle.std.specs.Prelude.{ℕ, ◌+◌, ◌≤◌, cond, Option, Some, None, ◌≡◌, List, length, set, ltb}
 use Rattle.model.specs.Word.{none, less}
 use Rattle.model.specs.State.{Sizes}
-use Rattle.model.specs.Layout.{last_offset, length_offset, queue_link_at, slot_address}
+use Rattle.model.specs.Layout.{last_offset, length_offset, queue_width, queue_link_at, slot_address}
 use Rattle.model.specs.Memory.{at}
 use Rattle.words.specs.Sums.{plus}
+use Rattle.queues.specs.declared.QueueAt.{QueueAt}
 
 -- where the queue link of slot i stands
 abbrev pub link_address : Sizes → ℕ → ℕ
 link_address z i = slot_address z i + queue_link_at
+
+-- the memory holds the queue's words
+abbrev pub Holds : List ℕ → QueueAt → Type 0
+Holds m q = q.ends + queue_width ≤ length m
 
 -- the queue is empty
 abbrev pub cleared : List ℕ → ℕ → List ℕ

@@ -2,12 +2,10 @@
 // next slot of its queue. A queue is empty when its first is none. Lengths wrap, so that no word is refused.
 #![tactic(auto)]
 
-ghost use Rattle.std.specs.Prelude.{not, ◌≡◌, ◌+◌, ◌≤◌, ◌<◌, ltb, length};
-ghost use Rattle.model.specs.Layout.{queue_width};
+ghost use Rattle.std.specs.Prelude.{not, ◌≡◌, ◌<◌, ltb, length};
 ghost use Rattle.model.specs.Memory.{at};
 ghost use Rattle.words.specs.Lent.{sizes_of, Lent};
-ghost use Rattle.queues.specs.Queue.{link_address, cleared, lengthened, shortened, begun_at, followed, appended_run, appended};
-ghost use Rattle.queues.specs.Queue.{joined, Taken};
+ghost use Rattle.queues.specs.Queue.{Holds, cleared, lengthened, shortened, begun_at, followed, appended_run, appended, joined, Taken};
 
 // A queue by where its words stand.
 #[derive(Clone, Copy, Debug, PartialEq, Eq)]
@@ -20,18 +18,10 @@ pub const FREE: QueueAt = QueueAt {
     ends: words::FREE_AT,
 };
 
-// Where the queue link of a slot stands.
-// Stays: `chains` has this line with its own constant; one function for both would only name the constant at each call.
-fn link_address(z: words::Sizes, slot: u32) -> usize
-    ensures { result ≡ link_address (sizes_of z) slot }
-{
-    z.slot_address(slot) + words::QUEUE_LINK_AT
-}
-
 impl QueueAt {
     // The queue is empty from now on.
     fn clear(self, m: &mut [u32])
-        requires { self.ends + queue_width ≤ length m.old }
+        requires { Holds m.old self }
         ensures { m.new ≡ cleared m.old self.ends }
     {
         m[self.ends] = words::NONE;
@@ -41,7 +31,7 @@ impl QueueAt {
 
     // The queue has n slots more.
     fn lengthen(self, m: &mut [u32], n: u32)
-        requires { self.ends + queue_width ≤ length m.old }
+        requires { Holds m.old self }
         ensures { m.new ≡ lengthened m.old self.ends n }
     {
         let i = self.ends + words::LENGTH_OFFSET;
@@ -50,7 +40,7 @@ impl QueueAt {
 
     // The queue has a slot less.
     fn shorten(self, m: &mut [u32])
-        requires { self.ends + queue_width ≤ length m.old }
+        requires { Holds m.old self }
         ensures { m.new ≡ shortened m.old self.ends }
     {
         let i = self.ends + words::LENGTH_OFFSET;
@@ -60,7 +50,7 @@ impl QueueAt {
     // The queue's first is gone, and it begins at `next`; it is empty where that is no slot.
     #[tactic(auto, unfolding(crate::specs::Queue::begun_at))]
     fn begin_at(self, m: &mut [u32], z: words::Sizes, next: u32)
-        requires { self.ends + queue_width ≤ length m.old }
+        requires { Holds m.old self }
         ensures { m.new ≡ begun_at m.old (sizes_of z) self.ends next }
     {
         if next < z.slots {
@@ -74,12 +64,12 @@ impl QueueAt {
     // The slot follows the queue's last; it is the first where the queue is empty.
     #[tactic(auto, unfolding(crate::specs::Queue::followed))]
     fn follow(self, m: &mut [u32], z: words::Sizes, slot: u32)
-        requires { (Lent m.old (sizes_of z)) × (self.ends + queue_width ≤ length m.old) }
+        requires { (Lent m.old (sizes_of z)) × Holds m.old self }
         ensures { m.new ≡ followed m.old (sizes_of z) self.ends slot }
     {
         let last = m[self.ends + words::LAST_OFFSET];
         if last < z.slots {
-            m[link_address(z, last)] = slot;
+            m[z.slot_address(last) + words::QUEUE_LINK_AT] = slot;
         } else {
             m[self.ends] = slot;
         }
@@ -96,7 +86,7 @@ impl QueueAt {
     // Appends n slots from `first` to `last`, which are linked already.
     #[tactic(auto, unfolding(crate::specs::Queue::appended_run))]
     fn append_run(self, m: &mut [u32], z: words::Sizes, first: u32, last: u32, n: u32)
-        requires { (Lent m.old (sizes_of z)) × (self.ends + queue_width ≤ length m.old) }
+        requires { (Lent m.old (sizes_of z)) × Holds m.old self }
         ensures { m.new ≡ appended_run m.old (sizes_of z) self.ends first last n }
     {
         self.follow(m, z, first);
@@ -106,7 +96,7 @@ impl QueueAt {
 
     // Appends the slot. Its queue link is not written: it is none of a slot outside every queue.
     pub fn append(self, m: &mut [u32], z: words::Sizes, slot: u32)
-        requires { (Lent m.old (sizes_of z)) × (self.ends + queue_width ≤ length m.old) }
+        requires { (Lent m.old (sizes_of z)) × Holds m.old self }
         ensures { m.new ≡ appended m.old (sizes_of z) self.ends slot }
     {
         self.append_run(m, z, slot, slot, 1);
@@ -115,7 +105,7 @@ impl QueueAt {
     // Appends the whole queue `from`, and leaves that one empty.
     #[tactic(auto, unfolding(crate::specs::Queue::joined))]
     pub fn append_queue(self, m: &mut [u32], z: words::Sizes, from: QueueAt)
-        requires { (Lent m.old (sizes_of z)) × ((self.ends + queue_width ≤ length m.old) × (from.ends + queue_width ≤ length m.old)) }
+        requires { (Lent m.old (sizes_of z)) × (Holds m.old self × Holds m.old from) }
         ensures { m.new ≡ joined m.old (sizes_of z) self.ends from.ends }
     {
         let first = m[from.ends];
@@ -130,14 +120,14 @@ impl QueueAt {
     // Takes the first slot of the queue and answers its number, None where the queue is empty.
     #[tactic(auto, unfolding(crate::specs::Queue::less_first))]
     pub fn take_first(self, m: &mut [u32], z: words::Sizes) -> Option<u32>
-        requires { (Lent m.old (sizes_of z)) × (self.ends + queue_width ≤ length m.old) }
+        requires { (Lent m.old (sizes_of z)) × Holds m.old self }
         ensures { Taken m.old (sizes_of z) self.ends result m.new }
     {
         let first = m[self.ends];
         if first >= z.slots {
             return None;
         }
-        let i = link_address(z, first);
+        let i = z.slot_address(first) + words::QUEUE_LINK_AT;
         let next = m[i];
         m[i] = words::NONE;
         self.begin_at(m, z, next);
