@@ -10,7 +10,7 @@ ghost use Rattle.engine.specs.Release.{over_words, pending_in, cleared_words, pa
 use mask_tree::Level;
 
 // The period waits for the lanes that are on: each cabinet's lane mask is theirs.
-#[tactic(auto, using(crate::proofs::PeriodWords::one_more), unfolding(crate::specs::Period::masks_set))]
+#[tactic(auto, unfolding(crate::specs::Period::masks_set))]
 fn await_lanes(m: &mut [u32], z: words::Sizes)
     requires { Lent m.old (sizes_of z) }
     ensures { m.new ≡ masks_set m.old (sizes_of z) (cabinet_count (sizes_of z)) }
