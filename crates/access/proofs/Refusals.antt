@@ -28,15 +28,15 @@ first-of-some (c ∷ cs) ds x e h = go c.applies (λ q. first-of-some cs ds x q 
     go true ih q = q
     go false ih q = ih q
 
-handed-on : (cs ds : List Cause) (e : Refusal) (r : Result (Unit {0}) Refusal) → number_of e ≡ first_cause cs → IsErrAnd r (λ d. d ≡ e) → refusal_of r ≡ first_cause (cs ++ ds)
+handed-on : {T : Type 0} → (cs ds : List Cause) (e : Refusal) (r : Result T Refusal) → number_of e ≡ first_cause cs → IsErrAnd r (λ d. d ≡ e) → refusal_of r ≡ first_cause (cs ++ ds)
 handed-on cs ds e r q h = let p = err_from_is_err_and r h in rw (p.1, p.2) (first-of-some cs ds (number_of e) q (numbered e))
 
 -- those of a lane
-pub lane-stops : (s : State) (i : ℕ) (cs : List Cause) (e : Refusal) (r : Result (Unit {0}) Refusal) → number_of e ≡ first_cause (of_lane s i []) → IsErrAnd r (λ d. d ≡ e)
+pub lane-stops : {T : Type 0} → (s : State) (i : ℕ) (cs : List Cause) (e : Refusal) (r : Result T Refusal) → number_of e ≡ first_cause (of_lane s i []) → IsErrAnd r (λ d. d ≡ e)
     → refusal_of r ≡ first_cause (of_lane s i cs)
 lane-stops s i cs = handed-on (of_lane s i []) cs
 
 -- those of an entry of the office
-pub entry-stops : (s : State) (i c d m : ℕ) (cs : List Cause) (e : Refusal) (r : Result (Unit {0}) Refusal) → number_of e ≡ first_cause (of_entry s i c d m [])
+pub entry-stops : {T : Type 0} → (s : State) (i c d m : ℕ) (cs : List Cause) (e : Refusal) (r : Result T Refusal) → number_of e ≡ first_cause (of_entry s i c d m [])
     → IsErrAnd r (λ x. x ≡ e) → refusal_of r ≡ first_cause (of_entry s i c d m cs)
 entry-stops s i c d m cs = handed-on (of_entry s i c d m []) cs

@@ -27,8 +27,8 @@ number_of WrongDigit = 17
 number_of WrongLabel = 18
 
 -- the number of the cause that refuses, 0 where none does
-abbrev pub refusal_of : Result Unit Cause → ℕ
-refusal_of (Ok u) = 0
+abbrev pub refusal_of : {T : Type 0} → Result T Cause → ℕ
+refusal_of (Ok x) = 0
 refusal_of (Err c) = number_of c
 
 -- status 0 and the four words of a call, or the cause's number and four zeros

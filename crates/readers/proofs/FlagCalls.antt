@@ -1,5 +1,5 @@
 -- Begin and on put one flag of their lane, so that the words after the call are those of the lane with that flag; end puts one too (Leaving).
-use Prim.Native.Nat.{ℕ, ◌≤◌}
+use Prim.Native.Nat.{ℕ}
 use mathlib.Core.Path.{◌≡◌, refl, ap, ◌∙◌}
 use mathlib.Core.Bool.{Bool, true}
 use mathlib.Core.List.{List}
@@ -7,7 +7,7 @@ use lib.ListN.{set}
 use Rattle.model.specs.State.{Lane}
 use Rattle.model.specs.Layout.{flags_at, lane_address, online_bit, reading_bit}
 use Rattle.model.specs.Engine.{set_online, set_reading}
-use Rattle.model.specs.Rules.{begin, on, zeros, causes, refusal, lane_of, with_lane, performed, result}
+use Rattle.model.specs.Rules.{begin, on, zeros, refusal, lane_of, with_lane, performed, result}
 use Rattle.model.specs.Memory.{flags, lane_words, lane_queues, sizes, state}
 use Rattle.model.specs.Calls.{on_state, stored}
 use Rattle.changes.proofs.OfLanes.LaneWords.{lane-flags}
@@ -15,9 +15,8 @@ use Rattle.access.specs.declared.Answer.{Answer}
 use Rattle.access.specs.declared.Lane as code
 use Rattle.access.specs.Contract.{five, Does}
 use Rattle.access.specs.Flags.{with_flag, flag_put}
-use Rattle.access.specs.Lanes.{Named, LaneIn}
+use Rattle.access.specs.Lanes.{LaneIn}
 use Rattle.access.proofs.Ways.{performs, shown, well_formed}
-use Rattle.access.proofs.LaneLaws.{lane_first}
 use Rattle.access.proofs.FlagLaws.{flags-shown, flags-online, flags-reading}
 
 module _ (m : List ℕ) (l : code.Lane) where
@@ -49,11 +48,11 @@ module _ (m : List ℕ) (l : code.Lane) where
 
   -- ---- the calls that no cause refuses
 
-  module _ (k : Named m l) (x : ℕ) (h : x ≤ 0) (r : Answer) (n : List ℕ) (f : five r ≡ zeros) where
-    pub begin-done : x ≡ refusal (state m) (begin l.number) → n ≡ flag_put m l.address reading_bit true → Does (on_state (begin l.number)) m r n
-    unfolding causes result performed
-    begin-done e g = performs m (begin l.number) k.sound x r n e h f (g ∙ flag-stored _ _ _ (reads true) (lane_first m l k _ x e h))
+  module _ (k : LaneIn m l) (r : Answer) (n : List ℕ) (f : five r ≡ zeros) where
+    pub begin-done : 0 ≡ refusal (state m) (begin l.number) → n ≡ flag_put m l.address reading_bit true → Does (on_state (begin l.number)) m r n
+    unfolding result performed
+    begin-done e g = performs m (begin l.number) k.named.sound e r n f (g ∙ flag-stored _ _ _ (reads true) k)
 
-    pub on-done : x ≡ refusal (state m) (on l.number) → n ≡ flag_put m l.address online_bit true → Does (on_state (on l.number)) m r n
-    unfolding causes result performed
-    on-done e g = performs m (on l.number) k.sound x r n e h f (g ∙ flag-stored _ _ _ goes_on (lane_first m l k _ x e h))
+    pub on-done : 0 ≡ refusal (state m) (on l.number) → n ≡ flag_put m l.address online_bit true → Does (on_state (on l.number)) m r n
+    unfolding result performed
+    on-done e g = performs m (on l.number) k.named.sound e r n f (g ∙ flag-stored _ _ _ goes_on k)

@@ -1,14 +1,14 @@
 -- End: the lookup is put to rest, then the section is closed. Between the two the memory is that of the lane with its section open and no lookup, which is
 -- legal.
-use Prim.Native.Nat.{ℕ, ◌≤◌}
+use Prim.Native.Nat.{ℕ}
 use mathlib.Core.Path.{◌≡◌, refl, ap, sym, subst, ◌∙◌}
 use mathlib.Core.Bool.{true, false}
 use mathlib.Core.List.{List}
-use Rattle.model.specs.State.{idle, is_running, Lane, State}
+use Rattle.model.specs.State.{idle, Lane, State}
 use Rattle.model.specs.Layout.{reading_bit}
 use Rattle.model.specs.Engine.{set_reading, set_lookup, with_lanes}
-use Rattle.model.specs.Rules.{end, zeros, causes, refusal, with_engine, with_lane, leaving, performed, result}
-use Rattle.model.specs.Memory.{lookup_code, lookup_position, state}
+use Rattle.model.specs.Rules.{end, zeros, refusal, with_engine, with_lane, leaving, performed, result}
+use Rattle.model.specs.Memory.{state}
 use Rattle.model.specs.Legal.{legal}
 use Rattle.model.specs.Calls.{on_state, stored}
 use Rattle.laws.specs.ListLaws.{update-update}
@@ -23,10 +23,10 @@ use Rattle.access.specs.declared.Answer.{Answer}
 use Rattle.access.specs.declared.Lane as code
 use Rattle.access.specs.Contract.{five, Does}
 use Rattle.access.specs.Flags.{flag_put}
-use Rattle.access.specs.Lanes.{Named, LaneIn}
+use Rattle.access.specs.Lanes.{LaneIn}
 use Rattle.access.proofs.Ways.{performs, shown, well_formed, long}
-use Rattle.access.proofs.LaneLaws.{lane-again, lane_first}
-use Rattle.readers.specs.Lookups.{lookup_rested}
+use Rattle.access.proofs.LaneLaws.{lane-again}
+use Rattle.readers.specs.Lookups.{lookup_stored}
 use Rattle.readers.proofs.FlagCalls.{flag-stored, reads}
 use Rattle.readers.proofs.LookupLaws.{lookup-stored}
 
@@ -35,8 +35,8 @@ module _ (m : List ℕ) (l : code.Lane) (k : LaneIn m l) where
   abbrev resting : State
   resting = with_lane (state m) l.number (set_lookup idle)
 
-  rests : lookup_rested m l.address ≡ stored resting m
-  unfolding state is_running lookup_code lookup_position
+  rests : lookup_stored m l.address idle ≡ stored resting m
+  unfolding state
   rests =
       let v = k.named.sound in
       lookup-stored m l idle k ∙ lane-lookup (state m) m (shown m v) (well_formed m v).lanes l.number k.known idle
@@ -49,8 +49,8 @@ module _ (m : List ℕ) (l : code.Lane) (k : LaneIn m l) where
   read = let r = round resting m fits (long m k.named.sound) in (r.0, r.1)
 
   -- by what was stored
-  module _ (n : List ℕ) (e : n ≡ lookup_rested m l.address) where
-    resting-lane : LaneIn n l
+  module _ (n : List ℕ) (e : n ≡ lookup_stored m l.address idle) where
+    pub resting-lane : LaneIn n l
     unfolding state
     resting-lane =
         lane-again m n l k
@@ -69,15 +69,8 @@ module _ (m : List ℕ) (l : code.Lane) (k : LaneIn m l) where
 
 -- ---- the call that no cause refuses
 
-module _ (m : List ℕ) (l : code.Lane) (k : Named m l) (x : ℕ) (e : x ≡ refusal (state m) (end l.number)) (h : x ≤ 0) where
-  pub end-lane : LaneIn m l
-  unfolding causes
-  end-lane = lane_first m l k _ x e h
-
-  pub end-resting : (n : List ℕ) → n ≡ lookup_rested m l.address → LaneIn n l
-  end-resting n e = resting-lane m l end-lane n e
-
-  pub end-done : (r : Answer) (n o : List ℕ) → five r ≡ zeros → n ≡ lookup_rested m l.address → o ≡ flag_put n l.address reading_bit false
-      → Does (on_state (end l.number)) m r o
+module _ (m : List ℕ) (l : code.Lane) (k : LaneIn m l) where
+  pub end-done : 0 ≡ refusal (state m) (end l.number) → (r : Answer) (n o : List ℕ) → five r ≡ zeros → n ≡ lookup_stored m l.address idle
+      → o ≡ flag_put n l.address reading_bit false → Does (on_state (end l.number)) m r o
   unfolding result performed
-  end-done r n o f g q = performs m (end l.number) k.sound x r o e h f (q ∙ left-stored m l end-lane n g)
+  end-done e r n o f g q = performs m (end l.number) k.named.sound e r o f (q ∙ left-stored m l k n g)

@@ -1,16 +1,18 @@
 -- A lane's lookup in its words: what the words of a running one say, and that the stores of start are the words of a lookup at the head of its chain.
-use Prim.Native.Nat.{ℕ, ◌+◌, ◌≤◌}
+use Prim.Native.Nat.{ℕ, ◌+◌}
 use mathlib.Core.Path.{◌≡◌, refl, ap, ap₂, sym, subst, ◌∙◌}
 use mathlib.Core.Bool.{Bool, true, false}
 use mathlib.Core.List.{List}
 use native.Mathlib.Omega.{arith}
 use lib.ListN.{set}
+use Rattle.std.specs.Prelude.{Option, Some, None, is_some, unwrap_or}
+use Rattle.model.specs.Word.{none}
 use Rattle.model.specs.Lists.{first}
 use Rattle.model.specs.State.{Lookup, idle, running, is_running}
 use Rattle.model.specs.Layout.{flags_at, lookup_at, position_at, lane_address, lookup_bit}
 use Rattle.model.specs.Table.{chain_of}
 use Rattle.model.specs.Engine.{set_lookup}
-use Rattle.model.specs.Rules.{start, zeros, causes, refusal, lane_of, Outcome, outcome, result}
+use Rattle.model.specs.Rules.{start, zeros, refusal, lane_of, Outcome, outcome, result}
 use Rattle.model.specs.Memory.{at, wide, whole_of, low, high, flags, lookup_code, lookup_position, lane_words, sizes, state}
 use Rattle.model.specs.Calls.{on_state}
 use Rattle.representation.proofs.WellFormed.{SlotOrNone, LookupFits}
@@ -26,23 +28,25 @@ use Rattle.access.specs.declared.Answer.{Answer}
 use Rattle.access.specs.declared.Lane.{Lane}
 use Rattle.access.specs.Contract.{five, Does}
 use Rattle.access.specs.Flags.{flag_put}
-use Rattle.access.specs.Lanes.{Named, LaneIn}
+use Rattle.access.specs.Lanes.{LaneIn}
 use Rattle.access.proofs.Ways.{performs, shown, well_formed}
-use Rattle.access.proofs.LaneLaws.{lane_first}
 use Rattle.access.proofs.FlagLaws.{word-shown, flags-shown, flags-lookup}
-use Rattle.readers.specs.Lookups.{lookup_stored, Looking}
+use Rattle.readers.specs.declared.Lookup as code
+use Rattle.readers.specs.Lookups.{lookup_of, lookup_stored, Looking}
 
 -- ---- a lookup is stored
 
--- by the flags n that were put and the words of the code
-pub lookup-by : (m n : List ℕ) (a : ℕ) (b : Bool) (c p x y : ℕ) → n ≡ flag_put m a lookup_bit b → x ≡ low c → y ≡ high c
-    → set (set (set n (a + lookup_at) x) (a + lookup_at + 1) y) (a + position_at) p ≡ lookup_stored m a b c p
-lookup-by m n a b c p x y en ex ey = rw (en, ex, ey)
+-- by the flags n that were put, and the words of what the code handed on
+pub lookup-by : (m n : List ℕ) (a : ℕ) (o : Option code.Lookup) (b : Bool) (l : code.Lookup) (x y : ℕ) → b ≡ is_some o → n ≡ flag_put m a lookup_bit b
+    → l ≡ unwrap_or o (record { code = 0; position = none }) → x ≡ low l.code → y ≡ high l.code
+    → set (set (set n (a + lookup_at) x) (a + lookup_at + 1) y) (a + position_at) l.position ≡ lookup_stored m a (lookup_of o)
+unfolding is_running lookup_code lookup_position
+lookup-by m n a (Some k) b l x y eb en el ex ey = rw (en, eb, ex, ey, el)
+lookup-by m n a None b l x y eb en el ex ey = rw (en, eb, ex, ey, el)
 
 -- the lookup k, with the lane's flags
 pub lookup-stored : (m : List ℕ) (l : Lane) (k : Lookup) → LaneIn m l
-    → lookup_stored m l.address (is_running k) (lookup_code k) (lookup_position k)
-    ≡ stored_from m (lane_address (sizes m) l.number) (lookup_words (flags (set_lookup k (lane_of (state m) l.number))) k)
+    → lookup_stored m l.address k ≡ stored_from m (lane_address (sizes m) l.number) (lookup_words (flags (set_lookup k (lane_of (state m) l.number))) k)
 lookup-stored m l k h =
     let a = lane_address (sizes m) l.number in
     let e : a + flags_at ≡ a = omega arith in
@@ -51,17 +55,16 @@ lookup-stored m l k h =
 
 -- ---- start
 
-pub start-done : (m : List ℕ) (l : Lane) (c : ℕ) → Named m l → (x : ℕ) → x ≡ refusal (state m) (start l.number c) → x ≤ 0
-    → (p : ℕ) (r : Answer) (n : List ℕ) → p ≡ first (chain_of (state m).table c) → five r ≡ zeros → n ≡ lookup_stored m l.address true c p
+pub start-done : (m : List ℕ) (l : Lane) (c : ℕ) → LaneIn m l → 0 ≡ refusal (state m) (start l.number c)
+    → (p : ℕ) (r : Answer) (n : List ℕ) → p ≡ first (chain_of (state m).table c) → five r ≡ zeros → n ≡ lookup_stored m l.address (running c p)
     → Does (on_state (start l.number c)) m r n
-unfolding causes result state is_running lookup_code lookup_position
-start-done m l c k x e h p r n ep er en =
-    let v = k.sound in
-    let w = lane_first m l k _ x e h in
-    performs m (start l.number c) v x r n e h er
-    (en ∙ ap (lookup_stored m l.address true c) ep
-    ∙ lookup-stored m l (running c (first (chain_of (state m).table c))) w
-    ∙ start-stored (state m) m (shown m v) (well_formed m v) l.number c w.known)
+unfolding result state
+start-done m l c k e p r n ep er en =
+    let v = k.named.sound in
+    performs m (start l.number c) v e r n er
+    (en ∙ ap (λ (x : ℕ). lookup_stored m l.address (running c x)) ep
+    ∙ lookup-stored m l (running c (first (chain_of (state m).table c))) k
+    ∙ start-stored (state m) m (shown m v) (well_formed m v) l.number c k.known)
 
 -- ---- a running lookup
 
@@ -69,7 +72,7 @@ start-done m l c k x e h p r n ep er en =
 by_parts : (k : Lookup) → is_running k ≡ true → k ≡ running (lookup_code k) (lookup_position k)
 unfolding is_running lookup_code lookup_position
 by_parts (running c p) e = refl
-by_parts idle e = let z : ◌≡◌ {A = Bool} false true = e in absurd (let w : ◌≡◌ {A = ℕ} 0 1 = cc in omega arith)
+by_parts idle e = let z : ◌≡◌ {A = Bool} false true = e in cc
 
 module _ (m : List ℕ) (l : Lane) (k : Looking m l) where
   abbrev own : Lookup

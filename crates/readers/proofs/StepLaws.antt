@@ -1,23 +1,26 @@
 -- Step: a lookup that goes on stands on a slot and stores its position alone, and one that ends is put to rest.
-use Prim.Native.Nat.{ℕ, ◌+◌, ◌≤◌, ◌<◌}
+use Prim.Native.Nat.{ℕ, ◌+◌, ◌<◌}
 use mathlib.Core.Path.{◌≡◌, refl, ap, sym, subst, ◌∙◌}
 use mathlib.Core.Logic.{inl, inr}
-use mathlib.Core.Bool.{Bool, true, false}
 use mathlib.Core.List.{List}
-use native.Mathlib.Omega.{arith}
-use lib.ListN.{set, get_or}
+use lib.ListN.{set}
 use borrow.Author.Tests.{eq-eqb}
 use Rattle.model.specs.Word.{none}
-use Rattle.model.specs.State.{Lookup, idle, running, is_running, Table}
+use Rattle.model.specs.State.{Lookup, idle, running, Table}
 use Rattle.model.specs.Layout.{position_at, lane_address}
 use Rattle.model.specs.Table.{link_of}
 use Rattle.model.specs.Engine.{set_lookup}
-use Rattle.model.specs.Rules.{Answer as Reply, step, refusal, lane_of, Outcome, going, found, absent, outcome, continued, outcome_answer, result}
-use Rattle.model.specs.Memory.{at, flags, lookup_code, lookup_position, sizes, state}
+use Rattle.model.specs.Rules.{step, refusal, lane_of, Outcome, going, found, absent, outcome, continued, outcome_answer, result}
+use Rattle.model.specs.Memory.{at, flags, sizes, state}
 use Rattle.model.specs.Calls.{on_state}
+use Rattle.representation.specs.Sound.{Sound}
 use Rattle.representation.proofs.WellFormed.{SlotOrNone}
 use Rattle.words.specs.declared.Sizes as code-sizes
 use Rattle.words.specs.Lent.{sizes_of}
+use Rattle.std.specs.Prelude.{Ok}
+use Rattle.chains.specs.declared.Step.{Step}
+use Rattle.chains.specs.declared.Step.TheVariants.{Going as StillGoing, Found, Absent}
+use Rattle.chains.specs.Outcome.{outcome_of, step_words}
 use Rattle.chains.specs.Chain.{link_address}
 use Rattle.changes.proofs.OfChains.ChainChanges.{link-shown}
 use Rattle.changes.proofs.OfLanes.OneLane.{stored_from}
@@ -25,26 +28,19 @@ use Rattle.changes.proofs.OfLanes.LaneWords.{lookup_words}
 use Rattle.changes.proofs.OfLanes.LaneCalls.{step-stored, step-going-stored}
 use Rattle.access.specs.declared.Answer.{Answer}
 use Rattle.access.specs.declared.Lane.{Lane}
+use Rattle.access.specs.Causes.{answer_of}
 use Rattle.access.specs.Contract.{five, Does}
-use Rattle.access.specs.Lanes.{Named, LaneIn}
-use Rattle.access.proofs.Ways.{performs, passed, shown, well_formed}
-use Rattle.access.proofs.LaneLaws.{lane-known}
-use Rattle.readers.specs.Lookups.{lookup_stored, Looking, is_going, Going, moved_on}
+use Rattle.access.proofs.Ways.{performs, shown, well_formed}
+use Rattle.readers.specs.Lookups.{lookup_stored, Looking, Going, moved_on}
 use Rattle.readers.proofs.LookupLaws.{lookup-stored, lookup-shown, position-fits}
 
 -- ---- outcomes
 
-is-going : (o : Outcome) → is_going o ≡ true → o ≡ going
-unfolding is_going
-is-going going e = refl
-is-going (found r) e = absurd (let w : ◌≡◌ {A = ℕ} 0 1 = cc in omega arith)
-is-going absent e = absurd (let w : ◌≡◌ {A = ℕ} 0 1 = cc in omega arith)
-
 -- found and absent end the lookup
-ended : (t : Table) (k : Lookup) (o : Outcome) → is_going o ≡ false → continued t k o ≡ idle
-unfolding is_going continued
+ended : (t : Table) (k : Lookup) (o : Outcome) → (o ≡ going → ⊥) → continued t k o ≡ idle
+unfolding continued
 ended t idle o e = refl
-ended t (running c p) going e = absurd (let w : ◌≡◌ {A = ℕ} 0 1 = cc in omega arith)
+ended t (running c p) going e = absurd (e refl)
 ended t (running c p) (found r) e = refl
 ended t (running c p) absent e = refl
 
@@ -52,11 +48,21 @@ ended t (running c p) absent e = refl
 on-slot : (t : Table) (n c p : ℕ) → SlotOrNone n p → outcome t (running c p) ≡ going → p < n
 unfolding outcome
 on-slot t n c p (inl h) e = h
-on-slot t n c p (inr h) e = absurd (let q : absent ≡ going = rw (eq-eqb p none h) at e in let w : ◌≡◌ {A = ℕ} 0 1 = cc in omega arith)
+on-slot t n c p (inr h) e = let q : absent ≡ going = rw (eq-eqb p none h) at e in cc
 
--- five words as an answer
-abbrev pub answer_of : List ℕ → Reply
-answer_of ws = record { status = get_or ws 0 0; a = get_or ws 1 0; b = get_or ws 2 0; c = get_or ws 3 0; d = get_or ws 4 0 }
+-- that the code's outcome is another one
+pub not-going : (s : Step) → (s ≡ StillGoing → ⊥) → outcome_of s ≡ going → ⊥
+unfolding outcome_of
+not-going StillGoing n e = n refl
+not-going (Found r) n e = cc
+not-going Absent n e = cc
+
+-- the answer has the outcome's words
+worded : (o : Outcome) (w : List ℕ) → w ≡ step_words (outcome_answer o) → five (answer_of (Ok w)) ≡ outcome_answer o
+unfolding outcome_answer
+worded going w e = rw e
+worded (found r) w e = rw e
+worded absent w e = rw e
 
 -- ---- a lookup that goes on
 
@@ -80,34 +86,33 @@ module _ (m : List ℕ) (l : Lane) (k : Going m l) where
 
 -- ---- the call
 
-module _ (m : List ℕ) (l : Lane) (v : Named m l) (x : ℕ) (e : x ≡ refusal (state m) (step l.number)) (h : x ≤ 0) where
+module _ (m : List ℕ) (l : Lane) (k : Looking m l) (e : 0 ≡ refusal (state m) (step l.number)) where
+  abbrev v : Sound m
+  v = k.lane.named.sound
+
   abbrev own : Lookup
   own = (lane_of (state m) l.number).lookup
 
-  pub looking : Looking m l
-  looking = let k = passed m (step l.number) x e h in record { lane = lane-known m l v k.lane.known; running = k.running }
+  module _ (o : Outcome) (eo : o ≡ outcome (state m).table own) (w : List ℕ) (ew : w ≡ step_words (outcome_answer o)) (n : List ℕ) where
+    abbrev r : Answer
+    r = answer_of (Ok w)
 
-  pub step-lane : LaneIn m l
-  step-lane = looking.lane
+    er : five r ≡ outcome_answer o
+    er = worded o w ew
 
-  module _ (o : Outcome) (eo : o ≡ outcome (state m).table own) (b : Bool) (eb : b ≡ is_going o) where
-    pub going_on : b ≡ true → Going m l
-    going_on t = record { looking = looking; going = sym eo ∙ is-going o (sym eb ∙ t) }
+    pub step-going : o ≡ going → n ≡ moved_on m l → Does (on_state (step l.number)) m r n
+    unfolding result state
+    step-going t en =
+        performs m (step l.number) v e r n (er ∙ ap outcome_answer eo)
+        (en ∙ ap (λ (a : ℕ). set m (a + position_at) (link_of (state m).table (at m (l.address + position_at)))) k.lane.named.address
+        ∙ step-going-stored (state m) m (shown m v) (well_formed m v) l.number _ _ k.lane.known (lookup-shown m l k)
+        (ap (outcome (state m).table) (sym (lookup-shown m l k)) ∙ sym eo ∙ t))
 
-    module _ (r : Answer) (er : five r ≡ outcome_answer o) (n : List ℕ) where
-      pub step-going : b ≡ true → n ≡ moved_on m l → Does (on_state (step l.number)) m r n
-      unfolding result state
-      step-going t en =
-          performs m (step l.number) v.sound x r n e h (er ∙ ap outcome_answer eo)
-          (en ∙ ap (λ (a : ℕ). set m (a + position_at) (link_of (state m).table (at m (l.address + position_at)))) v.address
-          ∙ step-going-stored (state m) m (shown m v.sound) (well_formed m v.sound) l.number _ _ step-lane.known (lookup-shown m l looking)
-          (ap (outcome (state m).table) (sym (lookup-shown m l looking)) ∙ (going_on t).going))
-
-      pub step-ended : b ≡ false → n ≡ lookup_stored m l.address false 0 none → Does (on_state (step l.number)) m r n
-      unfolding result state is_running lookup_code lookup_position
-      step-ended t en =
-          let k : continued (state m).table own (outcome (state m).table own) ≡ idle = ended (state m).table own _ (ap is_going (sym eo) ∙ sym eb ∙ t) in
-          performs m (step l.number) v.sound x r n e h (er ∙ ap outcome_answer eo)
-          (en ∙ lookup-stored m l idle step-lane
-          ∙ ap (λ (u : Lookup). stored_from m (lane_address (sizes m) l.number) (lookup_words (flags (set_lookup u (lane_of (state m) l.number))) u)) (sym k)
-          ∙ step-stored (state m) m (shown m v.sound) (well_formed m v.sound) l.number step-lane.known)
+    pub step-ended : (o ≡ going → ⊥) → n ≡ lookup_stored m l.address idle → Does (on_state (step l.number)) m r n
+    unfolding result state
+    step-ended t en =
+        let q : continued (state m).table own (outcome (state m).table own) ≡ idle = ended (state m).table own _ (λ (x : outcome (state m).table own ≡ going). t (eo ∙ x)) in
+        performs m (step l.number) v e r n (er ∙ ap outcome_answer eo)
+        (en ∙ lookup-stored m l idle k.lane
+        ∙ ap (λ (u : Lookup). stored_from m (lane_address (sizes m) l.number) (lookup_words (flags (set_lookup u (lane_of (state m) l.number))) u)) (sym q)
+        ∙ step-stored (state m) m (shown m v) (well_formed m v) l.number k.lane.known)

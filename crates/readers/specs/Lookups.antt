@@ -1,22 +1,27 @@
 -- A lane's lookup in its words, and what a step does to it: one that goes on moves to the next slot of its chain.
-use Rattle.std.specs.Prelude.{ℕ, ◌+◌, ◌≡◌, Bool, true, false, List, set}
-use Rattle.model.specs.Word.{none}
-use Rattle.model.specs.State.{is_running}
+use Rattle.std.specs.Prelude.{ℕ, ◌+◌, ◌≡◌, true, List, Option, Some, None, set}
+use Rattle.model.specs.State.{Lookup, idle, running, is_running}
 use Rattle.model.specs.Layout.{lookup_at, position_at, lookup_bit}
 use Rattle.model.specs.Table.{link_of}
-use Rattle.model.specs.Rules.{lane_of, Outcome, going, found, absent, outcome}
-use Rattle.model.specs.Memory.{at, low, high, state}
+use Rattle.model.specs.Rules.{lane_of, going, outcome}
+use Rattle.model.specs.Memory.{at, low, high, lookup_code, lookup_position, state}
 use Rattle.access.specs.declared.Lane.{Lane}
+use Rattle.readers.specs.declared.Lookup as code
 use Rattle.access.specs.Flags.{flag_put}
 use Rattle.access.specs.Lanes.{LaneIn}
 
--- whether a lookup runs, its code c and its position p in the record that begins at a; all other words stay
-abbrev pub lookup_stored : List ℕ → ℕ → Bool → ℕ → ℕ → List ℕ
-lookup_stored m a b c p = set (set (set (flag_put m a lookup_bit b) (a + lookup_at) (low c)) (a + lookup_at + 1) (high c)) (a + position_at) p
+-- the lookup that the code hands on, none where none runs
+abbrev pub lookup_of : Option code.Lookup → Lookup
+lookup_of (Some l) = running l.code l.position
+lookup_of None = idle
 
--- no lookup: the flag cleared, the code words 0, the position none
-abbrev pub lookup_rested : List ℕ → ℕ → List ℕ
-lookup_rested m a = lookup_stored m a false 0 none
+-- whether the lookup k runs, its code and its position in the record that begins at a; all other words stay
+abbrev pub lookup_stored : List ℕ → ℕ → Lookup → List ℕ
+lookup_stored m a k =
+    set
+    (set (set (flag_put m a lookup_bit (is_running k)) (a + lookup_at) (low (lookup_code k))) (a + lookup_at + 1) (high (lookup_code k)))
+    (a + position_at)
+    (lookup_position k)
 
 -- a lane of a legal memory whose lookup is running
 pub record Looking (m : List ℕ) (l : Lane) : Type 0 where
@@ -24,12 +29,6 @@ pub record Looking (m : List ℕ) (l : Lane) : Type 0 where
   pub running : is_running (lane_of (state m) l.number).lookup ≡ true
 
 -- ---- a step
-
--- after this outcome the lookup goes on
-unfoldable pub is_going : Outcome → Bool
-is_going going = true
-is_going (found r) = false
-is_going absent = false
 
 -- a lane of a legal memory whose lookup goes on
 pub record Going (m : List ℕ) (l : Lane) : Type 0 where

@@ -1,17 +1,11 @@
--- A refused `begin` changes no word, and else it puts one flag of its lane.
-use Rattle.model.specs.Rules.{causes}
+-- A refused call changes no word, and one that no cause refuses is `begin-done`.
+use mathlib.Core.Path.{refl}
 use Rattle.access.proofs.Ways.{refuses}
-use Rattle.access.proofs.LaneLaws.{lane_first}
 use Rattle.readers.proofs.FlagCalls.{begin-done}
-use borrow.Author.Rules.{rules}
 use Rattle.readers.proofs.begin.Goals as goal
 
-pub returns-then-n-gt0 : goal.returns-then-n-gt0
-returns-then-n-gt0 c = search (rules, refuses)
-
-pub put_flag-requires : goal.put_flag-requires
-unfolding causes
-put_flag-requires c = search (rules, lane_first)
+pub returns-in_err-check_begin : goal.returns-in_err-check_begin
+returns-in_err-check_begin c = refuses _ _ c.requires.sound _ _ c.in_err-check_begin.ensures.cause c.from_residual.ensures.1
 
 pub returns : goal.returns
-returns c = search (rules, begin-done)
+returns c = begin-done _ _ c.in_ok-check_begin.ensures.lane _ _ refl c.in_ok-check_begin.ensures.cause c.put_flag.ensures

@@ -1,17 +1,14 @@
--- A refused `end` changes no word, and else it puts the lookup to rest and the flag of the section.
+-- A refused call changes no word, and one that no cause refuses is `end-done`.
+use mathlib.Core.Path.{refl}
 use Rattle.access.proofs.Ways.{refuses}
-use Rattle.readers.proofs.Leaving.{end-lane, end-resting, end-done}
-use borrow.Author.Rules.{rules}
+use Rattle.readers.proofs.Leaving.{resting-lane, end-done}
 use Rattle.readers.proofs.end.Goals as goal
 
-pub returns-then-n-gt0 : goal.returns-then-n-gt0
-returns-then-n-gt0 c = search (rules, refuses)
-
-pub put_to_rest-requires : goal.put_to_rest-requires
-put_to_rest-requires c = search (rules, end-lane)
+pub returns-in_err-check_end : goal.returns-in_err-check_end
+returns-in_err-check_end c = refuses _ _ c.requires.sound _ _ c.in_err-check_end.ensures.cause c.from_residual.ensures.1
 
 pub put_flag-requires : goal.put_flag-requires
-put_flag-requires c = search (rules, end-resting)
+put_flag-requires c = resting-lane _ _ c.in_ok-check_end.ensures.lane _ c.put_lookup.ensures
 
 pub returns : goal.returns
-returns c = search (rules, end-done)
+returns c = end-done _ _ c.in_ok-check_end.ensures.lane c.in_ok-check_end.ensures.cause _ _ _ refl c.put_lookup.ensures c.put_flag.ensures

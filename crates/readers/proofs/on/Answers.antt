@@ -1,17 +1,11 @@
--- A refused `on` changes no word, and else it puts one flag of its lane.
-use Rattle.model.specs.Rules.{causes}
+-- A refused call changes no word, and one that no cause refuses is `on-done`.
+use mathlib.Core.Path.{refl}
 use Rattle.access.proofs.Ways.{refuses}
-use Rattle.access.proofs.LaneLaws.{lane_first}
 use Rattle.readers.proofs.FlagCalls.{on-done}
-use borrow.Author.Rules.{rules}
 use Rattle.readers.proofs.on.Goals as goal
 
-pub returns-then-n-gt0 : goal.returns-then-n-gt0
-returns-then-n-gt0 c = search (rules, refuses)
-
-pub put_flag-requires : goal.put_flag-requires
-unfolding causes
-put_flag-requires c = search (rules, lane_first)
+pub returns-in_err-check_on : goal.returns-in_err-check_on
+returns-in_err-check_on c = refuses _ _ c.requires.sound _ _ c.in_err-check_on.ensures.cause c.from_residual.ensures.1
 
 pub returns : goal.returns
-returns c = search (rules, on-done)
+returns c = on-done _ _ c.in_ok-check_on.ensures.lane _ _ refl c.in_ok-check_on.ensures.cause c.put_flag.ensures

@@ -1,17 +1,11 @@
--- A refused start changes no word; else the stores are the words of a lookup at the head of its chain (`start-done`).
-use Rattle.model.specs.Rules.{causes}
+-- A refused call changes no word, and one that no cause refuses is `start-done`.
+use mathlib.Core.Path.{refl}
 use Rattle.access.proofs.Ways.{refuses}
-use Rattle.access.proofs.LaneLaws.{lane_first}
 use Rattle.readers.proofs.LookupLaws.{start-done}
-use borrow.Author.Rules.{rules}
 use Rattle.readers.proofs.start.Goals as goal
 
-pub returns-then-n-gt0 : goal.returns-then-n-gt0
-returns-then-n-gt0 c = search (rules, refuses)
-
-pub put_lookup-requires : goal.put_lookup-requires
-unfolding causes
-put_lookup-requires c = search (rules, lane_first)
+pub returns-in_err-check_start : goal.returns-in_err-check_start
+returns-in_err-check_start c = refuses _ _ c.requires.sound _ _ c.in_err-check_start.ensures.cause c.from_residual.ensures.1
 
 pub returns : goal.returns
-returns c = search (rules, start-done)
+returns c = start-done _ _ _ c.in_ok-check_start.ensures.lane c.in_ok-check_start.ensures.cause _ _ _ c.chain_head-position.ensures refl c.put_lookup.ensures
