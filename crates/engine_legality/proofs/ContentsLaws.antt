@@ -1,8 +1,8 @@
 -- The table of contents: what `contents_agree` says, and the order in which the check asks it. The contents of a memory's sizes are compared with its own
 -- first words.
 use Prim.Native.Nat.{ℕ, ◌≤◌, ◌<◌}
-use mathlib.Core.Bool.{Bool, true, false, not, ◌&&◌}
-use mathlib.Core.Path.{◌≡◌, refl, ap, sym, ◌∙◌}
+use mathlib.Core.Bool.{Bool, true, false, ◌&&◌}
+use mathlib.Core.Path.{◌≡◌, refl, ap, ap₂, sym, ◌∙◌}
 use mathlib.Core.List.{List, [], ◌∷◌}
 use lib.ListN.{length, take, replicate}
 use lib.Dec.{leb, eqb}
@@ -13,18 +13,23 @@ use Rattle.model.specs.Lists.{every, same}
 use Rattle.model.specs.Memory.{sizes, contents}
 use Rattle.model.specs.Layout.{contents_length, total}
 use Rattle.model.specs.Legal.{sizes_fit, contents_agree}
-use Rattle.laws.specs.Tests.{not-not, and-true-right, every_true}
+use Rattle.laws.specs.Tests.{and-true-right, every_true, decide}
+use Rattle.laws.specs.Tests.Same.{same as is_same, other}
 use Rattle.words.specs.declared.Sizes.{Sizes}
 use Rattle.words.specs.Lent.{sizes_of, sizes_in, Lent}
 use Rattle.words.proofs.LentLaws.{few-fits}
 
--- the library's test of two lists is the model's
-pointwise-same : (xs ys : List ℕ) → pointwise eqb xs ys ≡ same xs ys
+-- a test of two numbers either way round
+turned : (a b : ℕ) → eqb a b ≡ eqb b a
+turned a b = elim (decide a b) [ is_same e t u ↦ t ∙ sym u | other e t u ↦ t ∙ sym u ]
+
+-- the library's test of two lists is the model's, the other way round
+pointwise-same : (xs ys : List ℕ) → pointwise eqb ys xs ≡ same xs ys
 unfolding same
 pointwise-same [] [] = refl
 pointwise-same [] (y ∷ ys) = refl
 pointwise-same (x ∷ xs) [] = refl
-pointwise-same (x ∷ xs) (y ∷ ys) = ap (λ (b : Bool). eqb x y && b) (pointwise-same xs ys)
+pointwise-same (x ∷ xs) (y ∷ ys) = ap₂ ◌&&◌ (turned y x) (pointwise-same xs ys)
 
 -- the contents of sizes, as they are written to words of 0
 abbrev written : Sizes → List ℕ
@@ -49,32 +54,31 @@ module _ (m : List ℕ) where
       abbrev long : Bool
       long = leb (total (sizes m)) (length m)
 
-      alike : pointwise eqb (take contents_length m) ws ≡ same (take contents_length m) (contents (sizes m))
+      -- m begins with them
+      abbrev pub begun : Bool
+      begun = pointwise eqb ws (take (length ws) m)
+
+      alike : begun ≡ same (take contents_length m) (contents (sizes m))
       unfolding contents
       alike =
-          ap (pointwise eqb (take contents_length m)) (o ∙ ap written ez)
+          ap (λ (xs : List ℕ). pointwise eqb xs (take (length xs) m)) (o ∙ ap written ez)
           ∙ pointwise-same (take contents_length m) (contents (sizes m))
 
       -- what is left of the sentences
-      rest : (pointwise eqb (take contents_length m) ws && long) ≡ contents_agree m
+      rest : (begun && long) ≡ contents_agree m
       unfolding contents_agree every
       rest =
           ap (λ (b : Bool). b && long) alike
           ∙ ap (λ (b : Bool). same (take contents_length m) (contents (sizes m)) && b) (sym (and-true-right long))
           ∙ sym (rw (le-leb contents_length (length m) l, sym q ∙ e))
 
-      -- by the test v whether they differ
-      module _ (v : Bool) (k : v ≡ not (pointwise eqb (take contents_length m) ws)) where
-        back : not v ≡ pointwise eqb (take contents_length m) ws
-        back = ap not k ∙ not-not (pointwise eqb (take contents_length m) ws)
+      module _ (v : Bool) (k : v ≡ begun) where
+        pub contents-other : v ≡ false → false ≡ contents_agree m
+        contents-other h = ap (λ (b : Bool). b && long) (sym h ∙ k) ∙ rest
 
-        pub contents-other : v ≡ true → false ≡ contents_agree m
-        contents-other h = ap (λ (b : Bool). not b && long) (sym h) ∙ ap (λ (b : Bool). b && long) back ∙ rest
-
-        pub contents-decided : v ≡ false → (n : ℕ) → n ≡ total (sizes_of z) → leb n (length m) ≡ contents_agree m
+        pub contents-decided : v ≡ true → (n : ℕ) → n ≡ total (sizes_of z) → leb n (length m) ≡ contents_agree m
         contents-decided h n t =
-            ap (λ (x : ℕ). leb x (length m)) (t ∙ ap (λ (x : Sizes). total (sizes_of x)) ez)
-            ∙ ap (λ (b : Bool). not b && long) (sym h) ∙ ap (λ (b : Bool). b && long) back ∙ rest
+            ap (λ (x : ℕ). leb x (length m)) (t ∙ ap (λ (x : Sizes). total (sizes_of x)) ez) ∙ ap (λ (b : Bool). b && long) (sym h ∙ k) ∙ rest
 
   pub contents-lent : contents_agree m ≡ true → Lent m (sizes m)
   unfolding contents_agree

@@ -18,7 +18,7 @@ use Rattle.laws.specs.Tests.{◌&◌, Every, iff-eq, every_true, every-intro, an
 use Rattle.laws.specs.Tests.{all-map-intro, every-all}
 use Rattle.words.specs.declared.Sizes.{Sizes}
 use Rattle.words.specs.Lent.{sizes_of, sizes_in}
-use Rattle.engine_legality.specs.LaneSentences.{lane_rests, empty_first, lane_fits, cabinet_lanes, all_lanes, mask_fits, group_fits, all_cabinets}
+use Rattle.engine_legality.specs.LaneSentences.{lane_rests, empty_first, generations_in, lane_fits, cabinet_lanes, all_lanes, mask_fits, group_fits, all_cabinets}
 use Rattle.engine_legality.specs.LaneSentences.{all_masks, global_fits, global_words_fit}
 use Rattle.engine_legality.specs.WordSentences.{engine_legal}
 use Rattle.engine_legality.proofs.LaneLoops.{member-number, groups-each, each-groups}
@@ -41,19 +41,20 @@ module _ (m : List ℕ) where
 
   -- the lane at place p of cabinet c
   abbrev place_test : ℕ → ℕ → Bool
-  place_test c p = lane_fits m S (lanes_body (sizes m) + lane_length * P * c + lane_length * p) (flag p (mask_word m c))
+  place_test c p =
+      lane_fits (generations_in m) (λ (k : ℕ). at m (lanes_body (sizes m) + lane_length * P * c + lane_length * p + k)) S (flag p (mask_word m c))
 
   place-test : (i : ℕ) → place_test (i / P) (i % P) ≡ lane_test m i
   place-test i =
       let a : lanes_body (sizes m) + lane_length * P * (i / P) + lane_length * (i % P) ≡ lane_address (sizes m) i =
       omega (arith, mul_assoc lane_length P (i / P), member-number P i) in
-      ap (λ (x : ℕ). lane_fits m S x (flag (i % P) (mask_word m (i / P)))) a
+      ap (λ (x : ℕ). lane_fits (generations_in m) (λ (k : ℕ). at m (x + k)) S (flag (i % P) (mask_word m (i / P)))) a
 
-  lanes-each : all_lanes m S (Y * C) P (lanes_body (sizes m)) ≡ true → (i : ℕ) → i < Y * C * P → lane_test m i ≡ true
+  lanes-each : all_lanes (generations_in m) m S (Y * C) P (lanes_body (sizes m)) ≡ true → (i : ℕ) → i < Y * C * P → lane_test m i ≡ true
   unfolding all_lanes cabinet_lanes
   lanes-each h i b = sym (place-test i) ∙ groups-each place_test (Y * C) P h i b
 
-  each-lanes : ((i : ℕ) → i < Y * C * P → lane_test m i ≡ true) → all_lanes m S (Y * C) P (lanes_body (sizes m)) ≡ true
+  each-lanes : ((i : ℕ) → i < Y * C * P → lane_test m i ≡ true) → all_lanes (generations_in m) m S (Y * C) P (lanes_body (sizes m)) ≡ true
   unfolding all_lanes cabinet_lanes
   each-lanes h = each-groups place_test (Y * C) P (λ i b. place-test i ∙ h i b)
 
@@ -207,7 +208,7 @@ module _ (m : List ℕ) where
 
   -- in the check's tests
   abbrev global : Bool → Bool
-  global empty = global_fits (at m global_generation_at) empty (at m current_generation_at) (at m largest_generation_at)
+  global empty = global_fits (generations_in m) (at m global_generation_at) empty
 
   global-eq : global (empty_first (S m) (at m (global_queues_at + current_offset)))
       ≡ (generation_at_rest (read_queues m global_generation_at global_queues_at)
@@ -216,7 +217,7 @@ module _ (m : List ℕ) where
 
   -- the tests of the lanes, of the masks and lanes, and of all
   abbrev lanes_test : Bool
-  lanes_test = all_lanes m (S m) (Y m * C m) (P m) (lanes_body (sizes m))
+  lanes_test = all_lanes (generations_in m) m (S m) (Y m * C m) (P m) (lanes_body (sizes m))
 
   abbrev masks_test : Bool
   masks_test = all_masks m (Y m) (C m) (P m) (yards_body (sizes m)) && lanes_test
@@ -272,7 +273,7 @@ module _ (m : List ℕ) where
       pub engine-masks : r₂ ≡ false → false ≡ engine_legal m
       engine-masks h = onward false (ap (λ (b : Bool). b && lanes_test) (sym h ∙ masks-read))
 
-      pub engine-lanes : r₂ ≡ true → (r₃ : Bool) → r₃ ≡ all_lanes m z.slots (cabinet_count (sizes_of z)) z.places (lanes_body (sizes_of z)) → r₃ ≡ engine_legal m
+      pub engine-lanes : r₂ ≡ true → (r₃ : Bool) → r₃ ≡ all_lanes (generations_in m) m z.slots (cabinet_count (sizes_of z)) z.places (lanes_body (sizes_of z)) → r₃ ≡ engine_legal m
       engine-lanes h r₃ q₃ =
-          q₃ ∙ ap (λ (x : Sizes). all_lanes m x.slots (cabinet_count (sizes_of x)) x.places (lanes_body (sizes_of x))) ez
+          q₃ ∙ ap (λ (x : Sizes). all_lanes (generations_in m) m x.slots (cabinet_count (sizes_of x)) x.places (lanes_body (sizes_of x))) ez
           ∙ onward true (ap (λ (b : Bool). b && lanes_test) (sym h ∙ masks-read))

@@ -1,47 +1,17 @@
--- The loops over lanes and masks ask of each with its bit of the mask above. Groups of the same size: a loop over the members of each, in a loop over the
--- groups, asks of all members, and each group lies within them.
+-- Groups of the same size: a loop over the members of each, in a loop over the groups, asks of all members, and each group lies within them.
 use Prim.Native.Nat.{ℕ, zero, suc, ◌+◌, ◌*◌, ◌-◌, ◌/◌, ◌%◌, ◌<◌, ◌≤◌}
-use mathlib.Core.Bool.{Bool, true, false}
-use mathlib.Core.Path.{◌≡◌, ap, ap₂, sym, ◌∙◌}
+use mathlib.Core.Bool.{Bool, true}
+use mathlib.Core.Path.{◌≡◌, ap, ap₂, sym, ◌∙◌, fun_ext}
 use mathlib.Core.List.{List}
 use native.Mathlib.Omega.{arith}
 use native.Mathlib.Nat.{suc-mul, mul-le-mul_right, mul-add-mod_self_right, mul-add-div_right, mod-eq_of_lt, div-eq_of_lt, mul_comm, mul_assoc}
 use native.Mathlib.Nat.{mod-lt, div-lt_iff_lt-mul, div-add-mod'}
+use lib.ListN.{length, take, drop}
+use Rattle.std.proofs.lemmas.List.{get_or-drop, take_rest}
 use Rattle.model.specs.Lists.{all, from}
 use Rattle.model.specs.Layout.{lane_length}
-use Rattle.model.specs.Memory.{at, flag}
-use Rattle.engine_legality.specs.LaneSentences.{lane_fits, mask_fits}
-use Rattle.laws.specs.Loops.{all-fails, all-on}
+use Rattle.model.specs.Memory.{at}
 use Rattle.laws.specs.Tests.{all-below, all-below-intro}
-
--- ---- members with their bits
-
--- f asks of a with its bit t of the word, and r answered
-module _ (f : ℕ → Bool → Bool) (word a n : ℕ) (w : Bool) (inv : all (λ (p : ℕ). f p (flag p word)) (from a n) ≡ w) (h : 0 < n)
-    (t : Bool) (k : t ≡ flag a word) (r : Bool) (q : r ≡ f a t) where
-  pub bits-fails : r ≡ false → false ≡ w
-  bits-fails = all-fails (λ (p : ℕ). f p (flag p word)) a n w inv h r (q ∙ ap (f a) k)
-
-  pub bits-on : r ≡ true → all (λ (p : ℕ). f p (flag p word)) (from (a + 1) (n - 1)) ≡ w
-  bits-on = all-on (λ (p : ℕ). f p (flag p word)) a n w inv h r (q ∙ ap (f a) k)
-
--- a lane of a cabinet
-module _ (m : List ℕ) (S b word a n : ℕ) (w : Bool) (inv : all (λ (p : ℕ). lane_fits m S (b + lane_length * p) (flag p word)) (from a n) ≡ w) (h : 0 < n)
-    (t : Bool) (k : t ≡ flag a word) (r : Bool) (q : r ≡ lane_fits m S (b + lane_length * a) t) where
-  pub lanes-fails : r ≡ false → false ≡ w
-  lanes-fails = bits-fails (λ (p : ℕ). lane_fits m S (b + lane_length * p)) word a n w inv h t k r q
-
-  pub lanes_on : r ≡ true → all (λ (p : ℕ). lane_fits m S (b + lane_length * p) (flag p word)) (from (a + 1) (n - 1)) ≡ w
-  lanes_on = bits-on (λ (p : ℕ). lane_fits m S (b + lane_length * p)) word a n w inv h t k r q
-
--- a mask of a group
-module _ (m : List ℕ) (first W word a n : ℕ) (w : Bool) (inv : all (λ (p : ℕ). mask_fits W (at m (first + p)) (flag p word)) (from a n) ≡ w) (h : 0 < n)
-    (t : Bool) (k : t ≡ flag a word) (r : Bool) (q : r ≡ mask_fits W (at m (first + a)) t) where
-  pub masks-fails : r ≡ false → false ≡ w
-  masks-fails = bits-fails (λ (p : ℕ). mask_fits W (at m (first + p))) word a n w inv h t k r q
-
-  pub masks-on : r ≡ true → all (λ (p : ℕ). mask_fits W (at m (first + p)) (flag p word)) (from (a + 1) (n - 1)) ≡ w
-  masks-on = bits-on (λ (p : ℕ). mask_fits W (at m (first + p))) word a n w inv h t k r q
 
 -- ---- groups: N of them, of P members each; member p of group g is number g × P + p
 
@@ -82,3 +52,8 @@ module _ (f : ℕ → ℕ → Bool) (N P : ℕ) where
   each-groups h =
       all-below-intro (λ (g : ℕ). all (f g) (from 0 P)) N (λ g hg. all-below-intro (f g) P (λ p hp.
       sym (ap₂ f (member-div g p P N hp hg) (member-mod g p P N hp hg)) ∙ h (g * P + p) (member-lt g p P N hp hg)))
+
+-- ---- a lane's words, which begin at a
+
+pub words-from : (m : List ℕ) (a : ℕ) → at (take (length m - a) (drop a m)) ≡ (λ (k : ℕ). at m (a + k))
+words-from m a = fun_ext (λ (k : ℕ). ap (λ (ws : List ℕ). at ws k) (take_rest m a) ∙ get_or-drop a m k 0)

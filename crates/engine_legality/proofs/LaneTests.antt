@@ -9,14 +9,14 @@ use lib.Dec.{leb, ltb, eqb}
 use Rattle.model.specs.Word.{up, down, later}
 use Rattle.model.specs.Lists.{all, every, from, is_empty}
 use Rattle.model.specs.State.{is_running, is_held}
-use Rattle.model.specs.Layout.{places_at, slots_at, last_offset, current_offset, current_generation_at, largest_generation_at}
+use Rattle.model.specs.Layout.{places_at, slots_at, current_offset, current_generation_at, largest_generation_at}
 use Rattle.model.specs.Layout.{online_bit, reading_bit, lookup_bit, snapshot_bit, flag_count, flags_at, generation_at, queues_at, lookup_at, position_at, lane_address}
 use Rattle.model.specs.Rules.{wrong_code}
-use Rattle.model.specs.Memory.{at, wide, flag, sizes, mask_word, lane_word, walk, read_queue, read_lookup, read_snapshot, read_lane}
-use Rattle.model.specs.Legal.{implies, slot_or_none, ends_in_range, queues_in_range, lane_links_in_range, generation_at_rest, none_queued, lane_generation_fits, period_runs}
+use Rattle.model.specs.Memory.{at, wide, whole_of, flag, sizes, mask_word, lane_word, walk, read_queue, read_lookup, read_snapshot, read_lane}
+use Rattle.model.specs.Legal.{implies, slot_or_none, lane_links_in_range, generation_at_rest, none_queued, lane_generation_fits, period_runs}
 use Rattle.laws.specs.Tests.{Every, and_assoc, and-true-right, every_true, every-intro}
 use Rattle.laws.specs.ListLaws.{length-map-from}
-use Rattle.engine_legality.specs.LaneSentences.{ends_fit, queues_fit, words_at_rest, lane_at_rest, lane_rests, empty_first, none_queued_at, lane_fits}
+use Rattle.engine_legality.specs.LaneSentences.{queues_fit, lane_in_range, lookup_in_range, lane_at_rest, lane_rests, empty_first, none_queued_at, generations_in, lane_fits}
 
 -- ---- an empty queue
 
@@ -40,18 +40,6 @@ held-flag : (m : List ℕ) (a : ℕ) (b : Bool) → is_held (read_snapshot m a b
 unfolding is_held
 held-flag m a true = refl
 held-flag m a false = refl
-
--- ---- ends, queue by queue
-
--- the ends of a queue, which stand at k from b on
-ends_at : (m : List ℕ) (b a k : ℕ) → a ≡ b + k → ends_fit m (at m slots_at) a ≡ ends_in_range m (λ (k : ℕ). at m (b + k)) k
-ends_at m b a k e =
-    let f : a + last_offset ≡ b + (k + last_offset) = omega arith in
-    ap₂ (λ (x y : ℕ). slot_or_none m (at m x) && slot_or_none m (at m y)) e f
-
--- a lane's three queues
-queues-at : (m : List ℕ) (b k : ℕ) → queues_fit m (at m slots_at) (b + k) ≡ queues_in_range m (λ (k : ℕ). at m (b + k)) k
-queues-at m b k = ap₂ ◌&&◌ (ap₂ ◌&&◌ (ends_at m b _ _ refl) (ends_at m b _ _ (omega arith))) (ends_at m b _ _ (omega arith))
 
 -- ---- the sentences of lane i
 
@@ -88,8 +76,8 @@ module _ (m : List ℕ) (i : ℕ) where
 
   -- ---- each as the check tests it
 
-  abbrev b : ℕ
-  b = lane_address (sizes m) i
+  abbrev w : ℕ → ℕ
+  w = lane_word m i
 
   abbrev S : ℕ
   S = at m slots_at
@@ -97,48 +85,51 @@ module _ (m : List ℕ) (i : ℕ) where
   abbrev bit : Bool
   bit = flag (i % at m places_at) (mask_word m (i / at m places_at))
 
-  zero_word : at m b ≡ lane_word m i flags_at
-  zero_word = ap (at m) (omega arith)
+  -- the flags stand first
+  flags-eq : w flags_at ≡ at m (lane_address (sizes m) i)
+  flags-eq = ap (at m) (omega arith)
 
-  flags-eq : ltb (at m b) (2 ^ flag_count) ≡ flags_said
-  flags-eq = ap (λ (x : ℕ). ltb x (2 ^ flag_count)) zero_word
+  range-eq : lane_in_range w S ≡ (flags_said && lane_links_in_range m i)
+  range-eq = and_assoc flags_said (queues_fit w S queues_at) (slot_or_none m (w position_at))
 
-  links-eq : (queues_fit m S (b + queues_at) && slot_or_none m (at m (b + position_at))) ≡ lane_links_in_range m i
-  links-eq = ap (λ (x : Bool). x && slot_or_none m (at m (b + position_at))) (queues-at m b queues_at)
+  code-eq : lookup_in_range w ≡ lookup_code_said
+  code-eq = ap (λ (x : ℕ). not (wrong_code (whole_of (w lookup_at) (at m x)))) (omega arith)
 
-  words-eq : lane_at_rest m b ≡ words_said
+  words-eq : lane_at_rest w ≡ words_said
   unfolding all every from
-  words-eq = ap (λ (x : ℕ). words_at_rest m b (flag snapshot_bit x) (flag lookup_bit x)) zero_word
+  words-eq = simp (and_assoc, and-true-right)
 
   -- the generation, and whether the current queue is empty
   abbrev g : ℕ
-  g = at m (b + generation_at)
+  g = w generation_at
 
   abbrev no_current : Bool
-  no_current = empty_first S (at m (b + (queues_at + current_offset)))
+  no_current = empty_first S (w (queues_at + current_offset))
 
-  current-eq : is_empty (read_queue m (b + queues_at + current_offset)) ≡ no_current
+  current-eq : is_empty (read_queue m (lane_address (sizes m) i + queues_at + current_offset)) ≡ no_current
   current-eq = empty-queue m _ _ (omega arith)
 
   rest_eq : (not no_current || eqb g 0) ≡ generation_rest_said
   unfolding read_lane
   rest_eq = ap (λ (x : Bool). not x || eqb g 0) (sym current-eq)
 
-  queues-eq : none_queued_at m S b ≡ none_queued (read_lane m i).queues
+  queues-eq : none_queued_at w S ≡ none_queued (read_lane m i).queues
   unfolding read_lane
   queues-eq = ap₂ ◌&&◌ (ap₂ ◌&&◌ (sym (empty-queue m _ _ refl)) (sym current-eq)) (sym (empty-queue m _ _ (omega arith)))
 
-  off-eq : (flag online_bit (at m b) || (not (flag reading_bit (at m b)) && none_queued_at m S b && not bit)) ≡ off_said
+  off-eq : (flag online_bit (w flags_at) || (not (flag reading_bit (w flags_at)) && none_queued_at w S && not bit)) ≡ off_said
   unfolding read_lane
-  off-eq = ap (λ (x : Bool). flag online_bit (at m b) || (not (flag reading_bit (at m b)) && x && not bit)) queues-eq
+  off-eq = ap₂ (λ (x : ℕ) (y : Bool). flag online_bit x || (not (flag reading_bit x) && y && not bit)) flags-eq queues-eq
 
-  section-eq : implies (flag lookup_bit (at m b)) (flag reading_bit (at m b)) ≡ section_said
+  section-eq : implies (flag lookup_bit (w flags_at)) (flag reading_bit (w flags_at)) ≡ section_said
   unfolding read_lane
-  section-eq = ap (λ (x : Bool). implies x (flag reading_bit (at m b))) (sym (running-flag m _ (flag lookup_bit (at m b))))
+  section-eq =
+      ap (λ (x : ℕ). implies (flag lookup_bit x) (flag reading_bit x)) flags-eq
+      ∙ ap (λ (b : Bool). implies b (read_lane m i).reading) (sym (running-flag m _ _))
 
-  pending-eq : implies (flag snapshot_bit (at m b)) bit ≡ pending_said
+  pending-eq : implies (flag snapshot_bit (w flags_at)) bit ≡ pending_said
   unfolding read_lane
-  pending-eq = ap (λ (x : Bool). implies x bit) (sym (held-flag m _ (flag snapshot_bit (at m b))))
+  pending-eq = ap (λ (x : ℕ). implies (flag snapshot_bit x) bit) flags-eq ∙ ap (λ (b : Bool). implies b bit) (sym (held-flag m _ _))
 
   abbrev aged : ℕ → Bool
   aged now =
@@ -160,14 +151,13 @@ in_a_row a b c d e f g h i = simp (and_assoc, and-true-right)
 module _ (m : List ℕ) (i : ℕ) where
   -- the check's test of lane i
   abbrev pub lane_test : Bool
-  lane_test = lane_fits m (at m slots_at) (lane_address (sizes m) i) (flag (i % at m places_at) (mask_word m (i / at m places_at)))
+  lane_test = lane_fits (generations_in m) (lane_word m i) (at m slots_at) (flag (i % at m places_at) (mask_word m (i / at m places_at)))
 
   lane-eq : lane_test ≡ every (lane_sentences m i)
   unfolding lane_fits every
   lane-eq =
-      let range = ap (λ (x : Bool). x && lookup_code_said m i) (ap₂ ◌&&◌ (flags-eq m i) (links-eq m i)) in
       let agrees = ap₂ ◌&&◌ (ap₂ ◌&&◌ (off-eq m i) (section-eq m i)) (pending-eq m i) in
-      ap₂ ◌&&◌ (ap₂ ◌&&◌ (ap₂ ◌&&◌ range (words-eq m i)) agrees) (ap₂ ◌&&◌ (rest_eq m i) (generation-eq m i))
+      ap₂ ◌&&◌ (ap₂ ◌&&◌ (ap₂ ◌&&◌ (ap₂ ◌&&◌ (range-eq m i) (code-eq m i)) (words-eq m i)) agrees) (ap₂ ◌&&◌ (rest_eq m i) (generation-eq m i))
       ∙ in_a_row (flags_said m i) (lane_links_in_range m i) (lookup_code_said m i) (words_said m i)
       (off_said m i) (section_said m i) (pending_said m i) (generation_rest_said m i) (generation_said m i)
 

@@ -15,7 +15,7 @@ pub fn contents_agree(m: &[u32]) -> bool
     }
     let mut own = [0u32; words::CONTENTS_LENGTH];
     words::contents::write(&mut own, z);
-    if m[..words::CONTENTS_LENGTH] != own[..] {
+    if !m.starts_with(&own) {
         return false;
     }
     words::contents::bodies_of(z).total as usize <= m.len()

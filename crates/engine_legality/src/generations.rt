@@ -1,48 +1,62 @@
 // Generations against the current one and the largest requested: those of the lanes' current queues, that
 // of the global one, and the largest itself.
-ghost use Rattle.std.specs.Prelude.{◌≡◌};
+ghost use Rattle.std.specs.Prelude.{◌≡◌, ◌<◌, length};
+ghost use Rattle.model.specs.Layout.{yard_mask_at};
 ghost use Rattle.model.specs.Legal.{largest_fits};
-ghost use Rattle.engine_legality.specs.LaneSentences.{generation_fits, global_fits};
+ghost use Rattle.engine_legality.specs.LaneSentences.{generations_in, generation_fits, global_fits};
 
-// A generation: "0 while its current line is empty", else as a lane's may be.
-pub fn generation_fits(
-    g: u32,
-    empty: bool,
-    pending: bool,
+// The current generation, the largest requested, and whether a period runs.
+#[derive(Clone, Copy)]
+pub struct Generations {
     current: u32,
     largest: u32,
     runs: bool,
-) -> bool
-    ensures { result ≡ generation_fits g empty pending current largest runs }
-{
-    let before = masks::down(current);
-    let after = masks::up(current);
-    let late = masks::later(g, largest);
-    (!empty | (g == 0))
-        & (empty
-            | (((g == before) | (g == current) | (g == after))
-                & !late
-                & (!((g == before) & runs) | pending)))
 }
 
-// A generation: 0 while its current queue is empty, else as the global one may be.
-pub fn global_fits(g: u32, empty: bool, current: u32, largest: u32) -> bool
-    ensures { result ≡ global_fits g empty current largest }
-{
-    let after = masks::up(current);
-    let late = masks::later(g, largest);
-    (!empty | (g == 0)) & (empty | (((g == current) | (g == after)) & !late))
-}
+impl Generations {
+    // Those that a memory's global words name.
+    pub fn read(m: &[u32]) -> Generations
+        requires { yard_mask_at < length m.now }
+        ensures { result ≡ generations_in m.now }
+    {
+        Generations {
+            current: m[words::CURRENT_GENERATION_AT],
+            largest: m[words::LARGEST_GENERATION_AT],
+            runs: m[words::YARD_MASK_AT] != 0,
+        }
+    }
 
-// The largest generation requested, against the current one.
-pub fn largest_fits(current: u32, largest: u32, runs: bool) -> bool
-    ensures { result ≡ largest_fits current largest runs }
-{
-    let before = masks::down(current);
-    let after = masks::up(current);
-    if runs {
-        (largest == current) | (largest == after)
-    } else {
-        largest == before
+    // A lane's generation: "0 while its current line is empty", else near the current one and not after the largest.
+    pub fn lane_fits(self, g: u32, empty: bool, pending: bool) -> bool
+        ensures { result ≡ generation_fits self g empty pending }
+    {
+        let before = g == masks::down(self.current);
+        let after = g == masks::up(self.current);
+        let late = masks::later(g, self.largest);
+        (!empty | (g == 0))
+            & (empty
+                | ((before | (g == self.current) | after)
+                    & !late
+                    & (!(before & self.runs) | pending)))
+    }
+
+    // The global generation: 0 while its current queue is empty, else the current one or the next, and not after the largest.
+    pub fn global_fits(self, g: u32, empty: bool) -> bool
+        ensures { result ≡ global_fits self g empty }
+    {
+        let after = g == masks::up(self.current);
+        let late = masks::later(g, self.largest);
+        (!empty | (g == 0)) & (empty | (((g == self.current) | after) & !late))
+    }
+
+    // The largest generation requested, against the current one.
+    pub fn largest_fits(self) -> bool
+        ensures { result ≡ largest_fits self.current self.largest self.runs }
+    {
+        if self.runs {
+            (self.largest == self.current) | (self.largest == masks::up(self.current))
+        } else {
+            self.largest == masks::down(self.current)
+        }
     }
 }

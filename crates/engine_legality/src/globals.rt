@@ -5,6 +5,8 @@ ghost use Rattle.words.specs.Lent.{sizes_of, Lent};
 ghost use Rattle.masks.specs.Bits.{width as wordWidth};
 ghost use Rattle.engine_legality.specs.LaneSentences.{mask_fits, group_fits, all_cabinets, all_masks, global_words_fit};
 
+use crate::generations::Generations;
+
 // the first of the global current queue
 const GLOBAL_CURRENT_FIRST: usize = words::GLOBAL_QUEUES_AT + words::CURRENT_OFFSET;
 
@@ -73,11 +75,9 @@ pub fn global_words_fit(m: &[u32], z: words::Sizes) -> bool
     requires { Lent m.now (sizes_of z) }
     ensures { result ≡ global_words_fit m.now z.yards z.slots }
 {
-    let current = m[words::CURRENT_GENERATION_AT];
-    let largest = m[words::LARGEST_GENERATION_AT];
-    let runs = !(m[words::YARD_MASK_AT] == 0);
+    let generations = Generations::read(m);
     let empty = z.slots <= m[GLOBAL_CURRENT_FIRST];
     fits_in(m[words::YARD_MASK_AT], z.yards)
-        & crate::generations::largest_fits(current, largest, runs)
-        & crate::generations::global_fits(m[words::GLOBAL_GENERATION_AT], empty, current, largest)
+        & generations.largest_fits()
+        & generations.global_fits(m[words::GLOBAL_GENERATION_AT], empty)
 }

@@ -6,7 +6,6 @@ pub mod contents;
 mod generations;
 mod globals;
 mod lanes;
-mod links;
 
 ghost use Rattle.std.specs.Prelude.{◌≡◌};
 ghost use Rattle.model.specs.Memory.{sizes};

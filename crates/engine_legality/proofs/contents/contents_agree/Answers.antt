@@ -14,8 +14,8 @@ returns-then-not-fit c = search (rules, contents-unsized, not-true)
 pub write-requires : goal.write-requires
 write-requires c = search (rules, few-tested)
 
-pub returns-then-ne : goal.returns-then-ne
-returns-then-ne c = search (rules, contents-other)
+pub returns-then-not-starts_with : goal.returns-then-not-starts_with
+returns-then-not-starts_with c = search (rules, contents-other)
 
 pub bodies_of-requires : goal.bodies_of-requires
 bodies_of-requires c = search (rules, few-tested)

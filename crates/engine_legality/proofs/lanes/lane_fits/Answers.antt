@@ -1,10 +1,10 @@
--- The tests are those of `lane_fits`.
+use Prim.Native.Nat.{ℕ}
+use mathlib.Core.Path.{ap, ◌∙◌}
 use Rattle.engine_legality.specs.LaneSentences.{lane_fits}
+use Rattle.engine_legality.proofs.LaneLoops.{words-from}
 use Rattle.engine_legality.proofs.lanes.lane_fits.Goals as goal
 
 pub returns : goal.returns
-unfolding lane_fits
 returns c =
-    let range = c.lane_in_range.ensures in
-    let rest = c.lane_at_rest.ensures in
-    rw (range, c.lookup_in_range.ensures, rest, c.lane_agrees.ensures, c.generation_fits.ensures)
+    let a = c.args in
+    c.fits.ensures ∙ ap (λ (w : ℕ → ℕ). lane_fits a.generations w a.slots a.pending) (words-from a.m.now a.first)

@@ -4,7 +4,7 @@ use Rattle.std.proofs.Common.{rules, tests}
 use Rattle.std.proofs.iter.Serving.{serving}
 use Rattle.model.specs.State.{cabinet_count}
 use Rattle.model.specs.Layout.{masks_at}
-use Rattle.engine_legality.specs.LaneSentences.{all_lanes}
+use Rattle.engine_legality.specs.LaneSentences.{generations_in, all_lanes}
 use Rattle.words.specs.Lent.{sizes_of}
 use Rattle.engine_legality.proofs.LaneLoops.{lanes-within}
 use Rattle.engine_legality.proofs.RangeLaws.{range-all}
@@ -18,4 +18,4 @@ unfolding all_lanes
 returns c =
     let z = c.args.z in
     range-all _ _ _ _ _ c.all.ensures.ran (λ x b q k. search (rules, tests))
-    ∙ ap (λ (n : ℕ). all_lanes c.args.m.now z.slots n z.places (masks_at + n)) c.cabinet_count-cabinets.ensures
+    ∙ ap (λ (n : ℕ). all_lanes (generations_in c.args.m.now) c.args.m.now z.slots n z.places (masks_at + n)) c.cabinet_count-cabinets.ensures
