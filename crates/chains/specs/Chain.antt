@@ -1,11 +1,16 @@
 -- What the code does to a chain, in words of the memory: its head stands at `head`, in a table of sizes z. No legality is needed. A word
 -- that is no slot's number ends a chain, as none does.
-use Rattle.std.specs.Prelude.{ℕ, zero, suc, ◌+◌, cond, Option, Some, None, List, set, leb, ltb, eqb}
+use Rattle.std.specs.Prelude.{ℕ, zero, suc, ◌+◌, ◌<◌, cond, Option, Some, None, List, set, leb, ltb, eqb}
 use Rattle.model.specs.Word.{none}
 use Rattle.model.specs.State.{Sizes}
 use Rattle.model.specs.Layout.{code_at, deposit_at, material_at, chain_link_at, slot_address}
 use Rattle.model.specs.Memory.{at, wide, low, high}
+use Rattle.words.specs.Lent.{Lent}
 use Rattle.chains.specs.declared.Found.{Found}
+
+-- the memory holds a table with slot i
+abbrev pub SlotLent : List ℕ → Sizes → ℕ → Type 0
+SlotLent m z i = Lent m z × (i < z.slots)
 
 -- where the chain link of slot i stands
 abbrev pub link_address : Sizes → ℕ → ℕ

@@ -8,7 +8,7 @@ ghost use Rattle.model.specs.Layout.{slot_address};
 ghost use Rattle.model.specs.Memory.{at};
 ghost use Rattle.model.specs.Rules.{outcome_answer};
 ghost use Rattle.words.specs.Lent.{sizes_of, Lent};
-ghost use Rattle.chains.specs.Chain.{link_address, code_words, seek, found, pointed, linked_at_head, put_in_place, unlinked, product_set, cleared};
+ghost use Rattle.chains.specs.Chain.{SlotLent, link_address, code_words, seek, found, pointed, linked_at_head, put_in_place, unlinked, product_set, cleared};
 ghost use Rattle.chains.specs.Outcome.{outcome_of, outcome_at, answer_words, step_words};
 
 use words::product::Product;
@@ -49,7 +49,7 @@ fn link_address(z: words::Sizes, slot: u32) -> usize
 
 // A slot's chain link.
 pub fn chain_link(m: &[u32], z: words::Sizes, slot: u32) -> u32
-    requires { (Lent m.now (sizes_of z)) × (slot < z.slots) }
+    requires { SlotLent m.now (sizes_of z) slot }
     ensures { result ≡ at m.now (link_address (sizes_of z) slot) }
 {
     m[link_address(z, slot)]
@@ -57,7 +57,7 @@ pub fn chain_link(m: &[u32], z: words::Sizes, slot: u32) -> u32
 
 // A slot's code.
 fn code_of(m: &[u32], z: words::Sizes, slot: u32) -> u64
-    requires { (Lent m.now (sizes_of z)) × (slot < z.slots) }
+    requires { SlotLent m.now (sizes_of z) slot }
     ensures { result ≡ code_words m.now (sizes_of z) slot }
 {
     words::code_at(m, z.slot_address(slot) + words::CODE_AT)
@@ -128,7 +128,7 @@ pub fn unlink(m: &mut [u32], z: words::Sizes, head: usize, old: Found)
 
 // Writes what a slot holds.
 pub fn write_product(m: &mut [u32], z: words::Sizes, slot: u32, product: Product)
-    requires { (Lent m.old (sizes_of z)) × (slot < z.slots) }
+    requires { SlotLent m.old (sizes_of z) slot }
     ensures { m.new ≡ product_set m.old (slot_address (sizes_of z) slot) product.code product.deposit product.material }
 {
     let b = z.slot_address(slot);
@@ -147,7 +147,7 @@ const BLANK: Product = Product {
 
 // Clears a slot to the free values.
 pub fn clear_slot(m: &mut [u32], z: words::Sizes, slot: u32)
-    requires { (Lent m.old (sizes_of z)) × (slot < z.slots) }
+    requires { SlotLent m.old (sizes_of z) slot }
     ensures { m.new ≡ cleared m.old (slot_address (sizes_of z) slot) }
 {
     write_product(m, z, slot, BLANK);
