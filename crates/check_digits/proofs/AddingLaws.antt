@@ -1,5 +1,5 @@
 -- The loop over a code's digits, from the right: what is added and what is left make the whole sum, by which the check digit is right or not.
-use Prim.Native.Nat.{ℕ, zero, suc, ◌+◌, ◌-◌, ◌*◌, ◌/◌, ◌%◌, ◌≤◌, ◌<◌}
+use Prim.Native.Nat.{ℕ, suc, ◌+◌, ◌-◌, ◌*◌, ◌/◌, ◌%◌, ◌≤◌}
 use mathlib.Core.Path.{◌≡◌, refl, ap, sym, ◌∙◌}
 use mathlib.Core.Logic.{inl, inr}
 use mathlib.Core.List.{reverse}
@@ -50,25 +50,23 @@ module _ (code rest weight sum left : ℕ) (k : Adding code rest weight sum left
       go (inl (e, _)) = omega arith
       go (inr (e, _)) = omega arith
 
-  pub adding-on : 0 < left → Adding code (rest / ten) (both_weights - weight) (sum + weight * (rest % ten)) (left - 1)
-  adding-on h = record { weights = rw (back k.weights) (turned k.weights); few = omega (arith, k.few, adding-few); whole = go left h k.whole }
+  pub adding-on : (n : ℕ) → left ≡ suc n → Adding code (rest / ten) (both_weights - weight) (sum + weight * (rest % ten)) n
+  adding-on n h = record {
+    weights = rw (back k.weights) (turned k.weights);
+    few = omega (arith, k.few, adding-few);
+    whole =
+        let one = weighed-back weight (both_weights - weight) n rest in
+        let so_far = ap (λ (i : ℕ). sum + weighed_back weight (both_weights - weight) i rest) (sym h) ∙ k.whole in
+        rw (back k.weights) (omega (arith, one, so_far));
+  }
     where
       back : Weights weight (both_weights - weight) → both_weights - (both_weights - weight) ≡ weight
       back (inl (e, _)) = omega arith
       back (inr (e, _)) = omega arith
 
-      go : (n : ℕ) → 0 < n → sum + weighed_back weight (both_weights - weight) n rest ≡ whole_sum (digits code_digits code)
-          → sum + weight * (rest % ten) + weighed_back (both_weights - weight) (both_weights - (both_weights - weight)) (n - 1) (rest / ten)
-          ≡ whole_sum (digits code_digits code)
-      go zero h e = absurd (omega arith)
-      go (suc n) h e =
-          let d : suc n - 1 ≡ n = omega arith in
-          rw (d, back k.weights) (omega (arith, weighed-back weight (both_weights - weight) n rest))
-
-  pub adding-done : left ≤ 0 → eqb (sum % ten) 0 ≡ right_check_digit code
+  pub adding-done : left ≡ 0 → eqb (sum % ten) 0 ≡ right_check_digit code
   unfolding digits weighed right_check_digit
-  adding-done h =
-      let e : left ≡ 0 = omega arith in
+  adding-done e =
       let w : weighed_back weight (both_weights - weight) left rest ≡ 0 = ap (λ (n : ℕ). weighed_back weight (both_weights - weight) n rest) e in
       let s : sum ≡ whole_sum (digits code_digits code) = omega (arith, k.whole) in
       ap (λ (x : ℕ). eqb (x % ten) 0) s ∙ sym (right-sum (digits code_digits code))

@@ -4,8 +4,6 @@
 ghost use Rattle.std.specs.Prelude.{◌≡◌};
 ghost use Rattle.model.specs.CheckDigit.{right_check_digit};
 
-const TEN: u64 = 10;
-
 // How many digits a code has, filled with zeros on the left.
 const CODE_DIGITS: u32 = 14;
 
@@ -21,13 +19,11 @@ pub fn is_right(code: u64) -> bool
 {
     let mut rest = code;
     let mut weight = LAST_WEIGHT;
-    let mut sum: u64 = 0;
-    let mut left = CODE_DIGITS;
-    while left > 0 {
-        sum = sum + weight * (rest % TEN);
+    let mut sum = 0;
+    for _ in 0..CODE_DIGITS {
+        sum += weight * (rest % 10);
         weight = BOTH_WEIGHTS - weight;
-        rest = rest / TEN;
-        left = left - 1;
+        rest /= 10;
     }
-    sum % TEN == 0
+    sum % 10 == 0
 }

@@ -1,10 +1,9 @@
 use native.Mathlib.Omega.{arith}
 use Rattle.check_digits.proofs.AddingLaws.{adding-on, adding-done}
-use borrow.Author.Rules.{rules}
 use Rattle.check_digits.proofs.is_right.Goals as goal
 
-pub loop-left-preserved : goal.loop-left-preserved
-loop-left-preserved c = search (rules, adding-on)
+pub loop-preserved : goal.loop-preserved
+loop-preserved c = adding-on _ _ _ _ _ c.loop.invariant _ (omega arith)
 
 pub returns : goal.returns
-returns c = adding-done _ _ _ _ _ c.loop-left.invariant (omega arith)
+returns c = adding-done _ _ _ _ _ c.loop.invariant (omega arith)

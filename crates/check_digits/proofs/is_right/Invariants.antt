@@ -1,9 +1,8 @@
--- The loop's invariant: what is added and what is left make the whole sum (`Adding`). The measure: the digits left.
+-- The loop's invariant: what is added and what is left make the whole sum (`Adding`).
+use Prim.Native.Nat.{◌-◌}
+use Rattle.model.specs.CheckDigit.{code_digits}
 use Rattle.check_digits.proofs.AddingLaws.{Adding}
 use Rattle.check_digits.proofs.is_right.Given as goal
 
-abbrev pub invariant-loop-left : goal.invariant-loop-left
-invariant-loop-left l = Adding l.code l.rest l.weight l.sum l.left
-
-abbrev pub decreases-loop-left : goal.decreases-loop-left
-decreases-loop-left l = l.left
+abbrev pub invariant-loop : goal.invariant-loop
+invariant-loop l = Adding l.code l.rest l.weight l.sum (code_digits - l.counter)
