@@ -1,4 +1,4 @@
--- The outcome of a lookup's step: the code's enum as the model's, and as document 01's numbers.
+-- The outcome of a lookup's step: the code's enum as the model's, and the words of its answer.
 use Rattle.std.specs.Prelude.{ℕ, ◌+◌, cond, List, [], ◌∷◌, leb, eqb}
 use Rattle.model.specs.State.{Sizes}
 use Rattle.model.specs.Layout.{deposit_at, material_at, slot_address}
@@ -22,10 +22,6 @@ outcome_at m z code i =
     absent
     (cond (eqb (code_words m z i) code) (found (record { slot = i; deposit = at m (b + deposit_at); material = at m (b + material_at) })) going)
 
--- the five words of an answer
-abbrev pub answer_words : Answer → List ℕ
-answer_words r = r.status ∷ r.a ∷ r.b ∷ r.c ∷ r.d ∷ []
-
--- the four after the status
+-- the words of an answer after its status
 abbrev pub step_words : Answer → List ℕ
 step_words r = r.a ∷ r.b ∷ r.c ∷ r.d ∷ []

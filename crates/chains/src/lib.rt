@@ -9,7 +9,7 @@ ghost use Rattle.model.specs.Memory.{at};
 ghost use Rattle.model.specs.Rules.{outcome_answer};
 ghost use Rattle.words.specs.Lent.{sizes_of, Lent};
 ghost use Rattle.chains.specs.Chain.{SlotLent, link_address, code_words, seek, found, pointed, linked_at_head, put_in_place, unlinked, product_set, cleared};
-ghost use Rattle.chains.specs.Outcome.{outcome_of, outcome_at, answer_words, step_words};
+ghost use Rattle.chains.specs.Outcome.{outcome_of, outcome_at, step_words};
 
 use words::product::Product;
 
@@ -176,7 +176,7 @@ pub fn step_outcome(m: &[u32], z: words::Sizes, code: u64, position: u32) -> Ste
     })
 }
 
-// The four words of a step: its number, then the slot, the deposit and the material of what it found.
+// The four words of a step's answer: its number, then the slot, the deposit and the material of what it found.
 impl From<Step> for [u32; 4] {
     ghost from_gives = { λ s w. w ≡ step_words (outcome_answer (outcome_of s)) };
 
@@ -187,17 +187,5 @@ impl From<Step> for [u32; 4] {
             Step::Found(r) => [1, r.slot, r.deposit, r.material],
             Step::Absent => [2, 0, 0, 0],
         }
-    }
-}
-
-// The five words that answer a step.
-#[tactic(auto, unfolding(crate::specs::Outcome::outcome_of, model::specs::Rules::outcome_answer))]
-pub fn outcome_words(s: Step) -> [u32; 5]
-    ensures { result ≡ answer_words (outcome_answer (outcome_of s)) }
-{
-    match s {
-        Step::Going => [0, 0, 0, 0, 0],
-        Step::Found(r) => [0, 1, r.slot, r.deposit, r.material],
-        Step::Absent => [0, 2, 0, 0, 0],
     }
 }
