@@ -23,7 +23,8 @@ use Rattle.engine.proofs.AdvanceSteps.{shape-advanced}
 use Rattle.engine.proofs.AdvanceLaws.{advanced-stored}
 use Rattle.lanes.specs.Record.{record_at, moved_on}
 use Rattle.engine.proofs.CompareLaws.{moved-quiesced}
-use Rattle.engine.proofs.SampleLaws.{within-lanes, sample-stored, shape-sampled}
+use Rattle.engine.proofs.MaskLevels.{within-lanes}
+use Rattle.engine.proofs.SampleLaws.{sample-stored, shape-sampled}
 use Rattle.engine.specs.Clock.{compared_words, sample_words, clock_words}
 
 module _ (s : State) (m : List ℕ) (shows : Shows m s) (w : WellFormed s) (c p : ℕ) (in_cabinets : c < cabinet_count s.sizes) (in_places : p < s.sizes.places) where
@@ -40,7 +41,7 @@ module _ (s : State) (m : List ℕ) (shows : Shows m s) (w : WellFormed s) (c p 
   shape = well_formed-shape s w
 
   known : k < lane_count z
-  known = within-lanes s m shows w.lanes c p in_cabinets in_places
+  known = within-lanes z c p in_cabinets in_places
 
   -- ---- compare
 

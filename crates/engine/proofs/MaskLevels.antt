@@ -1,6 +1,6 @@
 -- The masks of a table as a tree of levels: a memory that shows a state shows the tree of its lanes' bits, and a memory that shows another tree in place of it,
 -- and is the same elsewhere, is that of the state with those bits.
-use Prim.Native.Nat.{ℕ, zero, suc, ◌+◌, ◌<◌, ◌≤◌}
+use Prim.Native.Nat.{ℕ, zero, suc, ◌+◌, ◌*◌, ◌<◌, ◌≤◌}
 use mathlib.Core.Bool.{Bool, cond}
 use mathlib.Core.Path.{◌≡◌, refl, ap, sym, ◌∙◌}
 use mathlib.Core.List.{List, ◌∷◌}
@@ -8,7 +8,7 @@ use native.Mathlib.Omega.{arith}
 use native.Mathlib.Nat.{one-mul}
 use lib.ListN.{length}
 use Rattle.model.specs.Lists.{concat_map}
-use Rattle.model.specs.State.{Sizes, Lane, State}
+use Rattle.model.specs.State.{Sizes, cabinet_count, lane_count, Lane, State}
 use Rattle.model.specs.Layout.{yard_mask_at, heads_at, free_at, lane_address, slot_address, total}
 use Rattle.model.specs.Engine.{lane_at}
 use Rattle.model.specs.Memory.{at, contents, group_mask, lane_bit, yard_bit, yard_mask, lane_words, lane_queues}
@@ -21,7 +21,12 @@ use Rattle.mask_tree.specs.Tree.{Level, Masked, Apart, Inside, Stacked}
 use Rattle.mask_tree.proofs.TreeLaws.{Off}
 use Rattle.changes.proofs.Shows.{Shows}
 use Rattle.changes.proofs.OfLanes.EngineWords.{with_pending, masked_value, value-with_pending}
+use Rattle.lanes.proofs.CabinetLaws.{row_within}
 use Rattle.engine.specs.Levels.{lane_level, upper_levels}
+
+-- place p of cabinet c is a lane
+pub within-lanes : (z : Sizes) (c p : ℕ) → c < cabinet_count z → p < z.places → c * z.places + p < lane_count z
+within-lanes z c p h k = omega (arith, row_within c (cabinet_count z) z.places h)
 
 module _ (z : Sizes) where
   abbrev pub all_levels : List Level

@@ -2,7 +2,6 @@
 use Prim.Native.Nat.{ℕ, ◌+◌, ◌*◌, ◌<◌}
 use mathlib.Core.Path.{◌≡◌, refl, ap, ◌∙◌}
 use mathlib.Core.List.{List}
-use native.Mathlib.Omega.{arith}
 use Rattle.model.specs.State.{cabinet_count, Sizes, lane_count, State}
 use Rattle.model.specs.Engine.{released, advanced_global, went_off}
 use Rattle.model.specs.Rules.{off, with_engine, performed}
@@ -13,13 +12,14 @@ use Rattle.lanes.specs.Record.{offline_record}
 use Rattle.lanes.specs.declared.Place.{Place}
 use Rattle.lanes.specs.RecordChanges.{changed_at}
 use Rattle.lanes.specs.Cabinet.{stand}
-use Rattle.lanes.proofs.CabinetLaws.{cabinet_at-lane, row_within}
+use Rattle.lanes.proofs.CabinetLaws.{cabinet_at-lane}
 use Rattle.changes.proofs.Shows.{Shows, shows_then, stored-then}
 use Rattle.changes.proofs.Shape.{well_formed-shape}
 use Rattle.changes.proofs.OfOwners.Owners.{all_lanes}
 use Rattle.engine.specs.Release.{released_words}
 use Rattle.engine.proofs.ReleaseLaws.{released-stored, shape-released}
 use Rattle.engine.specs.Advance.{of_all, advanced_words}
+use Rattle.engine.proofs.MaskLevels.{within-lanes}
 use Rattle.engine.proofs.AdvanceLaws.{advanced-stored}
 use Rattle.engine.specs.Off.{handed_words, off_words}
 use Rattle.engine.proofs.OffSteps.{gone, left_words, left-stored, shape-left}
@@ -35,7 +35,7 @@ module _ (s : State) (m : List ℕ) (shows : Shows m s) (w : WellFormed s) (c p 
   lane_number = c * z.places + p
 
   lane-within : lane_number < lane_count s.sizes
-  lane-within = omega (arith, row_within c (cabinet_count z) z.places in_cabinets)
+  lane-within = within-lanes z c p in_cabinets in_places
 
   -- the global queues advance
   abbrev advanced_all : List ℕ → List ℕ

@@ -19,7 +19,8 @@ use Rattle.lanes.specs.Record.{dropped_record}
 use Rattle.lanes.specs.declared.Place.{Place}
 use Rattle.lanes.specs.RecordChanges.{changed_at}
 use Rattle.lanes.specs.Cabinet.{stand}
-use Rattle.lanes.proofs.CabinetLaws.{cabinet_at-lane, row_within}
+use Rattle.lanes.proofs.CabinetLaws.{cabinet_at-lane}
+use Rattle.engine.proofs.MaskLevels.{within-lanes}
 use Rattle.engine.proofs.PeriodLaws.{shape-ended}
 use Rattle.engine.specs.Release.{passed_words, released_words}
 use Rattle.changes.proofs.OfLanes.LaneRecords.{record-dropped}
@@ -43,7 +44,7 @@ module _ (s : State) (m : List ℕ) (shows : Shows m s) (each : LaneAtEach s) (c
   dropped = changed_at m l.address dropped_record
 
   lane-within : lane_number < lane_count s.sizes
-  lane-within = omega (arith, row_within c (cabinet_count s.sizes) s.sizes.places in_cabinets)
+  lane-within = within-lanes s.sizes c p in_cabinets in_places
 
   first-stored : dropped ≡ stored u m
   first-stored = ap (λ (a : ℕ). changed_at m a dropped_record) (cabinet_at-lane s.sizes c p) ∙ record-dropped s m shows lane_number lane-within each

@@ -24,10 +24,9 @@ use Rattle.changes.proofs.Shows.{Shows, stored-shown, shows_then, stored-then}
 use Rattle.changes.proofs.Shape.{LaneAtEach}
 use Rattle.changes.proofs.OfLanes.EngineWords.{with_pending}
 use Rattle.lanes.specs.Cabinet.{stand}
-use Rattle.lanes.proofs.CabinetLaws.{row_within}
 use Rattle.engine.specs.Levels.{rungs}
 use Rattle.engine.specs.Release.{over_words, cleared_words, passed_words}
-use Rattle.engine.proofs.MaskLevels.{all_levels, apart, inside, shows-masked, masked-stored}
+use Rattle.engine.proofs.MaskLevels.{within-lanes, all_levels, apart, inside, shows-masked, masked-stored}
 use Rattle.engine.proofs.ReleaseBits.{unawaited, words-unawaited, queues-alike, over-stored}
 
 module _ (s : State) (m : List ℕ) (shows : Shows m s) (each : LaneAtEach s) (c p : ℕ) (in_cabinets : c < cabinet_count s.sizes)
@@ -45,7 +44,7 @@ module _ (s : State) (m : List ℕ) (shows : Shows m s) (each : LaneAtEach s) (c
   t = with_pending s ls
 
   within : i < lane_count z
-  within = omega (arith, row_within c (cabinet_count z) z.places in_cabinets)
+  within = within-lanes z c p in_cabinets in_places
 
   -- ---- the stores
 

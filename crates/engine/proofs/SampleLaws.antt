@@ -3,7 +3,6 @@ use Prim.Native.Nat.{ℕ, ◌+◌, ◌*◌, ◌<◌}
 use mathlib.Core.Bool.{Bool, true, false, not, cond, ◌&&◌}
 use mathlib.Core.Path.{◌≡◌, refl, ap, ap₂, sym, ◌∙◌}
 use mathlib.Core.List.{List}
-use native.Mathlib.Omega.{arith}
 use Rattle.model.specs.State.{cabinet_count, Sizes, lane_count, held, is_held, Lane, State}
 use Rattle.model.specs.Layout.{masks_at, lane_address}
 use Rattle.model.specs.Engine.{fresh_lane, lane_at, set_pending, with_lanes, sampled}
@@ -22,8 +21,9 @@ use Rattle.lanes.specs.Record.{sampled_record}
 use Rattle.lanes.specs.Record.{record_at, is_holding}
 use Rattle.lanes.specs.RecordChanges.{changed_at}
 use Rattle.lanes.specs.Cabinet.{stand}
-use Rattle.lanes.proofs.CabinetLaws.{cabinet_at-lane, row_within}
+use Rattle.lanes.proofs.CabinetLaws.{cabinet_at-lane}
 use Rattle.engine.specs.Clock.{sample_words}
+use Rattle.engine.proofs.MaskLevels.{within-lanes}
 use Rattle.engine.proofs.CompareLaws.{held-shown}
 
 module _ (s : State) (m : List ℕ) (shows : Shows m s) (i : ℕ) (h : i < lane_count s.sizes) where
@@ -58,8 +58,8 @@ module _ (s : State) (m : List ℕ) (shows : Shows m s) (each : LaneAtEach s) (c
   abbrev i : ℕ
   i = c * z.places + p
 
-  pub within-lanes : i < lane_count z
-  within-lanes = omega (arith, row_within c (cabinet_count z) z.places in_cabinets)
+  within : i < lane_count z
+  within = within-lanes z c p in_cabinets in_places
 
   pub sample-stored : sample_words m (stand z c p) ≡ stored (with_lane s i sampled) m
   unfolding sample_words record_at
@@ -67,8 +67,8 @@ module _ (s : State) (m : List ℕ) (shows : Shows m s) (each : LaneAtEach s) (c
       ap (λ (x : ℕ). cond (flag p (at m (masks_at + c)) && not (is_holding (record_at m x))) (changed_at m x sampled_record) m) (cabinet_at-lane z c p)
       ∙ ap₂ (λ (b d : Bool). cond (b && not d) (changed_at m (lane_address z i) sampled_record) m)
       (ap (flag p) (shows.image (mask c) in_cabinets) ∙ flag-group z.places (lane_bit s) c p in_places)
-      (held-shown s m shows i within-lanes)
-      ∙ copied-by s m shows i within-lanes each (unsampled s m shows i within-lanes) refl
+      (held-shown s m shows i within)
+      ∙ copied-by s m shows i within each (unsampled s m shows i within) refl
 
 -- ---- the shape stays
 

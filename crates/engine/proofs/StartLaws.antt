@@ -22,10 +22,10 @@ use Rattle.changes.proofs.Shows.{Shows}
 use Rattle.changes.proofs.Shape.{LaneAtEach, Shape}
 use Rattle.changes.proofs.OfLanes.EngineWords.{shape-engine, with_pending}
 use Rattle.lanes.specs.Cabinet.{cabinet_at, online_at, online_mask}
-use Rattle.lanes.proofs.CabinetLaws.{cabinet_at-lane, row_within}
+use Rattle.lanes.proofs.CabinetLaws.{cabinet_at-lane}
 use Rattle.engine.specs.Levels.{lane_level, upper_levels}
 use Rattle.engine.specs.Period.{masks_set, started_words}
-use Rattle.engine.proofs.MaskLevels.{all_levels, NoMask, stacked, apart, inside, masked-stored}
+use Rattle.engine.proofs.MaskLevels.{within-lanes, all_levels, NoMask, stacked, apart, inside, masked-stored}
 use Rattle.engine.proofs.PeriodWords.{masks_set-else, masks_set-there, length-masks_set, length-started_words}
 
 -- ---- begin period
@@ -76,7 +76,7 @@ module _ (s : State) (m : List ℕ) (shows : Shows m s) (each : LaneAtEach s) wh
     where
       go : (p : ℕ) → 0 ≤ p → p < 0 + z.places → online_at m (cabinet_at z c) p ≡ lane_bit t (c * z.places + p)
       go p a b =
-          let k : c * z.places + p < lane_count z = omega (arith, row_within c (cabinet_count z) z.places h) in
+          let k : c * z.places + p < lane_count z = within-lanes z c p h (omega arith) in
           ap (λ (a : ℕ). flag online_bit (at m a)) (cabinet_at-lane z c p) ∙ online-shown (c * z.places + p) k ∙ sym (pending-started (c * z.places + p) k)
 
   -- the lane masks, by which the masks above are set
