@@ -8,7 +8,7 @@ use lib.ListN.{set}
 use Rattle.std.specs.Prelude.{Option, Some, None, is_some, unwrap_or}
 use Rattle.model.specs.Word.{none}
 use Rattle.model.specs.Lists.{first}
-use Rattle.model.specs.State.{Lookup, idle, running, is_running}
+use Rattle.model.specs.State.{Sizes, Lookup, idle, running, is_running}
 use Rattle.model.specs.Layout.{flags_at, lookup_at, position_at, lane_address, lookup_bit}
 use Rattle.model.specs.Table.{chain_of}
 use Rattle.model.specs.Engine.{set_lookup}
@@ -16,7 +16,6 @@ use Rattle.model.specs.Rules.{start, zeros, refusal, lane_of, Outcome, outcome, 
 use Rattle.model.specs.Memory.{at, wide, whole_of, low, high, flags, lookup_code, lookup_position, lane_words, sizes, state}
 use Rattle.model.specs.Calls.{on_state}
 use Rattle.representation.proofs.WellFormed.{SlotOrNone, LookupFits}
-use Rattle.words.specs.declared.Sizes as code-sizes
 use Rattle.words.specs.Lent.{sizes_of}
 use Rattle.chains.specs.Outcome.{outcome_at}
 use Rattle.changes.proofs.Shape.{well_formed-shape}
@@ -104,6 +103,6 @@ module _ (m : List ℕ) (l : Lane) (k : Looking m l) where
   unfolding state
   outcome-by c o ec eo =
       let v = k.lane.named.sound in
-      eo ∙ ap₂ (λ (z : code-sizes.Sizes) (y : ℕ). outcome_at m (sizes_of z) y (at m (l.address + position_at))) k.lane.named.sizes ec
+      eo ∙ ap₂ (λ (z : Sizes) (y : ℕ). outcome_at m z y (at m (l.address + position_at))) k.lane.named.sizes ec
       ∙ outcome-shown (state m) m (shown m v) (well_formed-shape (state m) (well_formed m v)) _ _ position-fits
       ∙ ap (outcome (state m).table) (sym lookup-shown)

@@ -6,7 +6,7 @@ use mathlib.Core.List.{List}
 use lib.ListN.{set}
 use borrow.Author.Tests.{eq-eqb}
 use Rattle.model.specs.Word.{none}
-use Rattle.model.specs.State.{Lookup, idle, running, Table}
+use Rattle.model.specs.State.{Sizes, Lookup, idle, running, Table}
 use Rattle.model.specs.Layout.{position_at, lane_address}
 use Rattle.model.specs.Table.{link_of}
 use Rattle.model.specs.Engine.{set_lookup}
@@ -15,7 +15,6 @@ use Rattle.model.specs.Memory.{at, flags, sizes, state}
 use Rattle.model.specs.Calls.{on_state}
 use Rattle.representation.specs.Sound.{Sound}
 use Rattle.representation.proofs.WellFormed.{SlotOrNone}
-use Rattle.words.specs.declared.Sizes as code-sizes
 use Rattle.words.specs.Lent.{sizes_of}
 use Rattle.std.specs.Prelude.{Ok}
 use Rattle.chains.specs.declared.Step.{Step}
@@ -73,7 +72,7 @@ module _ (m : List ℕ) (l : Lane) (k : Going m l) where
       on-slot (state m).table (sizes m).slots _ _ (position-fits m l h) (ap (outcome (state m).table) (sym (lookup-shown m l h)) ∙ k.going)
 
   pub position-by : at m (l.address + position_at) < l.sizes.slots
-  position-by = subst (λ (z : code-sizes.Sizes). at m (l.address + position_at) < z.slots) (sym k.looking.lane.named.sizes) position-slot
+  position-by = subst (λ (z : Sizes). at m (l.address + position_at) < z.slots) (sym k.looking.lane.named.sizes) position-slot
 
   -- by what the code read
   pub moved_by : (w : ℕ) → w ≡ at m (link_address (sizes_of l.sizes) (at m (l.address + position_at))) → set m (l.address + position_at) w ≡ moved_on m l
@@ -81,7 +80,7 @@ module _ (m : List ℕ) (l : Lane) (k : Going m l) where
   moved_by w e =
       let named = k.looking.lane.named in
       ap (set m (l.address + position_at))
-      (e ∙ ap (λ (z : code-sizes.Sizes). at m (link_address (sizes_of z) (at m (l.address + position_at)))) named.sizes
+      (e ∙ ap (λ (z : Sizes). at m (link_address z (at m (l.address + position_at)))) named.sizes
       ∙ link-shown (state m) m (shown m named.sound) _ position-slot)
 
 -- ---- the call
