@@ -1,22 +1,25 @@
 -- The ways out of off and clock: the engine is given the lane's place, and the words after it are those of the state after the call.
-use Prim.Native.Nat.{ℕ, ◌+◌, ◌%◌, ◌≤◌, ◌<◌}
+use Prim.Native.Nat.{ℕ, ◌%◌, ◌<◌}
 use native.Mathlib.Nat.{mod-lt}
 use mathlib.Core.Path.{◌≡◌, refl, ap, ap₂, sym, ◌∙◌}
+use mathlib.Core.Bool.{cond}
+use lib.Dec.{eqb}
 use mathlib.Core.List.{List, []}
 use native.Mathlib.Omega.{arith}
-use lib.ListN.{length}
 use Rattle.model.specs.Word.{less}
-use Rattle.model.specs.Layout.{current_generation_at, largest_generation_at, masks_at, lane_length}
+use Rattle.model.specs.Layout.{current_generation_at, largest_generation_at, yard_mask_at}
 use Rattle.model.specs.State.{Sizes, State}
 use Rattle.model.specs.Engine.{clock_moves}
 use Rattle.model.specs.Rules.{off, clock, zeros, accepted, first_cause, of_lane, causes, refusal, result, performed}
 use Rattle.model.specs.Memory.{at, sizes, state}
 use Rattle.model.specs.Calls.{on_state, stored}
-use Rattle.words.specs.declared.Sizes as code-sizes
 use Rattle.words.specs.Lent.{sizes_of}
+use Rattle.representation.specs.Sound.{Sound}
 use Rattle.changes.proofs.Shows.{shows_then}
 use Rattle.changes.proofs.Shape.{well_formed-shape}
 use Rattle.lanes.specs.declared.Place.{Place}
+use Rattle.lanes.specs.Cabinet.{LaneLent}
+use Rattle.engine.proofs.PeriodLaws.{turned}
 use Rattle.engine.specs.Off.{off_words}
 use Rattle.engine.proofs.OffLaws.{off-stored}
 use Rattle.engine.specs.Clock.{clock_words}
@@ -24,97 +27,84 @@ use Rattle.engine.proofs.ClockLaws.{clock-stored, clock-answer, clock-shape}
 use Rattle.access.specs.declared.Answer.{Answer}
 use Rattle.access.specs.declared.Lane.{Lane}
 use Rattle.access.specs.Contract.{five, Does}
-use Rattle.access.specs.Lanes.{Named, LaneIn, place_of}
-use Rattle.access.proofs.Ways.{performs, passed, shown, well_formed, in_range}
-use Rattle.access.proofs.LaneLaws.{lane-known, cabinet-known, lane_of}
-use Rattle.periods.specs.Ticks.{taken_off, tick_words, period_word, done_words}
+use Rattle.access.specs.Lanes.{LaneIn, place_of, Placed}
+use Rattle.access.proofs.Ways.{performs, shown, well_formed, in_range}
+use Rattle.access.proofs.LaneLaws.{cabinet-known, place-lent, lane_of}
+use Rattle.periods.specs.Ticks.{runs_in, done_words}
 use Rattle.periods.proofs.MovedLaws.{moved-shown}
-
-module _ (m : List ℕ) (l : Lane) (k : LaneIn m l) where
-  abbrev z : Sizes
-  z = sizes m
-
-  abbrev i : ℕ
-  i = l.number
-
-  -- ---- by the lane's place
-
-  module _ (p : Place) (e : p ≡ place_of (sizes_of l.sizes) i) (n : List ℕ) where
-    pub off-by : n ≡ off_words m (sizes_of l.sizes) p → n ≡ taken_off m i
-    off-by q = q ∙ ap (off_words m (sizes_of l.sizes)) e ∙ ap (λ (x : code-sizes.Sizes). off_words m (sizes_of x) (place_of (sizes_of x) i)) k.named.sizes
-
-    pub clock-by : n ≡ clock_words m (sizes_of l.sizes) p → n ≡ tick_words m i
-    clock-by q =
-        q ∙ ap (clock_words m (sizes_of l.sizes)) e ∙ ap (λ (x : code-sizes.Sizes). clock_words m (sizes_of x) (place_of (sizes_of x) i)) k.named.sizes
-
-  -- ---- the state after it
-
-  in_places : i % z.places < z.places
-  in_places = mod-lt i (omega (arith, (in_range m k.named.sound).some_places))
-
-  off-words : taken_off m i ≡ stored (performed (state m) (off i)) m
-  unfolding state
-  off-words =
-      off-stored (state m) m (shown m k.named.sound) (well_formed m k.named.sound) _ _ (cabinet-known m l k) in_places
-      ∙ ap (λ (j : ℕ). stored (performed (state m) (off j)) m) (lane_of z i)
-
-  tick-words : tick_words m i ≡ stored (performed (state m) (clock i)) m
-  unfolding state
-  tick-words = clock-stored (state m) m (shown m k.named.sound) (well_formed m k.named.sound) _ _ (cabinet-known m l k) in_places i (sym (lane_of z i))
-
-  module _ (n : List ℕ) (e : n ≡ tick_words m i) where
-    -- the slots moved, from the lengths before and after it
-    tick-moved : less (done_words n l.address) (done_words m l.address) ≡ clock_moves i (state m).engine
-    unfolding state performed
-    tick-moved =
-        let v = k.named.sound in
-        moved-shown (state m) (performed (state m) (clock i)) m n (shown m v)
-        (shows_then (performed (state m) (clock i)) m n (shown m v).long (e ∙ tick-words))
-        (well_formed-shape (state m) (well_formed m v))
-        (clock-shape (state m) m (shown m v) (well_formed m v) _ _ (cabinet-known m l k) in_places i (sym (lane_of z i)))
-        i k.known refl refl l.address k.named.address
-
-    -- the answer, from the words after it
-    tick-answer : accepted (at n current_generation_at) (at n largest_generation_at) (period_word n) (less (done_words n l.address) (done_words m l.address))
-        ≡ result (state m) (clock i)
-    unfolding state
-    tick-answer =
-        ap (accepted (at n current_generation_at) (at n largest_generation_at) (period_word n)) tick-moved
-        ∙ clock-answer (state m) m (shown m k.named.sound) (well_formed m k.named.sound) _ _ (cabinet-known m l k) in_places i (sym (lane_of z i)) n
-        (e ∙ tick-words)
 
 -- causes 4 and 5 are all that refuse a clock
 pub clock-refusal : (s : State) (i x : ℕ) → x ≡ first_cause (of_lane s i []) → x ≡ refusal s (clock i)
 unfolding causes
 clock-refusal s i x e = e
 
--- the done queues of a lane that causes 4 and 5 do not refuse are lent, in a memory of n words as m has
-pub done-in : (m : List ℕ) (l : Lane) → Named m l → (x : ℕ) → x ≡ first_cause (of_lane (state m) l.number []) → x ≤ 0 → (n : ℕ) → n ≡ length m
-    → (l.address + lane_length ≤ n) × (masks_at ≤ n)
-done-in m l v x e h n k =
-    let d = lane-known m l v (passed m (clock l.number) x (clock-refusal (state m) l.number x e) h).known in
-    (omega (arith, k, d.inside), omega (arith, k, v.lent.long))
+module _ (m : List ℕ) (l : Lane) (k : LaneIn m l) where
+  abbrev v : Sound m
+  v = k.named.sound
 
--- ---- the calls that no cause refuses
+  abbrev z : Sizes
+  z = sizes m
 
-module _ (m : List ℕ) (l : Lane) (v : Named m l) (x : ℕ) (h : x ≤ 0) where
-  pub off-lane : x ≡ refusal (state m) (off l.number) → LaneIn m l
-  off-lane e = lane-known m l v (passed m (off l.number) x e h).lane.known
+  abbrev i : ℕ
+  i = l.number
 
-  pub off-done : (r : Answer) (n : List ℕ) → x ≡ refusal (state m) (off l.number) → five r ≡ zeros → n ≡ taken_off m l.number
-      → Does (on_state (off l.number)) m r n
+  in_places : i % z.places < z.places
+  in_places = mod-lt i (omega (arith, (in_range m v).some_places))
+
+  -- where the lane stands, by the memory's sizes
+  pub placed-lent : (p : Place) → Placed l p → LaneLent m (sizes_of l.sizes) p
+  placed-lent p e = place-lent m l p k e.place
+
+  stands : (p : Place) → Placed l p → p ≡ place_of z i
+  stands p e = e.place ∙ ap (λ (x : Sizes). place_of x i) k.named.sizes
+
+  -- ---- off
+
+  off-words : (p : Place) → Placed l p → off_words m (sizes_of l.sizes) p ≡ stored (performed (state m) (off i)) m
+  unfolding state
+  off-words p e =
+      ap₂ (off_words m) k.named.sizes (stands p e)
+      ∙ off-stored (state m) m (shown m v) (well_formed m v) _ _ (cabinet-known m l k) in_places
+      ∙ ap (λ (j : ℕ). stored (performed (state m) (off j)) m) (lane_of z i)
+
+  pub off-done : 0 ≡ refusal (state m) (off i) → (p : Place) → Placed l p → (r : Answer) (n : List ℕ) → five r ≡ zeros → n ≡ off_words m (sizes_of l.sizes) p
+      → Does (on_state (off i)) m r n
   unfolding result
-  off-done r n e f g = performs m (off l.number) v.sound x r n e h f (g ∙ off-words m l (off-lane e))
+  off-done e p q r n f g = performs m (off i) v e r n f (g ∙ off-words p q)
 
-  clock-lane : x ≡ refusal (state m) (clock l.number) → LaneIn m l
-  clock-lane e = lane-known m l v (passed m (clock l.number) x e h).known
+  -- ---- clock
 
-  -- done queues had b slots before the clock, a after it, and d more
-  pub clock-done : (r : Answer) (n : List ℕ) (p b a d : ℕ) → x ≡ first_cause (of_lane (state m) l.number []) → n ≡ tick_words m l.number
-      → p ≡ period_word n → b ≡ done_words m l.address → a ≡ done_words n l.address → d ≡ less a b
-      → five r ≡ accepted (at n current_generation_at) (at n largest_generation_at) p d → Does (on_state (clock l.number)) m r n
-  clock-done r n p b a d e g q u v' s f =
-      let c = clock-refusal (state m) l.number x e in
-      performs m (clock l.number) v.sound x r n c h
-      (f ∙ ap₂ (accepted (at n current_generation_at) (at n largest_generation_at)) q (s ∙ ap₂ less v' u) ∙ tick-answer m l (clock-lane c) n g)
-      (g ∙ tick-words m l (clock-lane c))
+  clock-words : (p : Place) → Placed l p → clock_words m (sizes_of l.sizes) p ≡ stored (performed (state m) (clock i)) m
+  unfolding state
+  clock-words p e =
+      ap₂ (clock_words m) k.named.sizes (stands p e)
+      ∙ clock-stored (state m) m (shown m v) (well_formed m v) _ _ (cabinet-known m l k) in_places i (sym (lane_of z i))
+
+  module _ (n : List ℕ) (e : n ≡ stored (performed (state m) (clock i)) m) where
+    -- the slots moved, from the lengths before and after it
+    clock-moved : less (done_words n l.address) (done_words m l.address) ≡ clock_moves i (state m).engine
+    unfolding state performed
+    clock-moved =
+        moved-shown (state m) (performed (state m) (clock i)) m n (shown m v)
+        (shows_then (performed (state m) (clock i)) m n (shown m v).long e)
+        (well_formed-shape (state m) (well_formed m v))
+        (clock-shape (state m) m (shown m v) (well_formed m v) _ _ (cabinet-known m l k) in_places i (sym (lane_of z i)))
+        i k.known refl refl l.address k.named.address
+
+    -- the answer, from the words after it
+    clock-answers : accepted (at n current_generation_at) (at n largest_generation_at) (cond (runs_in n) 1 0) (less (done_words n l.address) (done_words m l.address))
+        ≡ result (state m) (clock i)
+    unfolding state
+    clock-answers =
+        ap₂ (accepted (at n current_generation_at) (at n largest_generation_at)) (turned (eqb (at n yard_mask_at) 0) 1 0) clock-moved
+        ∙ clock-answer (state m) m (shown m v) (well_formed m v) _ _ (cabinet-known m l k) in_places i (sym (lane_of z i)) n e
+
+  -- done queues had b slots before the clock, a after it, and d more; t is 1 if a period runs
+  pub clock-done : 0 ≡ first_cause (of_lane (state m) i []) → (p : Place) → Placed l p → (n : List ℕ) → n ≡ clock_words m (sizes_of l.sizes) p
+      → (b a d t : ℕ) → b ≡ done_words m l.address → a ≡ done_words n l.address → d ≡ less a b → t ≡ cond (runs_in n) 1 0
+      → (r : Answer) → five r ≡ accepted (at n current_generation_at) (at n largest_generation_at) t d → Does (on_state (clock i)) m r n
+  clock-done e p q n g b a d t eb ea ed et r f =
+      let w : n ≡ stored (performed (state m) (clock i)) m = g ∙ clock-words p q in
+      performs m (clock i) v (clock-refusal (state m) i 0 e) r n
+      (f ∙ ap₂ (accepted (at n current_generation_at) (at n largest_generation_at)) et (ed ∙ ap₂ less ea eb) ∙ clock-answers n w)
+      w

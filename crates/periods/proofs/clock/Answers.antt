@@ -1,25 +1,20 @@
--- A law for each way out.
-use mathlib.Core.Path.{refl}
+-- A refused call changes no word, and one that no cause refuses is `clock-done`.
+use mathlib.Core.Path.{◌≡◌, refl, ap, ◌∙◌}
+use mathlib.Core.Bool.{Bool, cond}
+use native.Mathlib.Omega.{arith}
 use Rattle.access.proofs.Ways.{refuses}
-use Rattle.access.proofs.LaneLaws.{lane_in}
-use Rattle.periods.proofs.TickLaws.{clock-refusal, done-in, clock-done}
-use borrow.Author.Rules.{rules}
+use Rattle.periods.proofs.TickLaws.{placed-lent, clock-refusal, clock-done}
 use Rattle.periods.proofs.clock.Goals as goal
 
-pub returns-then-n-gt0 : goal.returns-then-n-gt0
-returns-then-n-gt0 c = search (rules, refuses, clock-refusal)
+pub returns-in_err-check_lane : goal.returns-in_err-check_lane
+returns-in_err-check_lane c =
+    refuses _ _ c.requires.sound _ _ (clock-refusal _ _ _ c.in_err-check_lane.ensures.cause) c.from_residual.ensures.1
 
-pub done_length-before-requires : goal.done_length-before-requires
-done_length-before-requires c = done-in _ _ c.requires _ c.lane_refusal-n.ensures c.if-n-gt0.false _ refl
-
-pub tick-requires : goal.tick-requires
-tick-requires c = search (rules, lane_in)
-
-pub done_length-after-requires : goal.done_length-after-requires
-done_length-after-requires c = done-in _ _ c.requires _ c.lane_refusal-n.ensures c.if-n-gt0.false _ c.tick.auto.m
+pub clock-requires : goal.clock-requires
+clock-requires c = placed-lent _ _ c.in_ok-check_lane.ensures.lane _ c.place.ensures
 
 pub returns : goal.returns
 returns c =
-    clock-done _ _ c.requires _ c.if-n-gt0.false _ _ _ _ _ _ c.lane_refusal-n.ensures c.tick.ensures
-    c.is_period-runs.ensures c.done_length-before.ensures c.done_length-after.ensures c.less.ensures
-    c.accepted.ensures
+    let runs : c.from.result ≡ cond c.is_period.result 1 0 = grind arith in
+    clock-done _ _ c.in_ok-check_lane.ensures.lane c.in_ok-check_lane.ensures.cause _ c.place.ensures _ c.clock.ensures
+    _ _ _ _ c.done_length-before.ensures c.done_length.ensures refl (runs ∙ ap (λ (b : Bool). cond b 1 0) c.is_period.ensures) _ refl

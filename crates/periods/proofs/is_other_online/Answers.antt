@@ -1,10 +1,9 @@
 -- The lane itself counts as off among the others; any other lane stands there as it is in the state.
 use Rattle.periods.proofs.OtherLanes.{itself, another}
-use borrow.Author.Rules.{rules}
 use Rattle.periods.proofs.is_other_online.Goals as goal
 
 pub returns-then-i-lane : goal.returns-then-i-lane
-returns-then-i-lane c = search (rules, itself)
+returns-then-i-lane c = itself _ _ c.requires.0 _ c.if-i-lane.true
 
 pub returns : goal.returns
-returns c = search (rules, another)
+returns c = another _ _ c.requires.0 _ _ c.at.ensures.named c.at.ensures.number c.if-i-lane.false _ c.is_online.ensures
