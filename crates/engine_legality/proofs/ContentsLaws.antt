@@ -15,8 +15,9 @@ use Rattle.model.specs.Layout.{contents_length, total}
 use Rattle.model.specs.Legal.{sizes_fit, contents_agree}
 use Rattle.laws.specs.Tests.{and-true-right, every_true, decide}
 use Rattle.laws.specs.Tests.Same.{same as is_same, other}
-use Rattle.words.specs.declared.Sizes.{Sizes}
-use Rattle.words.specs.Lent.{sizes_of, sizes_in, Lent}
+use Rattle.model.specs.State.{Sizes}
+use Rattle.words.specs.declared.sizes.NamedSizes.{NamedSizes}
+use Rattle.words.specs.Lent.{named, sizes_in, Lent}
 use Rattle.words.proofs.LentLaws.{few-fits}
 
 -- a test of two numbers either way round
@@ -32,8 +33,8 @@ pointwise-same (x ∷ xs) [] = refl
 pointwise-same (x ∷ xs) (y ∷ ys) = ap₂ ◌&&◌ (turned y x) (pointwise-same xs ys)
 
 -- the contents of sizes, as they are written to words of 0
-abbrev written : Sizes → List ℕ
-written z = sets (replicate contents_length 0) 0 (contents (sizes_of z))
+abbrev pub written : Sizes → List ℕ
+written z = sets (replicate contents_length 0) 0 (contents z)
 
 -- ---- the ways out of the check
 
@@ -42,15 +43,18 @@ module _ (m : List ℕ) where
   unfolding contents_agree every
   contents-short h = rw (lt-leb contents_length (length m) h)
 
-  module _ (l : contents_length ≤ length m) (z : Sizes) (ez : z ≡ sizes_in m) (r : Bool) (s : r ≡ sizes_fit (sizes_of z)) where
-    q : r ≡ sizes_fit (sizes m)
-    q = s ∙ ap (λ (x : Sizes). sizes_fit (sizes_of x)) ez
+  module _ (l : contents_length ≤ length m) (n : NamedSizes) (en : n ≡ sizes_in m) where
+    fit : (b : Bool) → sizes_fit (named n) ≡ b → sizes_fit (sizes m) ≡ b
+    fit b e = sym (ap (λ (x : NamedSizes). sizes_fit (named x)) en) ∙ e
 
-    pub contents-unsized : r ≡ false → false ≡ contents_agree m
+    pub contents-unsized : sizes_fit (named n) ≡ false → false ≡ contents_agree m
     unfolding contents_agree every
-    contents-unsized e = rw (le-leb contents_length (length m) l, sym q ∙ e)
+    contents-unsized e = rw (le-leb contents_length (length m) l, fit false e)
 
-    module _ (e : r ≡ true) (ws : List ℕ) (o : ws ≡ written z) where
+    module _ (z : Sizes) (ez : z ≡ named n) (e : sizes_fit (named n) ≡ true) (ws : List ℕ) (o : ws ≡ written z) where
+      read : z ≡ sizes m
+      read = ez ∙ ap named en
+
       abbrev long : Bool
       long = leb (total (sizes m)) (length m)
 
@@ -61,7 +65,7 @@ module _ (m : List ℕ) where
       alike : begun ≡ same (take contents_length m) (contents (sizes m))
       unfolding contents
       alike =
-          ap (λ (xs : List ℕ). pointwise eqb xs (take (length xs) m)) (o ∙ ap written ez)
+          ap (λ (xs : List ℕ). pointwise eqb xs (take (length xs) m)) (o ∙ ap written read)
           ∙ pointwise-same (take contents_length m) (contents (sizes m))
 
       -- what is left of the sentences
@@ -70,15 +74,15 @@ module _ (m : List ℕ) where
       rest =
           ap (λ (b : Bool). b && long) alike
           ∙ ap (λ (b : Bool). same (take contents_length m) (contents (sizes m)) && b) (sym (and-true-right long))
-          ∙ sym (rw (le-leb contents_length (length m) l, sym q ∙ e))
+          ∙ sym (rw (le-leb contents_length (length m) l, fit true e))
 
       module _ (v : Bool) (k : v ≡ begun) where
-        pub contents-other : v ≡ false → false ≡ contents_agree m
-        contents-other h = ap (λ (b : Bool). b && long) (sym h ∙ k) ∙ rest
+        pub contents-other : v ≡ false → v ≡ contents_agree m
+        contents-other h = h ∙ ap (λ (b : Bool). b && long) (sym h ∙ k) ∙ rest
 
-        pub contents-decided : v ≡ true → (n : ℕ) → n ≡ total (sizes_of z) → leb n (length m) ≡ contents_agree m
-        contents-decided h n t =
-            ap (λ (x : ℕ). leb x (length m)) (t ∙ ap (λ (x : Sizes). total (sizes_of x)) ez) ∙ ap (λ (b : Bool). b && long) (sym h ∙ k) ∙ rest
+        pub contents-decided : v ≡ true → (i : ℕ) → i ≡ total z → leb i (length m) ≡ contents_agree m
+        contents-decided h i t =
+            ap (λ (x : ℕ). leb x (length m)) (t ∙ ap total read) ∙ ap (λ (b : Bool). b && long) (sym h ∙ k) ∙ rest
 
   pub contents-lent : contents_agree m ≡ true → Lent m (sizes m)
   unfolding contents_agree

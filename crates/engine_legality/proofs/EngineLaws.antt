@@ -1,23 +1,21 @@
 -- The global words, the masks and the lanes: the check's three tests are the engine's part of legality. Both say the same record of facts, the check
 -- group by group and legality sentence by sentence.
 use Prim.Native.Nat.{ℕ, ◌+◌, ◌*◌, ◌/◌, ◌%◌, ◌^◌, ◌<◌}
-use mathlib.Core.Bool.{Bool, true, false, ◌&&◌}
-use mathlib.Core.Path.{◌≡◌, refl, ap, ap₂, sym, ◌∙◌}
+use mathlib.Core.Bool.{Bool, true, ◌&&◌}
+use mathlib.Core.Path.{◌≡◌, refl, ap, sym, ◌∙◌}
 use mathlib.Core.List.{List}
 use native.Mathlib.Omega.{arith}
 use native.Mathlib.Nat.{mul_assoc}
 use lib.Dec.{ltb}
-use Rattle.model.specs.State.{cabinet_count}
+use Rattle.model.specs.State.{Sizes, cabinet_count}
 use Rattle.model.specs.Lists.{all, from}
 use Rattle.model.specs.Layout.{yards_at, cabinets_at, places_at, slots_at, current_offset, current_generation_at, largest_generation_at, yard_mask_at, global_queues_at}
 use Rattle.model.specs.Layout.{global_generation_at, masks_at, lane_length, lane_address, lanes_body, yards_body}
 use Rattle.model.specs.Memory.{at, flag, sizes, mask_word, yard_word, state, read_lane, read_queues}
 use Rattle.model.specs.Legal.{lane_numbers, flags_in_range, masks_in_range, generation_at_rest, generations_at_rest, off_lanes, lookups_in_sections, snapshots_pending}
 use Rattle.model.specs.Legal.{bit_fits, bits_fit, largest_fits, global_generation_fits, period_runs, largest_agrees, lane_generations, global_generation}
-use Rattle.laws.specs.Tests.{◌&◌, Every, iff-eq, every_true, every-intro, and-true, and_intro, all-below, all-below-intro, all-map-below}
+use Rattle.laws.specs.Tests.{◌&◌, Every, and_assoc, iff-eq, every_true, every-intro, and-true, and_intro, all-below, all-below-intro, all-map-below}
 use Rattle.laws.specs.Tests.{all-map-intro, every-all}
-use Rattle.words.specs.declared.Sizes.{Sizes}
-use Rattle.words.specs.Lent.{sizes_of, sizes_in}
 use Rattle.engine_legality.specs.LaneSentences.{lane_rests, empty_first, generations_in, lane_fits, cabinet_lanes, all_lanes, mask_fits, group_fits, all_cabinets}
 use Rattle.engine_legality.specs.LaneSentences.{all_masks, global_fits, global_words_fit}
 use Rattle.engine_legality.specs.WordSentences.{engine_legal}
@@ -91,19 +89,6 @@ module _ (m : List ℕ) where
   each-cabinets : ((c : ℕ) → c < Y * C → cabinet_test c ≡ true) → all_cabinets m Y C P (yards_body (sizes m)) ≡ true
   unfolding all_cabinets group_fits
   each-cabinets h = each-groups member_test Y C (λ c b. member-test c ∙ h c b)
-
--- the yards are one group, from a on; then the cabinets decide
-module _ (m : List ℕ) (Y C P a b : ℕ) (e : a ≡ b) (r : Bool) (q : r ≡ group_fits m (at m yard_mask_at) a Y C) where
-  yards-read : r ≡ group_fits m (at m yard_mask_at) b Y C
-  yards-read = q ∙ ap (λ (x : ℕ). group_fits m (at m yard_mask_at) x Y C) e
-
-  pub masks-yards : r ≡ false → false ≡ all_masks m Y C P b
-  unfolding all_masks
-  masks-yards h = ap (λ (x : Bool). x && all_cabinets m Y C P b) (sym h ∙ yards-read)
-
-  pub masks-cabinets : r ≡ true → (s : Bool) → s ≡ all_cabinets m Y C P b → s ≡ all_masks m Y C P b
-  unfolding all_masks
-  masks-cabinets h s k = k ∙ ap (λ (x : Bool). x && all_cabinets m Y C P b) (sym h ∙ yards-read)
 
 -- a mask's two tests
 mask-split : (W mask : ℕ) (bit : Bool) → mask_fits W mask bit ≡ true → (ltb mask (2 ^ W) ≡ true) × (bit_fits bit mask ≡ true)
@@ -254,26 +239,14 @@ module _ (m : List ℕ) where
   pub engine-eq : tests ≡ engine_legal m
   engine-eq = iff-eq tests (engine_legal m) (λ h. said-engine (tests-said h)) (λ h. said-tests (engine-said h))
 
-  -- ---- the ways out of the check, by the sizes that were read
+  -- by the sizes that were read
+  abbrev pub tests_by : Sizes → Bool
+  tests_by z =
+      global_words_fit m z.yards z.slots
+      && all_masks m z.yards z.cabinets z.places (yards_body z)
+      && all_lanes (generations_in m) m z.slots (cabinet_count z) z.places (lanes_body z)
 
-  module _ (z : Sizes) (ez : z ≡ sizes_in m) (r : Bool) (q : r ≡ global_words_fit m z.yards z.slots) where
-    global-read : r ≡ global_words_fit m (Y m) (S m)
-    global-read = q ∙ ap (λ (x : Sizes). global_words_fit m x.yards x.slots) ez
-
-    pub engine-global : r ≡ false → false ≡ engine_legal m
-    engine-global e = ap (λ (b : Bool). b && masks_test) (sym e ∙ global-read) ∙ engine-eq
-
-    module _ (e : r ≡ true) (r₂ : Bool) (q₂ : r₂ ≡ all_masks m z.yards z.cabinets z.places (yards_body (sizes_of z))) where
-      masks-read : r₂ ≡ all_masks m (Y m) (C m) (P m) (yards_body (sizes m))
-      masks-read = q₂ ∙ ap (λ (x : Sizes). all_masks m x.yards x.cabinets x.places (yards_body (sizes_of x))) ez
-
-      onward : (b : Bool) → (b && lanes_test) ≡ masks_test → (b && lanes_test) ≡ engine_legal m
-      onward b h = ap₂ ◌&&◌ (sym e ∙ global-read) h ∙ engine-eq
-
-      pub engine-masks : r₂ ≡ false → false ≡ engine_legal m
-      engine-masks h = onward false (ap (λ (b : Bool). b && lanes_test) (sym h ∙ masks-read))
-
-      pub engine-lanes : r₂ ≡ true → (r₃ : Bool) → r₃ ≡ all_lanes (generations_in m) m z.slots (cabinet_count (sizes_of z)) z.places (lanes_body (sizes_of z)) → r₃ ≡ engine_legal m
-      engine-lanes h r₃ q₃ =
-          q₃ ∙ ap (λ (x : Sizes). all_lanes (generations_in m) m x.slots (cabinet_count (sizes_of x)) x.places (lanes_body (sizes_of x))) ez
-          ∙ onward true (ap (λ (b : Bool). b && lanes_test) (sym h ∙ masks-read))
+  pub engine_by : (z : Sizes) → z ≡ sizes m → engine_legal m ≡ tests_by z
+  engine_by z e =
+      let masks = all_masks m (Y m) (C m) (P m) (yards_body (sizes m)) in
+      sym (ap tests_by e ∙ and_assoc (global_words_fit m (Y m) (S m)) masks lanes_test ∙ engine-eq)

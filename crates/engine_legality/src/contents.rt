@@ -9,14 +9,10 @@ pub fn contents_agree(m: &[u32]) -> bool
     if m.len() < words::CONTENTS_LENGTH {
         return false;
     }
-    let z = words::Sizes::read(m);
-    if !z.fit() {
+    let Ok(z) = words::Sizes::try_from(words::NamedSizes::read(m)) else {
         return false;
-    }
+    };
     let mut own = [0u32; words::CONTENTS_LENGTH];
     words::contents::write(&mut own, z);
-    if !m.starts_with(&own) {
-        return false;
-    }
-    words::contents::bodies_of(z).total as usize <= m.len()
+    m.starts_with(&own) && words::contents::bodies_of(z).total as usize <= m.len()
 }

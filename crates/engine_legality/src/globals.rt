@@ -19,15 +19,12 @@ pub fn fits_in(word: u32, bits: u32) -> bool
 }
 
 // A mask of this width is in range, and its bit of the mask above is set exactly when it is not 0.
+#[tactic(auto, unfolding(crate::specs::LaneSentences::mask_fits))]
 fn mask_fits(mask: u32, bit: bool, width: u32) -> bool
     requires { width < wordWidth }
     ensures { result ≡ mask_fits width mask bit }
 {
-    if bit {
-        fits_in(mask, width) & (0 < mask)
-    } else {
-        fits_in(mask, width) & (mask == 0)
-    }
+    fits_in(mask, width) & (bit == (mask != 0))
 }
 
 // A group of masks of this width, the first of them at `first`, below the mask `bits`.
@@ -58,19 +55,18 @@ fn cabinets_fit(m: &[u32], z: words::Sizes) -> bool
 }
 
 // "masks are in range", the yard mask apart, and each bit "set exactly when the mask below it is not 0".
+#[tactic(auto, unfolding(crate::specs::LaneSentences::all_masks))]
 pub fn masks_fit(m: &[u32], z: words::Sizes) -> bool
     requires { Lent m.now (sizes_of z) }
     ensures { result ≡ all_masks m.now z.yards z.cabinets z.places (yards_body (sizes_of z)) }
 {
     let yards = z.yards_start();
-    if !group_fits(m, m[words::YARD_MASK_AT], yards, z.yards, z.cabinets) {
-        return false;
-    }
-    cabinets_fit(m, z)
+    group_fits(m, m[words::YARD_MASK_AT], yards, z.yards, z.cabinets) && cabinets_fit(m, z)
 }
 
 // The global words: "masks are in range" of the yard mask, the largest generation and the global
 // queues' generation. Chain heads and the ends of the global queues are the walks' to test.
+#[tactic(auto, unfolding(crate::specs::LaneSentences::global_words_fit))]
 pub fn global_words_fit(m: &[u32], z: words::Sizes) -> bool
     requires { Lent m.now (sizes_of z) }
     ensures { result ≡ global_words_fit m.now z.yards z.slots }

@@ -17,12 +17,6 @@ pub fn engine_fits(m: &[u32]) -> bool
     requires { Lent m.now (sizes m.now) }
     ensures { result ≡ engine_legal m.now }
 {
-    let z = words::Sizes::read(m);
-    if !globals::global_words_fit(m, z) {
-        return false;
-    }
-    if !globals::masks_fit(m, z) {
-        return false;
-    }
-    lanes::lanes_fit(m, z)
+    let z = words::NamedSizes::read(m).of_table();
+    globals::global_words_fit(m, z) && globals::masks_fit(m, z) && lanes::lanes_fit(m, z)
 }

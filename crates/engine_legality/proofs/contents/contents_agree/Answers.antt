@@ -1,24 +1,22 @@
 -- A law for each way out: too few words, sizes out of range, other contents, or the total decides.
-use borrow.Author.Tests.{not-true}
-use Rattle.words.proofs.LentLaws.{few-tested}
-use borrow.Author.Rules.{rules}
+use Rattle.std.proofs.Common.{rules}
 use Rattle.engine_legality.proofs.ContentsLaws.{contents-short, contents-unsized, contents-other, contents-decided}
 use Rattle.engine_legality.proofs.contents.contents_agree.Goals as goal
 
 pub returns-then-m-lt-CONTENTS_LENGTH : goal.returns-then-m-lt-CONTENTS_LENGTH
 returns-then-m-lt-CONTENTS_LENGTH c = search (rules, contents-short)
 
-pub returns-then-not-fit : goal.returns-then-not-fit
-returns-then-not-fit c = search (rules, contents-unsized, not-true)
+pub returns-in_default : goal.returns-in_default
+returns-in_default c = search (rules, contents-unsized)
 
-pub write-requires : goal.write-requires
-write-requires c = search (rules, few-tested)
+pub returns-then-starts_with : goal.returns-then-starts_with
+returns-then-starts_with c =
+    let ok = c.in-Ok.ensures in
+    contents-decided _ c.if-m-lt-CONTENTS_LENGTH.false _ c.read.ensures _ ok.0 ok.1 _ c.write.ensures
+    _ c.starts_with.ensures.value c.if-starts_with.true _ c.bodies_of.ensures.total
 
-pub returns-then-not-starts_with : goal.returns-then-not-starts_with
-returns-then-not-starts_with c = search (rules, contents-other)
-
-pub bodies_of-requires : goal.bodies_of-requires
-bodies_of-requires c = search (rules, few-tested)
-
-pub returns : goal.returns
-returns c = search (rules, contents-decided)
+pub returns-else-starts_with : goal.returns-else-starts_with
+returns-else-starts_with c =
+    let ok = c.in-Ok.ensures in
+    contents-other _ c.if-m-lt-CONTENTS_LENGTH.false _ c.read.ensures _ ok.0 ok.1 _ c.write.ensures
+    _ c.starts_with.ensures.value c.if-starts_with.false
