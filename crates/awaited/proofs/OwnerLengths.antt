@@ -76,11 +76,13 @@ queued_in-sum (l ∷ ls) = ap (λ (n : ℕ). queued l.queues + n) (queued_in-sum
 abbrev lane_slots : List ℕ → ℕ → ℕ
 lane_slots m i = owner_length m (lane_address (sizes m) i + queues_at)
 
--- the lanes before i have n slots, and the words of the queues of lane i stand from e on
-pub record LanesCounted (m : List ℕ) (e n i : ℕ) : Type 0 where
-  pub ends : e ≡ lane_address (sizes m) i + queues_at
+-- the lanes before i have n slots
+pub record LanesCounted (m : List ℕ) (i n : ℕ) : Type 0 where
   pub so_far : Summed (lane_slots m) (lane_count (sizes m)) i n
   pub few : n ≤ owner_most * i
+
+pub lanes_start : (m : List ℕ) → LanesCounted m 0 0
+lanes_start m = record { so_far = summed-start _ _; few = omega arith }
 
 -- ---- by the sizes that were read
 
@@ -88,11 +90,29 @@ module _ (m : List ℕ) (z : Sizes) (k : TableIn m z) where
   pub global-at : OwnerAt m global_queues_at
   global-at = let g = global-owned m k.sound in record { inside = omega (arith, k.lent.long); few = omega (arith, g.is, g.few) }
 
-  lane-at : (i : ℕ) → i < lane_count (sizes m) → (e : ℕ) → e ≡ lane_address (sizes m) i + queues_at → OwnerAt m e
-  lane-at i h e d =
-      let g = lane-owned m k.sound i h in
-      let l : total (sizes m) ≤ length m = rw k.sizes at k.lent.long in
-      record { inside = omega (arith, l); few = rw d (omega (arith, g.is, g.few)) }
+  -- lane i of b, whose record stands at a
+  module _ (b i a : ℕ) (eb : b ≡ lane_count (sizes_of z)) (h : i < b) (ea : a ≡ lane_address (sizes_of z) i) where
+    known : i < lane_count (sizes m)
+    known = let e : b ≡ lane_count (sizes m) = rw k.sizes at eb in omega arith
+
+    place : a + queues_at ≡ lane_address (sizes m) i + queues_at
+    place = ap (λ (x : ℕ). x + queues_at) (rw k.sizes at ea)
+
+    pub lane-at : OwnerAt m (a + queues_at)
+    lane-at =
+        let g = lane-owned m k.sound i known in
+        let l : total (sizes m) ≤ length m = rw k.sizes at k.lent.long in
+        record { inside = omega (arith, place, l, known); few = rw place (omega (arith, g.is, g.few)) }
+
+    module _ (n v : ℕ) (c : LanesCounted m i n) (ev : v ≡ owner_length m (a + queues_at)) where
+      pub lanes_fit : n + v < word_limit
+      lanes_fit = omega (arith, c.few, ev, lane-at.few, known, (in_range m k.sound).few_lanes)
+
+      pub lanes_on : LanesCounted m (i + 1) (n + v)
+      lanes_on = record {
+        so_far = summed-on _ _ i n c.so_far known v (ev ∙ ap (owner_length m) place);
+        few = omega (arith, c.few, ev, lane-at.few);
+      }
 
   lanes-shown : sum_below (lane_slots m) (lane_count (sizes m)) ≡ queued_in (state m).engine.lanes
   unfolding state
@@ -101,34 +121,12 @@ module _ (m : List ℕ) (z : Sizes) (k : TableIn m z) where
       (λ i h. (lane-owned m k.sound i h).is ∙ ap (λ (l : Lane). queued l.queues) (state-lane m i h))
       ∙ sym (queued_in-sum (state m).engine.lanes ∙ sum-of-map (λ (l : Lane). queued l.queues) (read_lane m) (from 0 (lane_count (sizes m))))
 
-  pub lanes_start : (a : ℕ) → a ≡ lane_address (sizes_of z) 0 → LanesCounted m (a + queues_at) 0 0
-  lanes_start a e =
-      let d : a ≡ lane_address (sizes m) 0 = rw k.sizes at e in
-      record { ends = omega (arith, d); so_far = summed-start _ _; few = omega arith }
-
-  -- lane by lane, of b lanes
-  module _ (b e n i : ℕ) (eb : b ≡ lane_count (sizes_of z)) (c : LanesCounted m e n i) where
-    lanes-are : b ≡ lane_count (sizes m)
-    lanes-are = rw k.sizes at eb
-
-    pub lanes_next : i < b → OwnerAt m e
-    lanes_next h = lane-at i (omega (arith, lanes-are)) e c.ends
-
-    pub lanes_small : i < b → e + lane_length < word_limit
-    lanes_small h = omega (arith, c.ends, lanes-are, (in_range m k.sound).all_cabinets, (in_range m k.sound).few_lanes)
-
-    pub lanes_on : i < b → (v : ℕ) → v ≡ owner_length m e → LanesCounted m (e + lane_length) (n + v) (i + 1)
-    lanes_on h v ev = record {
-      ends = omega (arith, c.ends);
-      so_far = summed-on _ _ i n c.so_far (omega (arith, lanes-are)) v (ev ∙ ap (owner_length m) c.ends);
-      few = omega (arith, c.few, ev, (lanes_next h).few);
-    }
-
-    pub lanes-done : b ≤ i → n ≡ queued_in (state m).engine.lanes
-    lanes-done h = summed-done _ _ i n c.so_far (omega (arith, lanes-are)) ∙ lanes-shown
+  -- all b lanes
+  pub lanes-done : (b i n : ℕ) → b ≡ lane_count (sizes_of z) → b ≤ i → LanesCounted m i n → n ≡ queued_in (state m).engine.lanes
+  lanes-done b i n eb h c = let e : b ≡ lane_count (sizes m) = rw k.sizes at eb in summed-done _ _ i n c.so_far (omega arith) ∙ lanes-shown
 
   lanes-few : sum_below (lane_slots m) (lane_count (sizes m)) ≤ owner_most * lane_count (sizes m)
-  lanes-few = sum_below-few (lane_slots m) owner_most (lane_count (sizes m)) (λ i h. (lane-at i h _ refl).few)
+  lanes-few = sum_below-few (lane_slots m) owner_most (lane_count (sizes m)) (λ i h. let g = lane-owned m k.sound i h in omega (arith, g.is, g.few))
 
   -- what the owners have, as it was counted
   module _ (g q : ℕ) (eg : g ≡ owner_length m global_queues_at) (eq : q ≡ queued_in (state m).engine.lanes) where

@@ -1,26 +1,30 @@
 -- The pending lanes by the words of a legal memory: their count, and the lowest of them.
-use Prim.Native.Nat.{ℕ, ◌+◌, ◌*◌, ◌≤◌, ◌<◌}
-use mathlib.Core.Path.{◌≡◌, ap, ap₂, sym, ◌∙◌}
+use Prim.Native.Nat.{ℕ, ◌+◌, ◌-◌, ◌*◌, ◌≤◌, ◌<◌}
+use mathlib.Core.Path.{◌≡◌, refl, ap, ap₂, sym, ◌∙◌}
 use mathlib.Core.Bool.{Bool, true, false, not}
-use mathlib.Core.List.{List, [], ◌∷◌}
+use mathlib.Core.List.{List, [], ◌∷◌, map}
 use native.Mathlib.Omega.{arith}
 use native.Mathlib.Nat.{le_of_lt, mul-le-mul_right}
-use lib.ListN.{length, get_or}
+use lib.ListN.{length, get_or, take, drop}
 use lib.Arith.{digits_lt}
 use lib.Count.{ones, count_trailing_zeros}
 use lib.Dec.{eqb}
 use borrow.Author.Tests.{eq-eqb, ne_eqb, not-true, not-false}
-use Rattle.model.specs.Word.{none}
-use Rattle.model.specs.Lists.{bit, first}
+use Rattle.std.specs.List.{sum_by}
+use Rattle.std.proofs.lemmas.List.{length-take, length-drop, get_or-take, get_or-drop}
+use Rattle.std.proofs.lemmas.List.Sums.{sum_by-cons}
+use Rattle.model.specs.Word.{none, word_limit}
+use Rattle.model.specs.Lists.{bit, first, from}
 use Rattle.model.specs.State.{cabinet_count, lane_count, State}
 use Rattle.model.specs.Layout.{masks_at, yard_mask_at, yards_body}
 use Rattle.model.specs.Engine.{runs}
 use Rattle.model.specs.Rules.{pending_from}
 use Rattle.model.specs.Memory.{at, flag, contents, mask_word, yard_word, is_not_zero, group_mask, standing, sizes, state}
 use Rattle.model.specs.Memory.{cabinet_bit, yard_bit, lane_mask, cabinet_mask, yard_mask}
-use Rattle.laws.specs.ListLaws.{length-map-from, get_or-map-below}
+use Rattle.laws.specs.ListLaws.{length-map-from, get_or-map-below, map-from-get_or}
+use Rattle.laws.specs.Sums.{sum, sum-of-map}
 use Rattle.laws.specs.Masks.{some}
-use Rattle.laws.specs.Loops.{sum_below, sum_below-alike, Summed, summed-start, summed-on, summed-done}
+use Rattle.laws.specs.Loops.{sum_below, sum_below-alike, sum_below-few}
 use Rattle.laws.specs.MaskFlags.{trues, first_true, first_true-lt, get_or-first_true}
 use Rattle.laws.specs.MaskTree.{group, standing-some, lowest}
 use Rattle.masks.specs.Bits.{width, bits}
@@ -92,19 +96,31 @@ module _ (w : ℕ) (f : ℕ → Bool) (g : ℕ) (fits : w ≤ width) (h : standi
 abbrev pending_of : List ℕ → ℕ → ℕ
 pending_of m c = trues (bits (mask_word m c))
 
-pending-few : (m : List ℕ) (c : ℕ) → pending_of m c ≤ width
-pending-few m c = omega (arith, trues-le (bits (mask_word m c)), length-bits (mask_word m c))
+mask-few : (m : List ℕ) (c : ℕ) → pending_of m c ≤ width
+mask-few m c = omega (arith, trues-le (bits (mask_word m c)), length-bits (mask_word m c))
 
--- n lanes of the cabinets before c are pending, of b cabinets
-pub record MasksCounted (m : List ℕ) (b c n : ℕ) : Type 0 where
-  pub so_far : Summed (pending_of m) b c n
-  pub few : n ≤ width * c
+-- of the first n lane masks
+sum_by-sum : (f : ℕ → ℕ) (xs : List ℕ) → sum_by f xs ≡ sum f xs
+sum_by-sum f [] = refl
+sum_by-sum f (x ∷ xs) = sum_by-cons f x xs ∙ ap (λ (n : ℕ). f x + n) (sum_by-sum f xs)
 
-pub masks-start : (m : List ℕ) (b : ℕ) → MasksCounted m b 0 0
-masks-start m b = record { so_far = summed-start _ _; few = omega arith }
+abbrev masks_of : List ℕ → ℕ → List ℕ
+masks_of m n = take (masks_at + n - masks_at) (drop masks_at m)
 
-pub masks-on : (m : List ℕ) (b c n : ℕ) → MasksCounted m b c n → c < b → (v : ℕ) → v ≡ pending_of m c → MasksCounted m b (c + 1) (n + v)
-masks-on m b c n k h v e = record { so_far = summed-on _ _ c n k.so_far h v e; few = omega (arith, k.few, e, pending-few m c) }
+masks-are : (m : List ℕ) (n : ℕ) → masks_at + n ≤ length m → masks_of m n ≡ map (mask_word m) (from 0 n)
+masks-are m n h =
+    let part = drop masks_at m in
+    sym (map-from-get_or (mask_word m) 0 (masks_of m n) n (omega (arith, length-take (masks_at + n - masks_at) part, length-drop masks_at m))
+    (λ i b. sym (get_or-take (masks_at + n - masks_at) part i 0 (omega arith) ∙ get_or-drop masks_at m i 0)))
+
+abbrev pending_in : List ℕ → ℕ
+pending_in = sum_by (λ (w : ℕ). trues (bits w))
+
+masks-sum : (m : List ℕ) (n : ℕ) → masks_at + n ≤ length m → pending_in (masks_of m n) ≡ sum_below (pending_of m) n
+masks-sum m n h =
+    sum_by-sum _ (masks_of m n)
+    ∙ ap (sum (λ (w : ℕ). trues (bits w))) (masks-are m n h)
+    ∙ sum-of-map (λ (w : ℕ). trues (bits w)) (mask_word m) (from 0 n)
 
 module _ (m : List ℕ) (z : Sizes) (table : TableIn m z) where
   abbrev s : State
@@ -133,14 +149,26 @@ module _ (m : List ℕ) (z : Sizes) (table : TableIn m z) where
   unfolding state contents
   yards-shown = (shown m v).image (top yard_mask_at) (omega arith)
 
-  pub masks-done : (b c n k : ℕ) → MasksCounted m b c n → b ≤ c → b ≡ k → k ≡ cabinet_count (sizes_of z) → n ≡ length pending
-  unfolding state
-  masks-done b c n k i h eb ek =
-      summed-done _ _ c n i.so_far h
-      ∙ ap (sum_below (pending_of m)) (eb ∙ ek ∙ ap (λ (y : Sizes). cabinet_count (sizes_of y)) table.sizes)
-      ∙ sum_below-alike (pending_of m) (λ (c : ℕ). ones (lane_mask s c)) (cabinet_count (sizes m))
-      (λ c h. sym (ones-trues (mask_word m c) (v.words (masks_at + c))) ∙ ap ones (mask-shown c h))
-      ∙ sym (awaited-count s lanes-each)
+  -- of b cabinets, as they were counted
+  module _ (b : ℕ) (eb : b ≡ cabinet_count (sizes_of z)) where
+    cabinets-are : b ≡ cabinet_count (sizes m)
+    cabinets-are = rw table.sizes at eb
+
+    masks-inside : masks_at + b ≤ length m
+    masks-inside = omega (arith, cabinets-are, long m v)
+
+    pub pending-few : pending_in (masks_of m b) < word_limit
+    pending-few =
+        omega (arith, masks-sum m b masks-inside, sum_below-few (pending_of m) width b (λ c h. mask-few m c), cabinets-are, (in_range m v).all_cabinets)
+
+    pub pending-shown : pending_in (masks_of m b) ≡ length pending
+    unfolding state
+    pending-shown =
+        masks-sum m b masks-inside
+        ∙ ap (sum_below (pending_of m)) cabinets-are
+        ∙ sum_below-alike (pending_of m) (λ (c : ℕ). ones (lane_mask s c)) (cabinet_count (sizes m))
+        (λ c h. sym (ones-trues (mask_word m c) (v.words (masks_at + c))) ∙ ap ones (mask-shown c h))
+        ∙ sym (awaited-count s lanes-each)
 
   runs-shown : eqb (at m yard_mask_at) 0 ≡ not (runs s.engine)
   runs-shown = ap (λ (w : ℕ). eqb w 0) yards-shown ∙ yard_mask-runs s lanes-each

@@ -20,14 +20,8 @@ fn pending_count(m: &[u32], z: words::Sizes) -> u32
     requires { TableIn m.now z }
     ensures { result ≡ length (pending_from 0 (state m.now).engine.lanes) }
 {
-    let cabinets = words::index(z.cabinet_count());
-    let mut n: u32 = 0;
-    let mut c: usize = 0;
-    while c < cabinets {
-        n = n + masks::ones(m[words::MASKS_AT + c]);
-        c = c + 1;
-    }
-    n
+    let cabinets = &m[words::MASKS_AT..words::MASKS_AT + z.cabinet_count() as usize];
+    cabinets.iter().map(|mask| masks::ones(*mask)).sum()
 }
 
 // The lowest set bit of a mask, number `group` of those that stand from `first` on, by its number among the bits of all.
@@ -35,7 +29,7 @@ fn lowest_in(m: &[u32], first: usize, group: u32, wide: u32) -> u32
     requires { MaskAt m.now first group wide }
     ensures { result ≡ lowest_in m.now first group wide }
 {
-    let place = masks::lowest(m[first + words::index(group)]);
+    let place = masks::lowest(m[first + group as usize]);
     group * wide + place
 }
 
@@ -71,14 +65,9 @@ fn lanes_length(m: &[u32], z: words::Sizes) -> u32
     requires { TableIn m.now z }
     ensures { result ≡ queued_in (state m.now).engine.lanes }
 {
-    let lanes = z.lane_count();
-    let mut ends = z.lane_address(0) + words::QUEUES_AT;
-    let mut n: u32 = 0;
-    let mut i: u32 = 0;
-    while i < lanes {
-        n = n + owner_length(m, ends);
-        ends = ends + words::LANE_LENGTH;
-        i = i + 1;
+    let mut n = 0;
+    for lane in 0..z.lane_count() {
+        n += owner_length(m, z.lane_address(lane) + words::QUEUES_AT);
     }
     n
 }

@@ -10,6 +10,8 @@ use lib.ListN.{length, get_or, drop, drop_of_length-le}
 use lib.Seq.{drop-cons}
 use lib.Dec.{leb, eqb}
 use borrow.Author.Tests.{leb-true, eqb-true, not-false}
+use Rattle.std.specs.List.{list_any}
+use Rattle.std.proofs.lemmas.List.Recursion.{same_from_clauses}
 use Rattle.model.specs.Lists.{any}
 use Rattle.model.specs.Digits.{ten, number_from, digit_zero, digit_nine, is_digit, digit_of}
 use Rattle.model.specs.CheckDigit.{code_digits}
@@ -56,6 +58,15 @@ module _ (text : List ℕ) where
   pub same_length : is_label_length (length text) ≡ true → any no_digit text ≡ no_label text
   unfolding no_label
   same_length h = sym (ap (λ (b : Bool). not b || any no_digit text) h)
+
+  -- by the test b of the length, and the library's of the bytes
+  module _ (b : Bool) (e : b ≡ is_label_length (length text)) where
+    pub no-length : b ≡ false → not b ≡ no_label text
+    no-length t = ap not t ∙ other_length (sym e ∙ t)
+
+    pub by-bytes : b ≡ true → list_any no_digit text ≡ no_label text
+    unfolding any
+    by-bytes t = same_from_clauses (list_any no_digit) (any no_digit) (λ b r. no_digit b || r) refl (λ _ _. refl) (λ _ _. refl) text ∙ same_length (sym e ∙ t)
 
 module _ (text : List ℕ) (label : no_label text ≡ false) where
   pub label-length : is_label_length (length text) ≡ true

@@ -3,9 +3,9 @@
 use Prim.Native.Nat.{ℕ, suc, ◌-◌, ◌/◌, ◌%◌, ◌^◌, ◌≤◌, ◌<◌}
 use mathlib.Core.Path.{◌≡◌, refl, ap, sym, ◌∙◌}
 use mathlib.Core.Bool.{Bool, true, false, cond}
-use mathlib.Core.List.{List, [], ◌∷◌, ◌++◌, map, map-append}
+use mathlib.Core.List.{List, [], ◌∷◌, ◌++◌, map, map-append, append-nil}
 use native.Mathlib.Omega.{arith}
-use lib.ListN.{length, drop, set, length-set}
+use lib.ListN.{length, take, drop, set, length-set, length-take, drop_of_length-le}
 use lib.Seq.{drop-cons, drop-set-lt, get_or-set_same, append_snoc}
 use lib.Dec.{ltb}
 use borrow.Author.Tests.{lt-ltb, le-ltb, ltb-false}
@@ -24,16 +24,8 @@ use Rattle.labels.specs.Writing.{Writes}
 abbrev pub put_into : List ℕ → ℕ → ℕ → List ℕ
 put_into text n code = map byte_of (digits n code) ++ drop n text
 
--- of the text, which was lent so long, `now` is made; the last `left` digits of rest are still to be put
-pub record Putting (text : List ℕ) (n code : ℕ) (now : List ℕ) (rest left : ℕ) : Type 0 where
-  pub size : length now ≡ length text
-  pub inside : left ≤ length text
-  pub whole : put_into now left rest ≡ put_into text n code
-
-pub putting-start : (text : List ℕ) (n code : ℕ) → n ≤ length text → Putting text n code text code n
-putting-start text n code h = record { size = refl; inside = h; whole = refl }
-
-module _ (text : List ℕ) (n code : ℕ) (now : List ℕ) (rest left : ℕ) (k : Putting text n code now rest left) where
+-- in `now` the last `left` digits of rest are still to be put; `wanted` is what it becomes
+module _ (now wanted : List ℕ) (rest left : ℕ) (k : put_into now left rest ≡ wanted) where
   -- the last of the digits that are left goes to its byte
   put_one : (j : ℕ) → j < length now → put_into (set now j (byte_of (rest % ten))) j (rest / ten) ≡ put_into now (suc j) rest
   unfolding digits
@@ -53,18 +45,18 @@ module _ (text : List ℕ) (n code : ℕ) (now : List ℕ) (rest left : ℕ) (k 
       one : put_into now (suc j) rest ≡ (front ++ b ∷ []) ++ drop (suc j) now
       one = ap (λ (l : List ℕ). l ++ drop (suc j) now) (map-append byte_of (digits j (rest / ten)) (rest % ten ∷ []))
 
-  pub putting-on : 0 < left → Putting text n code (set now (left - 1) (byte_of (rest % ten))) (rest / ten) (left - 1)
-  putting-on h =
-      let e : suc (left - 1) ≡ left = omega arith in
-      record {
-        size = length-set now (left - 1) (byte_of (rest % ten)) ∙ k.size;
-        inside = omega (arith, k.inside);
-        whole = put_one (left - 1) (omega (arith, k.size, k.inside)) ∙ ap (λ (j : ℕ). put_into now j rest) e ∙ k.whole;
-      }
+  pub putting-on : 0 < left → left ≤ length now → put_into (set now (left - 1) (byte_of (rest % ten))) (left - 1) (rest / ten) ≡ wanted
+  putting-on h l = let e : suc (left - 1) ≡ left = omega arith in put_one (left - 1) (omega arith) ∙ ap (λ (j : ℕ). put_into now j rest) e ∙ k
 
-  pub putting-done : left ≤ 0 → now ≡ put_into text n code
+  pub putting-done : left ≤ 0 → now ≡ wanted
   unfolding digits
-  putting-done h = let e : left ≡ 0 = omega arith in sym (ap (λ (j : ℕ). put_into now j rest) e) ∙ k.whole
+  putting-done h = let e : left ≡ 0 = omega arith in sym (ap (λ (j : ℕ). put_into now j rest) e) ∙ k
+
+-- all digits are to be put
+pub put-whole : (text : List ℕ) (code : ℕ) → put_into text (length text) code ≡ map byte_of (digits (length text) code)
+put-whole text code =
+    ap (λ (l : List ℕ). map byte_of (digits (length text) code) ++ l) (drop_of_length-le text {i = length text} (omega arith))
+    ∙ append-nil (map byte_of (digits (length text) code))
 
 -- ---- the writer's length
 
@@ -118,8 +110,10 @@ module _ (text : List ℕ) (c : ℕ) where
           let short = lt-ltb (length text) (label_length c) (omega arith) in
           record { answer = q ∙ rw (le-ltb max_code c h, short); text = rw (le-ltb max_code c h, short) }
 
-      pub write-put : n ≤ length text → (after : List ℕ) → after ≡ put_into text n c → five r ≡ accepted n 0 0 0 → Writes text c r after
+      pub write-put : n ≤ length text → (part : List ℕ) → part ≡ map byte_of (digits (length (take n text)) c) → five r ≡ accepted n 0 0 0
+          → Writes text c r (part ++ drop n text)
       unfolding write_reply written write_reply_of written_of label_text
-      write-put k after p q =
+      write-put k part p q =
           let none = fits h (omega arith) in
-          record { answer = q ∙ rw (none, e); text = p ∙ rw (none, e) }
+          let l : length (take n text) ≡ n = omega (arith, length-take n text) in
+          record { answer = q ∙ rw (none, e); text = rw (p, l, none, e) }

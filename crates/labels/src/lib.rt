@@ -22,56 +22,19 @@ const PAST_8: u64 = 100000000;
 
 const PAST_13: u64 = 10000000000000;
 
-const TEN: u64 = 10;
-
-const ZERO: u8 = b'0';
-
-const NINE: u8 = b'9';
-
 // ---- the reader
 
 fn is_label_length(n: usize) -> bool
     ensures { result ≡ is_label_length n }
 {
-    ((n == GTIN_8) | (n == GTIN_13)) | (n == GTIN_14)
-}
-
-fn is_no_digit(b: u8) -> bool
-    ensures { result ≡ no_digit b }
-{
-    !((ZERO <= b) & (b <= NINE))
-}
-
-// The digit of a byte.
-fn digit_of(b: u8) -> u64
-    requires { no_digit b ≡ false }
-    ensures { result ≡ digit_of b }
-{
-    (b - ZERO) as u64
-}
-
-// Whether some byte is no ASCII digit.
-fn has_other_byte(text: &[u8]) -> bool
-    ensures { result ≡ any no_digit text.now }
-{
-    let mut i: usize = 0;
-    while i < text.len() {
-        if is_no_digit(text[i]) {
-            return true;
-        }
-        i = i + 1;
-    }
-    false
+    matches!(n, GTIN_8 | GTIN_13 | GTIN_14)
 }
 
 // Of another length, or with a byte that is no ASCII digit. A text of another length is not read.
 fn is_no_label(text: &[u8]) -> bool
     ensures { result ≡ no_label text.now }
 {
-    if !is_label_length(text.len()) {
-        return true;
-    }
-    has_other_byte(text)
+    !is_label_length(text.len()) || text.iter().any(|b| !b.is_ascii_digit())
 }
 
 // The code of a label.
@@ -79,11 +42,9 @@ fn code_of(text: &[u8]) -> u64
     requires { no_label text.now ≡ false }
     ensures { result ≡ label_code text.now }
 {
-    let mut code: u64 = 0;
-    let mut i: usize = 0;
-    while i < text.len() {
-        code = code * TEN + digit_of(text[i]);
-        i = i + 1;
+    let mut code = 0;
+    for b in text {
+        code = code * 10 + u64::from(*b - b'0');
     }
     code
 }
@@ -107,26 +68,21 @@ pub fn read(text: &[u8]) -> access::Answer
 fn length_of(code: u64) -> usize
     ensures { result ≡ label_length code }
 {
-    if code < PAST_8 {
-        return GTIN_8;
+    match code {
+        0..PAST_8 => GTIN_8,
+        PAST_8..PAST_13 => GTIN_13,
+        _ => GTIN_14,
     }
-    if code < PAST_13 {
-        return GTIN_13;
-    }
-    GTIN_14
 }
 
-// The last n digits of a code into the first n bytes, from the right.
-fn put_digits(text: &mut [u8], n: usize, code: u64)
-    requires { n ≤ length text.old }
-    ensures { text.new ≡ map byte_of (digits n code) ++ drop n text.old }
+// The last digits of a code into a text, from the right.
+fn put_digits(text: &mut [u8], code: u64)
+    ensures { text.new ≡ map byte_of (digits (length text.old) code) }
 {
     let mut rest = code;
-    let mut left = n;
-    while left > 0 {
-        left = left - 1;
-        text[left] = (rest % TEN) as u8 + ZERO;
-        rest = rest / TEN;
+    for i in (0..text.len()).rev() {
+        text[i] = (rest % 10) as u8 + b'0';
+        rest /= 10;
     }
 }
 
@@ -141,6 +97,6 @@ pub fn write(text: &mut [u8], code: u64) -> access::Answer
     if text.len() < n {
         return access::refused(causes::WRONG_LABEL);
     }
-    put_digits(text, n, code);
+    put_digits(&mut text[..n], code);
     access::accepted(n as u32, 0, 0, 0)
 }

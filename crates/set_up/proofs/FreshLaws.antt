@@ -9,7 +9,7 @@ use borrow.Author.Tests.{lt-ltb, le-ltb}
 use Rattle.model.specs.Word.{none}
 use Rattle.model.specs.Lists.{first, last, from, successor, successor_in}
 use Rattle.model.specs.State.{Sizes, cabinet_count, lane_count, Lane}
-use Rattle.model.specs.Layout.{chain_count, total, contents_length, global_body, global_length, masks_at, lane_length, slot_length, slots_body, yards_body}
+use Rattle.model.specs.Layout.{chain_count, total, contents_length, global_body, global_length, masks_at, lane_length, lanes_body, slot_length, slots_body, yards_body}
 use Rattle.model.specs.Engine.{fresh_lane, lane_at}
 use Rattle.model.specs.Table.{blank, link_of}
 use Rattle.model.specs.Rules.{fresh}
@@ -144,19 +144,18 @@ set-up-done {m} {n} z w h =
     let e : length (words (fresh z)) ≡ total z = length-words (fresh z) in
     written-front w (omega arith) ∙ ap (λ (k : ℕ). words (fresh z) ++ drop k m) e
 
--- the bodies, written one after another: the numbers of lane masks, of lanes and of cabinet masks, and where the slots and the cabinet masks begin
-pub all-written : {m n₁ n₂ n₃ n₄ n₅ n₆ : List ℕ} (z : Sizes) (masks records yards first_slot first_yard : ℕ)
-    → masks ≡ cabinet_count z → records ≡ lane_count z → yards ≡ z.yards → first_slot ≡ slots_body z → first_yard ≡ yards_body z
+-- the bodies, written one after another: the number of lane masks as it was counted, and where the cabinet masks begin
+pub all-written : {m n₁ n₂ n₃ n₄ n₅ n₆ : List ℕ} (z : Sizes) (masks first_yard : ℕ) → masks ≡ cabinet_count z → first_yard ≡ yards_body z
     → 1 ≤ z.slots → total z ≤ length m
     → Written m 0 (contents z) n₁
     → Written n₁ global_body (fresh_global z.slots) n₂
     → Written n₂ masks_at (replicate masks 0) n₃
-    → Written n₃ (masks_at + masks) (rows fresh_lane_words records) n₄
-    → Written n₄ first_slot (rows (fresh_slot_words z.slots) z.slots) n₅
-    → Written n₅ first_yard (replicate yards 0) n₆
+    → Written n₃ (lanes_body z) (rows fresh_lane_words (lane_count z)) n₄
+    → Written n₄ (slots_body z) (rows (fresh_slot_words z.slots) z.slots) n₅
+    → Written n₅ first_yard (replicate z.yards 0) n₆
     → n₆ ≡ stored (fresh z) m
-all-written z masks records yards first_slot first_yard e f g es ey some long w₁ w₂ w₃ w₄ w₅ w₆ =
-    set-up-done z (renamed (after (after (after (after (after w₁ w₂ l₁) w₃ l₂) w₄ l₃) w₅ l₄) w₆ l₅) (rw (e, f, g) (fresh-words z some))) long
+all-written z masks first_yard e ey some long w₁ w₂ w₃ w₄ w₅ w₆ =
+    set-up-done z (renamed (after (after (after (after (after w₁ w₂ l₁) w₃ l₂) w₄ l₃) w₅ l₄) w₆ l₅) (rw e (fresh-words z some))) long
   where
     l₁ : global_body ≡ 0 + length (contents z)
     l₁ = omega (arith, length-contents z)
@@ -164,19 +163,21 @@ all-written z masks records yards first_slot first_yard e f g es ey some long w�
     l₂ : masks_at ≡ 0 + length (contents z ++ fresh_global z.slots)
     l₂ = omega (arith, length-contents z, length-global z.slots, length-append (contents z) (fresh_global z.slots))
 
-    l₃ : masks_at + masks ≡ 0 + length (contents z ++ fresh_global z.slots ++ replicate masks 0)
-    l₃ = omega (arith, l₂, length-append (contents z ++ fresh_global z.slots) (replicate masks 0), length-replicate {A = ℕ} masks 0)
+    l₃ : lanes_body z ≡ 0 + length (contents z ++ fresh_global z.slots ++ replicate masks 0)
+    l₃ = omega (arith, e, l₂, length-append (contents z ++ fresh_global z.slots) (replicate masks 0), length-replicate {A = ℕ} masks 0)
 
-    up_to_lanes : List ℕ
-    up_to_lanes = contents z ++ fresh_global z.slots ++ replicate masks 0 ++ rows fresh_lane_words records
+    lanes : List ℕ
+    lanes = rows fresh_lane_words (lane_count z)
 
-    l₄ : first_slot ≡ 0 + length up_to_lanes
+    l₄ : slots_body z ≡ 0 + length (contents z ++ fresh_global z.slots ++ replicate masks 0 ++ lanes)
     l₄ =
-        let front = length-append (contents z ++ fresh_global z.slots ++ replicate masks 0) (rows fresh_lane_words records) in
-        omega (arith, l₃, front, length-rows fresh_lane_words lane_length records length-lane)
+        let front = length-append (contents z ++ fresh_global z.slots ++ replicate masks 0) lanes in
+        omega (arith, l₃, front, length-rows fresh_lane_words lane_length (lane_count z) length-lane)
 
     slots : List ℕ
     slots = rows (fresh_slot_words z.slots) z.slots
 
-    l₅ : first_yard ≡ 0 + length (up_to_lanes ++ slots)
-    l₅ = omega (arith, l₄, length-append up_to_lanes slots, length-rows (fresh_slot_words z.slots) slot_length z.slots (length-slot z.slots))
+    l₅ : first_yard ≡ 0 + length (contents z ++ fresh_global z.slots ++ replicate masks 0 ++ lanes ++ slots)
+    l₅ =
+        let front = length-append (contents z ++ fresh_global z.slots ++ replicate masks 0 ++ lanes) slots in
+        omega (arith, ey, l₄, front, length-rows (fresh_slot_words z.slots) slot_length z.slots (length-slot z.slots))

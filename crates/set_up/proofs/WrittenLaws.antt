@@ -1,17 +1,18 @@
 -- Runs written one after another, or one within the other, and rows: two runs that meet are one.
 use Prim.Native.Nat.{ℕ, zero, suc, ◌+◌, ◌*◌, ◌≤◌}
-use mathlib.Core.Path.{◌≡◌, refl, ap, sym, ◌∙◌}
+use mathlib.Core.Path.{◌≡◌, refl, ap, ap₂, sym, ◌∙◌}
 use mathlib.Core.List.{List, [], ◌∷◌, ◌++◌, append-nil, append_assoc}
 use native.Mathlib.Omega.{arith}
 use native.Mathlib.Nat.{mul-suc}
-use lib.ListN.{length, set, drop, replicate, length-append, replicate-append-replicate}
+use lib.ListN.{length, set, take, drop, replicate, length-append, length-replicate}
 use lib.Seq.{sets, sets-eq}
+use borrow.Rule.Slice.PartMut.{put_mid}
+use Rattle.std.proofs.lemmas.Grind.{common_steps}
+use Rattle.std.proofs.lemmas.List.{take_all}
+use Rattle.std.proofs.lemmas.Slice.{put_mid-paste}
 use Rattle.model.specs.Lists.{concat_map, from}
 use Rattle.laws.specs.Stores.{sets-append, sets-sets}
 use Rattle.set_up.specs.Written.{Written, rows}
-
-pub nothing : (m : List ℕ) (a : ℕ) → Written m a [] m
-nothing m a = record { is = refl }
 
 pub store : (m : List ℕ) (a v : ℕ) → Written m a (v ∷ []) (set m a v)
 store m a v = record { is = refl }
@@ -35,10 +36,19 @@ written-front {m} {n} {ws} w h =
     let e : 0 + length ws ≡ length ws = omega arith in
     w.is ∙ sets-eq ws m 0 (omega arith) ∙ ap (λ (k : ℕ). ws ++ drop k m) e
 
--- ---- one word, again and again
-
-pub replicate-suc : (n v : ℕ) → replicate n v ++ (v ∷ []) ≡ replicate (n + 1) v
-replicate-suc n v = replicate-append-replicate n 1 v
+-- a part of k words, which is filled
+pub filled : (m w : List ℕ) (at n k v : ℕ) → at + n ≤ length m → k ≡ n → w ≡ replicate (length (take k (drop at m))) v
+    → Written m at (replicate n v) (put_mid at k m w)
+filled m w at n k v h e f =
+    let s = replicate n v in
+    let l : n ≡ length s = sym (length-replicate n v) in
+    let part : length (take k (drop at m)) ≡ n = grind (arith, common_steps) in
+    record {
+      is =
+          put_mid-paste at k m w s n (f ∙ ap (λ (j : ℕ). replicate j v) part) (sym e) l
+          ∙ ap₂ (λ (x : List ℕ) (j : ℕ). take at m ++ x ++ drop (at + j) m) (take_all n s (omega arith)) l
+          ∙ sym (sets-eq s m at (omega arith));
+    }
 
 -- ---- rows
 
@@ -62,6 +72,15 @@ length-rows f w n h = go 0 n
     go : (a n : ℕ) → length (concat_map f (from a n)) ≡ w * n
     go a zero = omega arith
     go a (suc n) = omega (arith, length-append (f a) (concat_map f (from (suc a) n)), go (suc a) n, h a, mul-suc w n)
+
+pub no-rows : (m : List ℕ) (a : ℕ) (f : ℕ → List ℕ) → Written m a (rows f 0) m
+unfolding concat_map from
+no-rows m a f = record { is = refl }
+
+-- row n, after those before it, each of w words
+pub next-row : {m n p : List ℕ} {a b : ℕ} (f : ℕ → List ℕ) (w i : ℕ) → ((i : ℕ) → length (f i) ≡ w)
+    → Written m a (rows f i) n → b ≡ a + w * i → Written n b (f i) p → Written m a (rows f (i + 1)) p
+next-row f w i l before e row = renamed (after before row (omega (arith, e, length-rows f w i l))) (rows-suc f i)
 
 pub rows_alike : (f g : ℕ → List ℕ) (n : ℕ) → ((i : ℕ) → suc i ≤ n → f i ≡ g i) → rows f n ≡ rows g n
 unfolding concat_map from

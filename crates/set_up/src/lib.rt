@@ -1,13 +1,14 @@
 // The call set-up: the words of a fresh table, written one body after another as runs of one word.
 #![tactic(auto)]
 
-ghost use Rattle.std.specs.Prelude.{◌≡◌, true, ◌+◌, ◌*◌, ◌≤◌, length, replicate};
-ghost use Rattle.model.specs.Layout.{queues_width, global_body, free_at, global_queues_at, masks_at, lane_length, slot_length, total};
+ghost use Rattle.std.specs.Prelude.{◌≡◌, true, ◌+◌, ◌≤◌, length, replicate};
+ghost use Rattle.model.specs.State.{lane_count};
+ghost use Rattle.model.specs.Layout.{queues_width, global_body, free_at, global_queues_at, masks_at, lane_length, lanes_body, slot_length, slots_body, yards_body, total};
 ghost use Rattle.model.specs.Rules.{fresh};
 ghost use Rattle.model.specs.Legal.{sizes_fit};
-ghost use Rattle.model.specs.Calls.{stored, set_up, sized};
+ghost use Rattle.model.specs.Calls.{stored, set_up};
 ghost use Rattle.set_up.specs.Written.{Written, rows};
-ghost use Rattle.words.specs.Lent.{sizes_of};
+ghost use Rattle.words.specs.Lent.{sizes_of, Few};
 ghost use Rattle.access.specs.Contract.{Does};
 ghost use Rattle.set_up.specs.FreshWords.{empty_queues, all_free, fresh_global, fresh_lane_words, link_after, fresh_slot_words};
 
@@ -24,11 +25,7 @@ fn fill(m: &mut [u32], at: usize, n: usize, v: u32)
     requires { at + n ≤ length m.old }
     ensures { Written m.old at (replicate n v) m.new }
 {
-    let mut i: usize = 0;
-    while i < n {
-        m[at + i] = v;
-        i = i + 1;
-    }
+    m[at..at + n].fill(v);
 }
 
 // Writes three empty queues from at on.
@@ -37,9 +34,9 @@ fn write_queues(m: &mut [u32], at: usize)
     ensures { Written m.old at empty_queues m.new }
 {
     fill(m, at, words::QUEUES_WIDTH, words::NONE);
-    fill(m, at + words::LENGTH_OFFSET, 1, 0);
-    fill(m, at + words::CURRENT_OFFSET + words::LENGTH_OFFSET, 1, 0);
-    fill(m, at + words::DONE_OFFSET + words::LENGTH_OFFSET, 1, 0);
+    m[at + words::LENGTH_OFFSET] = 0;
+    m[at + words::CURRENT_OFFSET + words::LENGTH_OFFSET] = 0;
+    m[at + words::DONE_OFFSET + words::LENGTH_OFFSET] = 0;
 }
 
 // Writes the words of the free queue, which has all slots.
@@ -47,9 +44,9 @@ fn write_free(m: &mut [u32], slots: u32)
     requires { (global_queues_at ≤ length m.old) × (1 ≤ slots) }
     ensures { Written m.old free_at (all_free slots) m.new }
 {
-    fill(m, words::FREE_AT, 1, 0);
-    fill(m, words::FREE_AT + words::LAST_OFFSET, 1, slots - 1);
-    fill(m, words::FREE_AT + words::LENGTH_OFFSET, 1, slots);
+    m[words::FREE_AT] = 0;
+    m[words::FREE_AT + words::LAST_OFFSET] = slots - 1;
+    m[words::FREE_AT + words::LENGTH_OFFSET] = slots;
 }
 
 // Writes the global words: generations, chain heads, and the queues.
@@ -57,12 +54,12 @@ fn write_global(m: &mut [u32], slots: u32)
     requires { (masks_at ≤ length m.old) × (1 ≤ slots) }
     ensures { Written m.old global_body (fresh_global slots) m.new }
 {
-    fill(m, words::CURRENT_GENERATION_AT, 1, FRESH_GENERATION);
+    m[words::CURRENT_GENERATION_AT] = FRESH_GENERATION;
     fill(m, words::LARGEST_GENERATION_AT, REST_LENGTH, 0);
     fill(m, words::HEADS_AT, words::CHAIN_COUNT, words::NONE);
     write_free(m, slots);
     write_queues(m, words::GLOBAL_QUEUES_AT);
-    fill(m, words::GLOBAL_GENERATION_AT, 1, 0);
+    m[words::GLOBAL_GENERATION_AT] = 0;
 }
 
 // Writes a lane's record from at on: all words 0 but for the flags, the queues and the position.
@@ -71,22 +68,18 @@ fn write_lane(m: &mut [u32], at: usize)
     ensures { Written m.old at (fresh_lane_words 0) m.new }
 {
     fill(m, at, words::LANE_LENGTH, 0);
-    fill(m, at, 1, FRESH_FLAGS);
+    m[at] = FRESH_FLAGS;
     write_queues(m, at + words::QUEUES_AT);
-    fill(m, at + words::POSITION_AT, 1, words::NONE);
+    m[at + words::POSITION_AT] = words::NONE;
 }
 
-// Writes the records of n lanes from first on.
-fn write_lanes(m: &mut [u32], first: usize, n: usize)
-    requires { first + lane_length * n ≤ length m.old }
-    ensures { Written m.old first (rows fresh_lane_words n) m.new }
+// Writes the records of all lanes.
+fn write_lanes(m: &mut [u32], z: words::Sizes)
+    requires { (Few (sizes_of z)) × (slots_body (sizes_of z) ≤ length m.old) }
+    ensures { Written m.old (lanes_body (sizes_of z)) (rows fresh_lane_words (lane_count (sizes_of z))) m.new }
 {
-    let mut i: usize = 0;
-    let mut at = first;
-    while i < n {
-        write_lane(m, at);
-        at = at + words::LANE_LENGTH;
-        i = i + 1;
+    for lane in 0..z.lane_count() {
+        write_lane(m, z.lane_address(lane));
     }
 }
 
@@ -105,21 +98,17 @@ fn write_slot(m: &mut [u32], at: usize, slots: u32, i: u32)
 {
     let link = link_after(slots, i);
     fill(m, at, words::SLOT_LENGTH, 0);
-    fill(m, at + words::CHAIN_LINK_AT, 1, words::NONE);
-    fill(m, at + words::QUEUE_LINK_AT, 1, link);
+    m[at + words::CHAIN_LINK_AT] = words::NONE;
+    m[at + words::QUEUE_LINK_AT] = link;
 }
 
-// Writes the records of all slots from first on.
-fn write_slots(m: &mut [u32], first: usize, slots: u32)
-    requires { first + slot_length * slots ≤ length m.old }
-    ensures { Written m.old first (rows (fresh_slot_words slots) slots) m.new }
+// Writes the records of all slots.
+fn write_slots(m: &mut [u32], z: words::Sizes)
+    requires { (Few (sizes_of z)) × (yards_body (sizes_of z) ≤ length m.old) }
+    ensures { Written m.old (slots_body (sizes_of z)) (rows (fresh_slot_words z.slots) z.slots) m.new }
 {
-    let mut i: u32 = 0;
-    let mut at = first;
-    while i < slots {
-        write_slot(m, at, slots, i);
-        at = at + words::SLOT_LENGTH;
-        i = i + 1;
+    for i in 0..z.slots {
+        write_slot(m, z.slot_address(i), z.slots, i);
     }
 }
 
@@ -128,44 +117,24 @@ fn write_fresh(m: &mut [u32], z: words::Sizes)
     requires { (sizes_fit (sizes_of z) ≡ true) × (total (sizes_of z) ≤ length m.old) }
     ensures { m.new ≡ stored (fresh (sizes_of z)) m.old }
 {
-    let masks = words::index(z.cabinet_count());
-    let records = words::index(z.lane_count());
-    let yards = words::index(z.yards);
-    let first_slot = z.slots_start();
-    let first_yard = z.yards_start();
     words::contents::write(m, z);
     write_global(m, z.slots);
-    fill(m, words::MASKS_AT, masks, 0);
-    write_lanes(m, words::MASKS_AT + masks, records);
-    write_slots(m, first_slot, z.slots);
-    fill(m, first_yard, yards, 0);
-}
-
-// The number of words of a table of these sizes.
-fn total_words(z: words::Sizes) -> u32
-    requires { sizes_fit (sizes_of z) ≡ true }
-    ensures { result ≡ total (sizes_of z) }
-{
-    let b = words::contents::bodies_of(z);
-    b.total
+    fill(m, words::MASKS_AT, z.cabinet_count() as usize, 0);
+    write_lanes(m, z);
+    write_slots(m, z);
+    fill(m, z.yards_start(), z.yards as usize, 0);
 }
 
 // Set-up: refused where the sizes are out of range (cause 1) or the memory is too short (cause 2), and
 // then no word changes; otherwise the fresh table is written, and its total answered.
-pub fn set_up(m: &mut [u32], yards: u32, cabinets: u32, places: u32, slots: u32) -> access::Answer
-    ensures { Does (set_up (sized yards cabinets places slots)) m.old result m.new }
+pub fn set_up(m: &mut [u32], z: words::Sizes) -> access::Answer
+    ensures { Does (set_up (sizes_of z)) m.old result m.new }
 {
-    let z = words::Sizes {
-        yards,
-        cabinets,
-        places,
-        slots,
-    };
     if !z.fit() {
         return access::refused(access::causes::BAD_SIZE);
     }
-    let total = total_words(z);
-    if m.len() < words::index(total) {
+    let total = words::contents::bodies_of(z).total;
+    if m.len() < total as usize {
         return access::refused(access::causes::SHORT_MEMORY);
     }
     write_fresh(m, z);

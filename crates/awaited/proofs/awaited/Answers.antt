@@ -6,8 +6,8 @@ use Rattle.awaited.proofs.AwaitedAnswer.{answered}
 use borrow.Author.Rules.{rules}
 use Rattle.awaited.proofs.awaited.Goals as goal
 
-pub read_sizes-z-requires : goal.read_sizes-z-requires
-read_sizes-z-requires c = omega (arith, long _ c.requires)
+pub read-z-requires : goal.read-z-requires
+read-z-requires c = omega (arith, long _ c.requires)
 
 pub bounds-m : goal.bounds-m
 bounds-m c = omega (arith, long _ c.requires)

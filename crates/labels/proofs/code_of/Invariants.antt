@@ -1,11 +1,7 @@
--- The loop's invariant: the code so far, followed by the digits left, says the label's (`Reading`). The measure: the bytes left.
-use Prim.Native.Nat.{◌-◌}
-use lib.ListN.{length}
+-- The loop's invariant: the code so far, followed by the digits left, says the label's (`Reading`).
 use Rattle.labels.proofs.ReadLaws.{Reading}
 use Rattle.labels.proofs.code_of.Given as goal
 
-abbrev pub invariant-loop-i : goal.invariant-loop-i
-invariant-loop-i l = Reading l.text l.code l.i
+abbrev pub invariant-loop-b : goal.invariant-loop-b
+invariant-loop-b l = Reading l.text l.code l.b-index
 
-abbrev pub decreases-loop-i : goal.decreases-loop-i
-decreases-loop-i l = length l.text - l.i

@@ -1,11 +1,16 @@
 -- The length is tested first; then the bytes decide.
-use mathlib.Core.Path.{sym, ◌∙◌}
-use borrow.Author.Tests.{not-true, not-false}
-use Rattle.labels.proofs.ReadLaws.{other_length, same_length}
+use Rattle.std.proofs.Common.{◌≡◌, ◌∙◌, rules, tests}
+use Rattle.std.specs.List.{list_any}
+use Rattle.std.proofs.lemmas.Iterator.{YieldsList-from_slice}
+use Rattle.std.proofs.lemmas.Iterator.Search.{any_from_yields_List}
+use Rattle.model.specs.Labels.{no_digit}
+use Rattle.labels.proofs.ReadLaws.{no-length, by-bytes}
 use Rattle.labels.proofs.is_no_label.Goals as goal
 
 pub returns-then-not-is_label_length : goal.returns-then-not-is_label_length
-returns-then-not-is_label_length c = other_length _ (sym c.is_label_length.ensures ∙ not-true _ c.if-not-is_label_length.true-raw)
+returns-then-not-is_label_length c = search (rules, no-length)
 
-pub returns : goal.returns
-returns c = c.has_other_byte.ensures ∙ same_length _ (sym c.is_label_length.ensures ∙ not-false _ c.if-not-is_label_length.false-raw)
+pub returns-else-not-is_label_length : goal.returns-else-not-is_label_length
+returns-else-not-is_label_length c =
+    any_from_yields_List no_digit _ _ _ c.any.ensures.ran (YieldsList-from_slice c.args.text.now cc) (λ x b q k. search (rules, tests))
+    ∙ by-bytes _ _ c.is_label_length.ensures c.if-not-is_label_length.false

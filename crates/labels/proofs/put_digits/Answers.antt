@@ -1,9 +1,10 @@
-use native.Mathlib.Omega.{arith}
-use Rattle.labels.proofs.WriteLaws.{putting-on, putting-done}
+use mathlib.Core.Path.{◌∙◌}
+use Rattle.labels.proofs.WriteLaws.{putting-on, putting-done, put-whole}
+use borrow.Author.Rules.{rules}
 use Rattle.labels.proofs.put_digits.Goals as goal
 
-pub loop-left-preserved : goal.loop-left-preserved
-loop-left-preserved c = putting-on _ _ _ _ _ _ c.loop-left.invariant c.loop-left-test.true
+pub loop-i-preserved : goal.loop-i-preserved
+loop-i-preserved c = search (rules, putting-on)
 
 pub returns : goal.returns
-returns c = putting-done _ _ _ _ _ _ c.loop-left.invariant (omega arith)
+returns c = putting-done _ _ _ _ c.loop-i.invariant c.loop-i-test.false ∙ put-whole _ _

@@ -1,17 +1,7 @@
-use Prim.Native.Nat.{◌+◌}
-use mathlib.Core.Path.{◌≡◌, ◌∙◌}
-use native.Mathlib.Omega.{arith}
-use lib.ListN.{length, replicate, length-set, length-replicate}
-use Rattle.set_up.proofs.WrittenLaws.{store, after, renamed, replicate-suc}
+-- The part is filled, and what stands before and after it stays.
+use Rattle.std.proofs.Common.{arith, rules}
+use Rattle.set_up.proofs.WrittenLaws.{filled}
 use Rattle.set_up.proofs.fill.Goals as goal
 
-pub loop-i-preserved : goal.loop-i-preserved
-loop-i-preserved c =
-    let a = c.args in
-    let l = c.loop-i in
-    let e : a.at + l.i ≡ a.at + length (replicate l.i a.v) = omega (arith, length-replicate l.i a.v) in (
-      omega arith,
-      length-set l.m (a.at + l.i) a.v ∙ l.invariant.1,
-      renamed (after l.invariant.2 (store l.m (a.at + l.i) a.v) e)
-          (replicate-suc l.i a.v),
-    )
+pub returns : goal.returns
+returns c = filled _ _ _ _ _ _ c.requires (omega arith) (c.fill.ensures.after (λ y k. search rules))

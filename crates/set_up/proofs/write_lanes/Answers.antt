@@ -1,24 +1,12 @@
-use Prim.Native.Nat.{◌+◌}
-use mathlib.Core.Path.{◌≡◌, refl, ◌∙◌}
-use native.Mathlib.Omega.{arith}
-use lib.ListN.{length}
-use Rattle.model.specs.Lists.{concat_map, from}
-use Rattle.set_up.specs.Written.{rows}
-use Rattle.set_up.proofs.WrittenLaws.{nothing, after, renamed, rows-suc, length-rows}
+use Rattle.set_up.proofs.WrittenLaws.{no-rows, next-row}
+use Rattle.set_up.proofs.FreshLaws.{length-lane}
 use Rattle.model.specs.Layout.{lane_length}
 use Rattle.set_up.specs.FreshWords.{fresh_lane_words}
-use Rattle.set_up.proofs.FreshLaws.{length-lane}
 use Rattle.set_up.proofs.write_lanes.Goals as goal
 
-pub loop-i-init : goal.loop-i-init
-unfolding concat_map from
-loop-i-init c = (omega arith, refl, omega arith, nothing _ _)
+pub loop-lane-init : goal.loop-lane-init
+loop-lane-init c = no-rows _ _ _
 
-pub loop-i-preserved : goal.loop-i-preserved
+pub loop-lane-preserved : goal.loop-lane-preserved
 unfolding fresh_lane_words
-loop-i-preserved c =
-    let a = c.args in
-    let l = c.loop-i in
-    let e : l.at ≡ a.first + length (rows fresh_lane_words l.i) = omega (arith, length-rows fresh_lane_words lane_length l.i length-lane) in
-    let run = renamed (after l.invariant.3 c.write_lane.ensures e) (rows-suc fresh_lane_words l.i) in
-    (omega arith, c.write_lane.auto.m ∙ l.invariant.1, omega arith, run)
+loop-lane-preserved c = next-row fresh_lane_words lane_length _ length-lane c.loop-lane.invariant c.lane_address.ensures c.write_lane.ensures

@@ -1,14 +1,11 @@
--- The loop's invariant: the first i records are written. The measure: the records left.
-use Prim.Native.Nat.{◌+◌, ◌*◌, ◌-◌, ◌≤◌}
+-- The loop's invariant: the records of the lanes before this one are written.
 use mathlib.Core.Path.{◌≡◌}
 use lib.ListN.{length}
+use Rattle.model.specs.Layout.{lanes_body}
+use Rattle.words.specs.Lent.{sizes_of}
 use Rattle.set_up.specs.Written.{Written, rows}
-use Rattle.model.specs.Layout.{lane_length}
 use Rattle.set_up.specs.FreshWords.{fresh_lane_words}
 use Rattle.set_up.proofs.write_lanes.Given as goal
 
-abbrev pub invariant-loop-i : goal.invariant-loop-i
-invariant-loop-i l = (l.i ≤ l.n) × (length l.m ≡ length l.initial.m) × (l.at ≡ l.first + lane_length * l.i) × Written l.initial.m l.first (rows fresh_lane_words l.i) l.m
-
-abbrev pub decreases-loop-i : goal.decreases-loop-i
-decreases-loop-i l = l.n - l.i
+abbrev pub invariant-loop-lane : goal.invariant-loop-lane
+invariant-loop-lane l = Written l.initial.m (lanes_body (sizes_of l.z)) (rows fresh_lane_words l.lane) l.m

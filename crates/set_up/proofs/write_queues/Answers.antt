@@ -5,13 +5,13 @@ use native.Mathlib.Omega.{arith}
 use Rattle.model.specs.Lists.{first, last}
 use Rattle.model.specs.Layout.{length_offset, current_offset, done_offset}
 use Rattle.set_up.specs.FreshWords.{empty_queues}
-use Rattle.set_up.proofs.WrittenLaws.{inside, renamed}
+use Rattle.set_up.proofs.WrittenLaws.{store, inside, renamed}
 use Rattle.set_up.proofs.write_queues.Goals as goal
 
 pub returns : goal.returns
 unfolding empty_queues first last
 returns c =
     renamed (inside (done_offset + length_offset) (inside (current_offset + length_offset) (inside length_offset c.fill.ensures
-    c.fill-2.ensures refl (omega arith))
-    c.fill-3.ensures (omega arith) (omega arith))
-    c.fill-4.ensures (omega arith) (omega arith)) refl
+    (store _ _ _) refl (omega arith))
+    (store _ _ _) (omega arith) (omega arith))
+    (store _ _ _) (omega arith) (omega arith)) refl

@@ -2,7 +2,7 @@
 use mathlib.Core.Path.{refl, ap}
 use native.Mathlib.Omega.{arith}
 use Rattle.model.specs.Layout.{chain_link_at, queue_link_at}
-use Rattle.set_up.proofs.WrittenLaws.{inside, renamed}
+use Rattle.set_up.proofs.WrittenLaws.{store, inside, renamed}
 use Rattle.set_up.specs.FreshWords.{free_words, fresh_slot_words}
 use Rattle.set_up.proofs.write_slot.Goals as goal
 
@@ -10,5 +10,5 @@ pub returns : goal.returns
 unfolding fresh_slot_words
 returns c =
     renamed (inside queue_link_at (inside chain_link_at c.fill.ensures
-    c.fill-2.ensures refl (omega arith))
-    c.fill-3.ensures refl (omega arith)) (ap free_words c.link_after-link.ensures)
+    (store _ _ _) refl (omega arith))
+    (store _ _ _) refl (omega arith)) (ap free_words c.link_after-link.ensures)

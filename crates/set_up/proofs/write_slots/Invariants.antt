@@ -1,14 +1,11 @@
--- The loop's invariant: the first i records are written. The measure: the records left.
-use Prim.Native.Nat.{◌+◌, ◌*◌, ◌-◌, ◌≤◌}
+-- The loop's invariant: the records of the slots before this one are written.
 use mathlib.Core.Path.{◌≡◌}
 use lib.ListN.{length}
+use Rattle.model.specs.Layout.{slots_body}
+use Rattle.words.specs.Lent.{sizes_of}
 use Rattle.set_up.specs.Written.{Written, rows}
-use Rattle.model.specs.Layout.{slot_length}
 use Rattle.set_up.specs.FreshWords.{fresh_slot_words}
 use Rattle.set_up.proofs.write_slots.Given as goal
 
 abbrev pub invariant-loop-i : goal.invariant-loop-i
-invariant-loop-i l = (l.i ≤ l.slots) × (length l.m ≡ length l.initial.m) × (l.at ≡ l.first + slot_length * l.i) × Written l.initial.m l.first (rows (fresh_slot_words l.slots) l.i) l.m
-
-abbrev pub decreases-loop-i : goal.decreases-loop-i
-decreases-loop-i l = l.slots - l.i
+invariant-loop-i l = Written l.initial.m (slots_body (sizes_of l.z)) (rows (fresh_slot_words l.z.slots) l.i) l.m
