@@ -8,6 +8,7 @@ ghost use Rattle.model.specs.Rules.{pending_from, queued_in, awaited as awaiting
 ghost use Rattle.model.specs.Memory.{state};
 ghost use Rattle.model.specs.Calls.{on_state};
 ghost use Rattle.representation.specs.Sound.{Sound};
+ghost use Rattle.access.specs.Causes.{answer_of};
 ghost use Rattle.access.specs.Contract.{Does};
 ghost use Rattle.access.specs.TableSizes.{TableIn};
 ghost use Rattle.awaited.specs.Lowest.{lowest_in, MaskAt};
@@ -82,13 +83,13 @@ fn retired_length(m: &[u32], z: words::Sizes) -> u32
 
 // ---- awaited
 
-// Answers the pending lanes, the lowest of them, the free slots and those in the other queues.
-pub fn awaited(m: &mut [u32]) -> access::Answer
-    requires { Sound m.old }
-    ensures { Does (on_state awaiting) m.old result m.new }
+// The pending lanes, the lowest of them, the free slots and those in the other queues. No cause refuses it.
+pub fn awaited(m: &[u32]) -> [u32; 4]
+    requires { Sound m.now }
+    ensures { Does (on_state awaiting) m.now (answer_of (Ok result)) m.now }
 {
     let z = words::Sizes::read(m);
     let free = m[words::FREE_AT + words::LENGTH_OFFSET];
     let retired = retired_length(m, z);
-    access::accepted(pending_count(m, z), lowest_pending(m, z), free, retired)
+    [pending_count(m, z), lowest_pending(m, z), free, retired]
 }

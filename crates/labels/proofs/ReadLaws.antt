@@ -15,7 +15,7 @@ use Rattle.std.proofs.lemmas.List.Recursion.{same_from_clauses}
 use Rattle.model.specs.Lists.{any}
 use Rattle.model.specs.Digits.{ten, number_from, digit_zero, digit_nine, is_digit, digit_of}
 use Rattle.model.specs.CheckDigit.{code_digits}
-use Rattle.model.specs.Rules.{Answer as Reply, accepted, refused, first_cause}
+use Rattle.model.specs.Rules.{accepted, refused, first_cause}
 use Rattle.model.specs.Memory.{low, high}
 use Rattle.model.specs.Labels.{gtin8, gtin13, gtin14, is_label_length, no_digit, no_label, label_code, read_refusal, read_reply_of, read_reply}
 use Rattle.laws.specs.Tests.{bool_cases, clash, and-true, or_cases, or_left}
@@ -131,11 +131,11 @@ read-accepted text h = go (no_label text) h
     go true e = absurd (omega arith)
     go false e = refl
 
-module _ (text : List ℕ) (b : Bool) (e : b ≡ no_label text) (r : Reply) where
-  pub read_none : b ≡ true → r ≡ refused 18 → r ≡ read_reply text
+module _ (text : List ℕ) where
+  pub read_none : no_label text ≡ true → refused 18 ≡ read_reply text
   unfolding read_reply read_refusal first_cause read_reply_of
-  read_none t q = q ∙ rw (sym e ∙ t)
+  read_none e = rw e
 
-  pub read_some : b ≡ false → (c : ℕ) → c ≡ label_code text → r ≡ accepted (low c) (high c) 0 0 → r ≡ read_reply text
+  pub read_some : no_label text ≡ false → accepted (low (label_code text)) (high (label_code text)) 0 0 ≡ read_reply text
   unfolding read_reply read_refusal first_cause read_reply_of
-  read_some t c f q = q ∙ rw (sym e ∙ t, f)
+  read_some e = rw e

@@ -116,13 +116,13 @@ module _ (c : ℕ) (range : c ≤ max_code) where
   written_read text h =
       let put : take n (written text c) ≡ label_text c =
       ap (λ (x : ℕ). take n (written_of x text c)) (fits text c range h) ∙ take_at (label_text c) (drop n text) n text-length in
-      ap read_reply put ∙ sym (read_some (label_text c) _ refl (accepted (low c) (high c) 0 0) label_of c (sym code-of) refl)
+      ap read_reply put ∙ sym (read_some (label_text c) label_of) ∙ ap (λ (x : ℕ). accepted (low x) (high x) 0 0) code-of
 
 -- a label that was read, rewritten and read again is the same code
 pub rewritten-read : (label text : List ℕ) → no_label label ≡ false → label_length (label_code label) ≤ length text
     → read_reply (take (label_length (label_code label)) (written text (label_code label))) ≡ read_reply label
 rewritten-read label text h k =
-    written_read (label_code label) (label-fits label h) text k ∙ read_some label _ refl _ h (label_code label) refl refl
+    written_read (label_code label) (label-fits label h) text k ∙ read_some label h
 
 -- no label of a code is shorter than the writer's
 pub label-no-shorter : (label : List ℕ) → no_label label ≡ false → label_length (label_code label) ≤ length label

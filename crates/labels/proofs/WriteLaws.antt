@@ -8,14 +8,15 @@ use native.Mathlib.Omega.{arith}
 use lib.ListN.{length, take, drop, set, length-set, length-take, drop_of_length-le}
 use lib.Seq.{drop-cons, drop-set-lt, get_or-set_same, append_snoc}
 use lib.Dec.{ltb}
+use Rattle.std.specs.Prelude.{Ok, Err}
 use borrow.Author.Tests.{lt-ltb, le-ltb, ltb-false}
 use Rattle.model.specs.Layout.{max_code}
 use Rattle.model.specs.Digits.{ten, digits, byte_of}
-use Rattle.model.specs.Rules.{accepted, refused, first_cause}
+use Rattle.model.specs.Rules.{first_cause}
 use Rattle.model.specs.Labels.{gtin8, gtin13, gtin14, label_length, label_text, write_refusal, write_reply_of, written_of, write_reply, written}
 use Rattle.laws.specs.Tests.{cond_cases}
-use Rattle.access.specs.declared.Answer.{Answer}
-use Rattle.access.specs.Contract.{five}
+use Rattle.access.specs.declared.causes.Cause.TheVariants.{OutOfRange, WrongLabel}
+use Rattle.access.specs.Causes.{answer_of}
 use Rattle.labels.specs.Writing.{Writes}
 
 -- ---- the loop
@@ -98,22 +99,21 @@ module _ (text : List ℕ) (c : ℕ) where
       go false true e = absurd (omega arith)
       go false false e = (refl, refl)
 
-  module _ (r : Answer) where
-    pub write-far : max_code < c → five r ≡ refused 11 → Writes text c r text
+  pub write-far : max_code < c → Writes text c (answer_of (Err OutOfRange)) text
+  unfolding write_reply written write_refusal first_cause write_reply_of written_of
+  write-far h = record { answer = rw (lt-ltb max_code c h); text = rw (lt-ltb max_code c h) }
+
+  module _ (h : c ≤ max_code) (n : ℕ) (e : n ≡ label_length c) where
+    pub write-short : length text < n → Writes text c (answer_of (Err WrongLabel)) text
     unfolding write_reply written write_refusal first_cause write_reply_of written_of
-    write-far h e = record { answer = e ∙ rw (lt-ltb max_code c h); text = rw (lt-ltb max_code c h) }
+    write-short k =
+        let short = lt-ltb (length text) (label_length c) (omega arith) in
+        record { answer = rw (le-ltb max_code c h, short); text = rw (le-ltb max_code c h, short) }
 
-    module _ (h : c ≤ max_code) (n : ℕ) (e : n ≡ label_length c) where
-      pub write-short : length text < n → five r ≡ refused 18 → Writes text c r text
-      unfolding write_reply written write_refusal first_cause write_reply_of written_of
-      write-short k q =
-          let short = lt-ltb (length text) (label_length c) (omega arith) in
-          record { answer = q ∙ rw (le-ltb max_code c h, short); text = rw (le-ltb max_code c h, short) }
-
-      pub write-put : n ≤ length text → (part : List ℕ) → part ≡ map byte_of (digits (length (take n text)) c) → five r ≡ accepted n 0 0 0
-          → Writes text c r (part ++ drop n text)
-      unfolding write_reply written write_reply_of written_of label_text
-      write-put k part p q =
-          let none = fits h (omega arith) in
-          let l : length (take n text) ≡ n = omega (arith, length-take n text) in
-          record { answer = q ∙ rw (none, e); text = rw (p, l, none, e) }
+    pub write-put : n ≤ length text → (part : List ℕ) → part ≡ map byte_of (digits (length (take n text)) c)
+        → Writes text c (answer_of (Ok (n ∷ 0 ∷ 0 ∷ 0 ∷ []))) (part ++ drop n text)
+    unfolding write_reply written write_reply_of written_of label_text
+    write-put k part p =
+        let none = fits h (omega arith) in
+        let l : length (take n text) ≡ n = omega (arith, length-take n text) in
+        record { answer = rw (none, e); text = rw (p, l, none, e) }

@@ -5,10 +5,11 @@ ghost use Rattle.std.specs.Prelude.{◌≡◌, true, false, ◌++◌, map, ◌�
 ghost use Rattle.model.specs.Lists.{any};
 ghost use Rattle.model.specs.Digits.{digits, is_digit, digit_of, byte_of};
 ghost use Rattle.model.specs.Labels.{is_label_length, no_digit, no_label, label_code, read_reply, label_length};
+ghost use Rattle.access.specs.Causes.{answer_of};
 ghost use Rattle.access.specs.Contract.{five};
 ghost use Rattle.labels.specs.Writing.{Writes};
 
-use access::causes;
+use access::causes::Cause;
 
 // The three lengths: GTIN-8, GTIN-13 and GTIN-14.
 const GTIN_8: usize = 8;
@@ -50,16 +51,14 @@ fn code_of(text: &[u8]) -> u64
 }
 
 // The code of a text of 8, 13 or 14 ASCII digits, in two words.
-pub fn read(text: &[u8]) -> access::Answer
-    ensures { five result ≡ read_reply text.now }
+pub fn read(text: &[u8]) -> Result<[u32; 4], Cause>
+    ensures { five (answer_of result) ≡ read_reply text.now }
 {
     if is_no_label(text) {
-        return access::refused(causes::WRONG_LABEL);
+        return Err(Cause::WrongLabel);
     }
     let code = code_of(text);
-    let low = words::low(code);
-    let high = words::high(code);
-    access::accepted(low, high, 0, 0)
+    Ok([words::low(code), words::high(code), 0, 0])
 }
 
 // ---- the writer
@@ -87,16 +86,16 @@ fn put_digits(text: &mut [u8], code: u64)
 }
 
 // The label of a code into the first bytes of a text; those after it stay.
-pub fn write(text: &mut [u8], code: u64) -> access::Answer
-    ensures { Writes text.old code result text.new }
+pub fn write(text: &mut [u8], code: u64) -> Result<[u32; 4], Cause>
+    ensures { Writes text.old code (answer_of result) text.new }
 {
     if code > words::MAX_CODE {
-        return access::refused(causes::OUT_OF_RANGE);
+        return Err(Cause::OutOfRange);
     }
     let n = length_of(code);
     if text.len() < n {
-        return access::refused(causes::WRONG_LABEL);
+        return Err(Cause::WrongLabel);
     }
     put_digits(&mut text[..n], code);
-    access::accepted(n as u32, 0, 0, 0)
+    Ok([n as u32, 0, 0, 0])
 }

@@ -1,4 +1,4 @@
-// The call set-up: the words of a fresh table, written one body after another as runs of one word.
+// The call set-up: the words of a fresh table, written one body after another.
 #![tactic(auto)]
 
 ghost use Rattle.std.specs.Prelude.{◌≡◌, true, ◌+◌, ◌≤◌, length, replicate};
@@ -9,8 +9,11 @@ ghost use Rattle.model.specs.Legal.{sizes_fit};
 ghost use Rattle.model.specs.Calls.{stored, set_up};
 ghost use Rattle.set_up.specs.Written.{Written, rows};
 ghost use Rattle.words.specs.Lent.{sizes_of, Few};
+ghost use Rattle.access.specs.Causes.{answer_of};
 ghost use Rattle.access.specs.Contract.{Does};
 ghost use Rattle.set_up.specs.FreshWords.{empty_queues, all_free, fresh_global, fresh_lane_words, link_after, fresh_slot_words};
+
+use access::causes::Cause;
 
 // the largest generation and the yard mask
 const REST_LENGTH: usize = words::HEADS_AT - words::LARGEST_GENERATION_AT;
@@ -127,16 +130,16 @@ fn write_fresh(m: &mut [u32], z: words::Sizes)
 
 // Set-up: refused where the sizes are out of range (cause 1) or the memory is too short (cause 2), and
 // then no word changes; otherwise the fresh table is written, and its total answered.
-pub fn set_up(m: &mut [u32], z: words::Sizes) -> access::Answer
-    ensures { Does (set_up (sizes_of z)) m.old result m.new }
+pub fn set_up(m: &mut [u32], z: words::Sizes) -> Result<[u32; 4], Cause>
+    ensures { Does (set_up (sizes_of z)) m.old (answer_of result) m.new }
 {
     if !z.fit() {
-        return access::refused(access::causes::BAD_SIZE);
+        return Err(Cause::BadSize);
     }
     let total = words::contents::bodies_of(z).total;
     if m.len() < total as usize {
-        return access::refused(access::causes::SHORT_MEMORY);
+        return Err(Cause::ShortMemory);
     }
     write_fresh(m, z);
-    access::accepted(total, 0, 0, 0)
+    Ok([total, 0, 0, 0])
 }

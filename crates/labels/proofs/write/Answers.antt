@@ -10,8 +10,8 @@ returns-then-code-gt-MAX_CODE c = search (rules, write-far)
 pub returns-then-text-n : goal.returns-then-text-n
 returns-then-text-n c = search (rules, write-short)
 
-pub overflow_cast-n : goal.overflow_cast-n
-overflow_cast-n c = omega (arith, c.length_of-n.ensures, length-few c.args.code)
+pub overflow_cast-result : goal.overflow_cast-result
+overflow_cast-result c = omega (arith, c.length_of-n.ensures, length-few c.args.code)
 
 pub returns : goal.returns
 returns c = search (rules, write-put)
