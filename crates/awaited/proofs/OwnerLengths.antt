@@ -1,12 +1,12 @@
 -- The lengths that stand in a legal memory are those of its queues, and what the owners have together.
 use Prim.Native.Nat.{ℕ, ◌+◌, ◌*◌, ◌≤◌, ◌<◌}
-use mathlib.Core.Path.{◌≡◌, refl, ap, ap₂, sym, ◌∙◌}
+use mathlib.Core.Path.{◌≡◌, refl, ap, ap₂, sym, subst, ◌∙◌}
 use mathlib.Core.List.{List, [], ◌∷◌}
 use native.Mathlib.Omega.{arith}
 use lib.ListN.{length}
 use Rattle.model.specs.Word.{word_limit}
 use Rattle.model.specs.Lists.{from}
-use Rattle.model.specs.State.{lane_count, Lane}
+use Rattle.model.specs.State.{Sizes as TableSizes, lane_count, Lane}
 use Rattle.model.specs.Layout.{length_offset, current_offset, done_offset, free_at, global_queues_at, queues_at, lane_length, lane_address, total}
 use Rattle.model.specs.Engine.{lane_at}
 use Rattle.model.specs.Rules.{queued, queued_in}
@@ -15,7 +15,7 @@ use Rattle.laws.specs.Sums.{sum, sum-of-map}
 use Rattle.laws.specs.Loops.{sum_below, sum_below-alike, sum_below-few, Summed, summed-start, summed-on, summed-done}
 use Rattle.representation.proofs.FromMemory.Reading.{state-lane}
 use Rattle.representation.specs.Sound.{Sound}
-use Rattle.words.specs.declared.Sizes.{Sizes}
+use Rattle.words.specs.declared.sizes.Sizes.{Sizes}
 use Rattle.words.specs.Lent.{sizes_of}
 use Rattle.changes.proofs.Shape.{well_formed-shape}
 use Rattle.changes.specs.Queues.{next, current, done, Queue, free, global, lane, Named, queue_of, ends_at}
@@ -93,15 +93,15 @@ module _ (m : List ℕ) (z : Sizes) (k : TableIn m z) where
   -- lane i of b, whose record stands at a
   module _ (b i a : ℕ) (eb : b ≡ lane_count (sizes_of z)) (h : i < b) (ea : a ≡ lane_address (sizes_of z) i) where
     known : i < lane_count (sizes m)
-    known = let e : b ≡ lane_count (sizes m) = rw k.sizes at eb in omega arith
+    known = omega (arith, eb, ap lane_count k.sizes)
 
     place : a + queues_at ≡ lane_address (sizes m) i + queues_at
-    place = ap (λ (x : ℕ). x + queues_at) (rw k.sizes at ea)
+    place = ap (λ (x : ℕ). x + queues_at) (ea ∙ ap (λ (y : TableSizes). lane_address y i) k.sizes)
 
     pub lane-at : OwnerAt m (a + queues_at)
     lane-at =
         let g = lane-owned m k.sound i known in
-        let l : total (sizes m) ≤ length m = rw k.sizes at k.lent.long in
+        let l : total (sizes m) ≤ length m = subst (λ (y : TableSizes). total y ≤ length m) k.sizes k.lent.long in
         record { inside = omega (arith, place, l, known); few = rw place (omega (arith, g.is, g.few)) }
 
     module _ (n v : ℕ) (c : LanesCounted m i n) (ev : v ≡ owner_length m (a + queues_at)) where
@@ -123,7 +123,7 @@ module _ (m : List ℕ) (z : Sizes) (k : TableIn m z) where
 
   -- all b lanes
   pub lanes-done : (b i n : ℕ) → b ≡ lane_count (sizes_of z) → b ≤ i → LanesCounted m i n → n ≡ queued_in (state m).engine.lanes
-  lanes-done b i n eb h c = let e : b ≡ lane_count (sizes m) = rw k.sizes at eb in summed-done _ _ i n c.so_far (omega arith) ∙ lanes-shown
+  lanes-done b i n eb h c = summed-done _ _ i n c.so_far (omega (arith, eb, ap lane_count k.sizes)) ∙ lanes-shown
 
   lanes-few : sum_below (lane_slots m) (lane_count (sizes m)) ≤ owner_most * lane_count (sizes m)
   lanes-few = sum_below-few (lane_slots m) owner_most (lane_count (sizes m)) (λ i h. let g = lane-owned m k.sound i h in omega (arith, g.is, g.few))

@@ -1,6 +1,6 @@
 -- The pending lanes by the words of a legal memory: their count, and the lowest of them.
 use Prim.Native.Nat.{ℕ, ◌+◌, ◌-◌, ◌*◌, ◌≤◌, ◌<◌}
-use mathlib.Core.Path.{◌≡◌, refl, ap, ap₂, sym, ◌∙◌}
+use mathlib.Core.Path.{◌≡◌, refl, ap, ap₂, sym, subst, ◌∙◌}
 use mathlib.Core.Bool.{Bool, true, false, not}
 use mathlib.Core.List.{List, [], ◌∷◌, map}
 use native.Mathlib.Omega.{arith}
@@ -15,7 +15,7 @@ use Rattle.std.proofs.lemmas.List.{length-take, length-drop, get_or-take, get_or
 use Rattle.std.proofs.lemmas.List.Sums.{sum_by-cons}
 use Rattle.model.specs.Word.{none, word_limit}
 use Rattle.model.specs.Lists.{bit, first, from}
-use Rattle.model.specs.State.{cabinet_count, lane_count, State}
+use Rattle.model.specs.State.{Sizes as TableSizes, cabinet_count, lane_count, State}
 use Rattle.model.specs.Layout.{masks_at, yard_mask_at, yards_body}
 use Rattle.model.specs.Engine.{runs}
 use Rattle.model.specs.Rules.{pending_from}
@@ -34,7 +34,7 @@ use Rattle.representation.proofs.FromMemory.Reading.{state-lanes}
 use Rattle.representation.proofs.FromState.Periods.{yard_mask-runs}
 use Rattle.representation.proofs.FromState.Awaited.{awaited-count, awaited-none, awaited-lowest}
 use Rattle.representation.specs.Sound.{Sound}
-use Rattle.words.specs.declared.Sizes.{Sizes}
+use Rattle.words.specs.declared.sizes.Sizes.{Sizes}
 use Rattle.words.specs.Lent.{sizes_of}
 use Rattle.access.specs.TableSizes.{TableIn}
 use Rattle.access.proofs.Ways.{shown, in_range, long}
@@ -152,7 +152,7 @@ module _ (m : List ℕ) (z : Sizes) (table : TableIn m z) where
   -- of b cabinets, as they were counted
   module _ (b : ℕ) (eb : b ≡ cabinet_count (sizes_of z)) where
     cabinets-are : b ≡ cabinet_count (sizes m)
-    cabinets-are = rw table.sizes at eb
+    cabinets-are = eb ∙ ap cabinet_count table.sizes
 
     masks-inside : masks_at + b ≤ length m
     masks-inside = omega (arith, cabinets-are, long m v)
@@ -198,12 +198,12 @@ module _ (m : List ℕ) (z : Sizes) (table : TableIn m z) where
         ∙ lowest-stands (sizes m).yards (yard_bit s) 0 (omega (arith, (in_range m v).few_yards)) some-yard
 
     yard-of-table : y < z.yards
-    yard-of-table = rw table.sizes yard-below
+    yard-of-table = subst (λ (x : TableSizes). y < x.yards) (sym table.sizes) yard-below
 
     -- the cabinet masks stand from a on
     module _ (a : ℕ) (ea : a ≡ yards_body (sizes_of z)) where
       begins : a ≡ yards_body (sizes m)
-      begins = ea ∙ ap (λ (x : Sizes). yards_body (sizes_of x)) table.sizes
+      begins = ea ∙ ap yards_body table.sizes
 
       pub yard-lent : MaskAt m a y z.cabinets
       yard-lent = record {
@@ -214,7 +214,7 @@ module _ (m : List ℕ) (z : Sizes) (table : TableIn m z) where
       -- and c is the lowest cabinet of the yard
       module _ (c : ℕ) (ec : c ≡ lowest_in m a y z.cabinets) where
         cabinet-is : c ≡ y * (sizes m).cabinets + first_true (bits (yard_word m y))
-        cabinet-is = ec ∙ ap₂ (λ (x : Sizes) (b : ℕ). y * x.cabinets + first_true (bits (at m (b + y)))) table.sizes begins
+        cabinet-is = ec ∙ ap₂ (λ (x : TableSizes) (b : ℕ). y * x.cabinets + first_true (bits (at m (b + y)))) table.sizes begins
 
         cabinet-below : c < cabinet_count (sizes m)
         unfolding state
@@ -224,7 +224,7 @@ module _ (m : List ℕ) (z : Sizes) (table : TableIn m z) where
             omega (arith, here, digits_lt yard-below place)
 
         cabinet-of-table : c < cabinet_count (sizes_of z)
-        cabinet-of-table = rw table.sizes cabinet-below
+        cabinet-of-table = subst (λ (x : TableSizes). c < cabinet_count x) (sym table.sizes) cabinet-below
 
         pub cabinet-lent : MaskAt m masks_at c z.places
         cabinet-lent = record {
@@ -249,7 +249,7 @@ module _ (m : List ℕ) (z : Sizes) (table : TableIn m z) where
         unfolding lowest state
         lowest-shown n en =
             en
-            ∙ ap (λ (x : Sizes). c * x.places + first_true (bits (mask_word m c))) table.sizes
+            ∙ ap (λ (x : TableSizes). c * x.places + first_true (bits (mask_word m c))) table.sizes
             ∙ sym
             (awaited-lowest s lanes-each (in_range m v) running
             ∙ ap (λ (k : ℕ). k * (sizes m).places + count_trailing_zeros width (lane_mask s k)) lowest-cabinet

@@ -88,7 +88,7 @@ pub fn awaited(m: &[u32]) -> [u32; 4]
     requires { Sound m.now }
     ensures { Does (on_state awaiting) m.now (answer_of (Ok result)) m.now }
 {
-    let z = words::Sizes::read(m);
+    let z = words::NamedSizes::read(m).of_table();
     let free = m[words::FREE_AT + words::LENGTH_OFFSET];
     let retired = retired_length(m, z);
     [pending_count(m, z), lowest_pending(m, z), free, retired]

@@ -16,21 +16,22 @@ use Rattle.access.specs.Causes.{answer_of}
 use Rattle.access.specs.Contract.{Does}
 use Rattle.model.specs.Calls.{set_up, stored, refusal_of, reply_of, left_of, reply, left}
 
--- by the test b of the sizes
-module _ (m : List ℕ) (z : Sizes) (b : Bool) (tested : b ≡ sizes_fit z) where
-  pub out_of_range : b ≡ false → Does (set_up z) m (answer_of (Err BadSize)) m
+module _ (m : List ℕ) (n : Sizes) where
+  pub out_of_range : sizes_fit n ≡ false → Does (set_up n) m (answer_of (Err BadSize)) m
   unfolding reply reply_of left left_of refusal_of first_cause
-  out_of_range t = let unfit = sym tested ∙ t in record { answer = rw unfit; memory = rw unfit }
+  out_of_range unfit = record { answer = rw unfit; memory = rw unfit }
 
-  -- by the total x
-  module _ (t : b ≡ true) (x : ℕ) (total_is : x ≡ total z) where
-    fit : sizes_fit z ≡ true
-    fit = sym tested ∙ t
+  -- the sizes z of the table, and its total x
+  module _ (z : Sizes) (x : ℕ) (same : (z ≡ n) × (sizes_fit n ≡ true)) (total_is : x ≡ total z) where
+    whole : x ≡ total n
+    whole = total_is ∙ ap total same.0
 
-    pub too_short : length m < x → Does (set_up z) m (answer_of (Err ShortMemory)) m
+    pub too_short : length m < x → Does (set_up n) m (answer_of (Err ShortMemory)) m
     unfolding reply reply_of left left_of refusal_of first_cause
-    too_short l = let short = lt-ltb (length m) (total z) (omega arith) in record { answer = rw (fit, short); memory = rw (fit, short) }
+    too_short l = let short = lt-ltb (length m) (total n) (omega (arith, whole)) in record { answer = rw (same.1, short); memory = rw (same.1, short) }
 
-    pub written : x ≤ length m → (n : List ℕ) → n ≡ stored (fresh z) m → Does (set_up z) m (answer_of (Ok (x ∷ 0 ∷ 0 ∷ 0 ∷ []))) n
+    pub written : x ≤ length m → (k : List ℕ) → k ≡ stored (fresh z) m → Does (set_up n) m (answer_of (Ok (x ∷ 0 ∷ 0 ∷ 0 ∷ []))) k
     unfolding reply reply_of left left_of refusal_of first_cause
-    written l n g = let long = le-ltb (length m) (total z) (omega arith) in record { answer = rw (fit, long, total_is); memory = g ∙ rw (fit, long) }
+    written l k g =
+        let long = le-ltb (length m) (total n) (omega (arith, whole)) in
+        record { answer = rw (same.1, long, whole); memory = g ∙ ap (λ (y : Sizes). stored (fresh y) m) same.0 ∙ rw (same.1, long) }

@@ -8,7 +8,7 @@ ghost use Rattle.model.specs.Rules.{fresh};
 ghost use Rattle.model.specs.Legal.{sizes_fit};
 ghost use Rattle.model.specs.Calls.{stored, set_up};
 ghost use Rattle.set_up.specs.Written.{Written, rows};
-ghost use Rattle.words.specs.Lent.{sizes_of, Few};
+ghost use Rattle.words.specs.Lent.{sizes_of, named};
 ghost use Rattle.access.specs.Causes.{answer_of};
 ghost use Rattle.access.specs.Contract.{Does};
 ghost use Rattle.set_up.specs.FreshWords.{empty_queues, all_free, fresh_global, fresh_lane_words, link_after, fresh_slot_words};
@@ -78,7 +78,7 @@ fn write_lane(m: &mut [u32], at: usize)
 
 // Writes the records of all lanes.
 fn write_lanes(m: &mut [u32], z: words::Sizes)
-    requires { (Few (sizes_of z)) × (slots_body (sizes_of z) ≤ length m.old) }
+    requires { slots_body (sizes_of z) ≤ length m.old }
     ensures { Written m.old (lanes_body (sizes_of z)) (rows fresh_lane_words (lane_count (sizes_of z))) m.new }
 {
     for lane in 0..z.lane_count() {
@@ -107,7 +107,7 @@ fn write_slot(m: &mut [u32], at: usize, slots: u32, i: u32)
 
 // Writes the records of all slots.
 fn write_slots(m: &mut [u32], z: words::Sizes)
-    requires { (Few (sizes_of z)) × (yards_body (sizes_of z) ≤ length m.old) }
+    requires { yards_body (sizes_of z) ≤ length m.old }
     ensures { Written m.old (slots_body (sizes_of z)) (rows (fresh_slot_words z.slots) z.slots) m.new }
 {
     for i in 0..z.slots {
@@ -130,12 +130,12 @@ fn write_fresh(m: &mut [u32], z: words::Sizes)
 
 // Set-up: refused where the sizes are out of range (cause 1) or the memory is too short (cause 2), and
 // then no word changes; otherwise the fresh table is written, and its total answered.
-pub fn set_up(m: &mut [u32], z: words::Sizes) -> Result<[u32; 4], Cause>
-    ensures { Does (set_up (sizes_of z)) m.old (answer_of result) m.new }
+pub fn set_up(m: &mut [u32], sizes: words::NamedSizes) -> Result<[u32; 4], Cause>
+    ensures { Does (set_up (named sizes)) m.old (answer_of result) m.new }
 {
-    if !z.fit() {
+    let Ok(z) = words::Sizes::try_from(sizes) else {
         return Err(Cause::BadSize);
-    }
+    };
     let total = words::contents::bodies_of(z).total;
     if m.len() < total as usize {
         return Err(Cause::ShortMemory);
