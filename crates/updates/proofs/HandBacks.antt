@@ -1,35 +1,39 @@
--- Hand-back: the queue that it takes from, and what its stores need and leave where no cause refuses it.
+-- Hand-back: the queue that it takes from, the causes that refuse it, and where none does what its stores need and leave.
 use Prim.Native.Nat.{ℕ, ◌+◌, ◌≤◌, ◌<◌}
-use mathlib.Core.Path.{◌≡◌, refl, ap, sym, ◌∙◌}
+use mathlib.Core.Path.{◌≡◌, refl, ap, ap₂, sym, subst, ◌∙◌}
 use mathlib.Core.Bool.{Bool, true, false, not, ◌&&◌, cond}
-use mathlib.Core.List.{List}
+use mathlib.Core.List.{List, [], ◌∷◌}
 use native.Mathlib.Omega.{arith}
 use lib.ListN.{length}
 use lib.Dec.{ltb}
+use Rattle.std.specs.Prelude.{Option, Some, None, Result, Ok, Err}
+use Rattle.std.specs.Result.{IsErrAnd}
 use Rattle.model.specs.Lists.{is_empty, first}
 use Rattle.model.specs.State.{Sizes, lane_count, State}
 use Rattle.model.specs.Layout.{done_offset, free_at, queues_at, slot_address}
-use Rattle.model.specs.Rules.{hand_back, accepted, lane_of, nothing_done, from_global, handed_back, refusal, result, performed}
+use Rattle.model.specs.Rules.{Cause as Rule, cause, Op, hand_back, accepted, lane_of, causes, first_cause, of_lane, from_global, handed_back, refusal, result, performed}
 use Rattle.model.specs.Memory.{at, sizes, state}
 use Rattle.model.specs.Calls.{on_state, stored}
 use Rattle.representation.proofs.Causes.Accepted.{HandBackAccepted}
 use Rattle.words.specs.Lent.{sizes_of}
-use Rattle.queues.specs.Queue.{appended, Taken}
+use Rattle.queues.specs.Queue.{appended, less_first, Taken}
 use Rattle.chains.specs.Chain.{cleared}
 use Rattle.changes.specs.Queues.{Queue, global, lane, done, Named as QueueNamed, queue_of, ends_at}
 use Rattle.changes.proofs.OfCalls.CallSteps.{reclaimed_words}
 use Rattle.changes.proofs.OfCalls.UpdateWords.{hand-back-lane-stored, hand-back-global-stored}
-use Rattle.access.specs.declared.Answer.{Answer}
 use Rattle.access.specs.declared.Lane.{Lane}
-use Rattle.access.specs.Contract.{five, Does}
+use Rattle.access.specs.declared.causes.Cause.{Cause}
+use Rattle.access.specs.declared.causes.Cause.TheVariants.{NothingDone}
+use Rattle.access.specs.Causes.{number_of, answer_of}
+use Rattle.access.specs.Contract.{Does}
 use Rattle.access.specs.Lanes.{Named, LaneIn}
 use Rattle.access.specs.TableSizes.{TableIn}
-use Rattle.access.proofs.Ways.{performs, passed, shown, well_formed}
-use Rattle.access.proofs.LaneLaws.{lane-known}
+use Rattle.access.proofs.Ways.{refuses, performs, passed, shown, well_formed}
+use Rattle.access.proofs.Refusals.{lane-stops}
 use Rattle.access.proofs.TableReads.{table-of-lane}
-use Rattle.updates.specs.UpdateStores.{FirstIn, handed_from, Reclaimed}
-use Rattle.updates.proofs.Deletes.{appended-to}
-use Rattle.updates.proofs.Shown.{queue-shown, queue-first, queue-inside, first-in}
+use Rattle.updates.specs.UpdateStores.{QueueIn, NoneIn, handed_from, ReclaimedAt, Reclaimed}
+use Rattle.updates.proofs.Causes.{after-lane}
+use Rattle.updates.proofs.Shown.{queue-shown, queue-first, queue-in, queue-none, queue-some, none-taken, some-taken}
 
 -- ---- the queue that it takes from
 
@@ -86,52 +90,87 @@ module _ (m : List ℕ) (l : Lane) (k : LaneIn m l) where
     pub lane-some : b ≡ false → l.address + (queues_at + done_offset) ≡ ends_at (sizes m) from
     lane-some q = lane-ends ∙ picked false q
 
-  -- its own queue, tested
-  module _ (ends : ℕ) (ee : ends ≡ ends_at (sizes m) from) where
-    pub none_done : (b : Bool) → b ≡ not (ltb (at m ends) l.sizes.slots) → b ≡ (nothing_done (state m) l.number).applies
-    none_done b e = queue-shown m l.sizes table from named ends ee b e ∙ handed-empty (state m) l.number
+-- ---- what it takes
 
-    pub done-inside : ends < length m
-    done-inside = omega (arith, queue-inside m l.sizes table from named ends ee)
-
--- ---- where no cause refuses it
+pub none-reclaimed : (m n : List ℕ) (z : Sizes) (ends : ℕ) (r : Option ℕ) → Taken m z ends None n → r ≡ None → Reclaimed m z ends r n
+none-reclaimed m n z ends r t e = subst (λ (x : Option ℕ). Reclaimed m z ends x n) (sym e) (none-taken m z ends n t)
 
 -- taken, then cleared, and then appended
-pub reclaimed-by : (m n k o : List ℕ) (z : Sizes) (ends r : ℕ) → Taken m z ends r n → k ≡ cleared n (slot_address z r)
-    → o ≡ appended k z free_at r → Reclaimed m z ends r o
-reclaimed-by m n k o z ends r u e f = record {
-  slot = u.slot;
-  memory = appended-to _ k o z free_at r f (e ∙ ap (λ (y : List ℕ). cleared y (slot_address z r)) u.memory);
-}
+pub slot-reclaimed : (m n k j : List ℕ) (z : Sizes) (ends o : ℕ) → Taken m z ends (Some o) n → k ≡ cleared n (slot_address z o)
+    → j ≡ appended k z free_at o → Reclaimed m z ends (Some o) j
+slot-reclaimed m n k j z ends o t e f =
+    let first = some-taken m z ends n o t in
+    record {
+      slot = first.0;
+      inside = first.1;
+      memory =
+          f ∙ ap (λ (y : List ℕ). appended y z free_at o) e ∙ ap (λ (y : List ℕ). appended (cleared y (slot_address z o)) z free_at o) t.memory;
+    }
 
-module _ (m : List ℕ) (l : Lane) (k : Named m l) (x : ℕ) (e : x ≡ refusal (state m) (hand_back l.number)) (h : x ≤ 0) where
-  known : HandBackAccepted (state m) l.number
-  known = passed m (hand_back l.number) x e h
+module _ (m : List ℕ) (l : Lane) (k : Named m l) where
+  abbrev op : Op
+  op = hand_back l.number
 
-  pub hand-back-lane : LaneIn m l
-  hand-back-lane = lane-known m l k known.lane.known
+  abbrev others : List Rule
+  others = cause 16 (is_empty (lane_of (state m) l.number).queues.done && is_empty (state m).engine.global.done) ∷ []
 
-  abbrev q : Queue
-  q = handed_from (state m) l.number
+  -- a cause of its lane applies
+  pub hand-back-lane : (e : Cause) (r : Result (List ℕ) Cause) → number_of e ≡ first_cause (of_lane (state m) l.number []) → IsErrAnd r (λ d. d ≡ e)
+      → Does (on_state op) m (answer_of r) m
+  unfolding causes
+  hand-back-lane e r q h = refuses m op k.sound e r (lane-stops (state m) l.number _ e (Err e) q refl) h
 
-  -- from one queue or the other
-  reclaims : (o : ℕ) → o ≡ at m (ends_at (sizes m) q) → reclaimed_words (sizes m) m q o ≡ stored (performed (state m) (hand_back l.number)) m
-  unfolding state
-  reclaims o = go (from_global (state m) l.number) refl
+  -- none of them does
+  module _ (clear : 0 ≡ first_cause (of_lane (state m) l.number [])) (within : LaneIn m l) (ends : ℕ)
+      (ee : ends ≡ ends_at (sizes m) (handed_from (state m) l.number))
     where
-      go : (b : Bool) → from_global (state m) l.number ≡ b → o ≡ at m (ends_at (sizes m) (pick (state m) l.number b))
-          → reclaimed_words (sizes m) m (pick (state m) l.number b) o ≡ stored (performed (state m) (hand_back l.number)) m
-      go true g eo = hand-back-global-stored (state m) m (shown m k.sound) (well_formed m k.sound) l.number o known g eo
-      go false g eo = hand-back-lane-stored (state m) m (shown m k.sound) (well_formed m k.sound) l.number o known g eo
+      abbrev q : Queue
+      q = handed_from (state m) l.number
 
-  module _ (ends : ℕ) (ee : ends ≡ ends_at (sizes m) q) where
-    pub hand-back-first : FirstIn m (sizes_of l.sizes) ends
-    hand-back-first = first-in m l.sizes (table-of-lane m l k) q (named m l hand-back-lane) ends ee (handed-empty (state m) l.number ∙ known.done)
+      in_table : TableIn m l.sizes
+      in_table = table m l within
 
-    pub hand-back-done : (o : ℕ) (r : Answer) (n : List ℕ) → five r ≡ accepted o 0 0 0 → Reclaimed m (sizes_of l.sizes) ends o n
-        → Does (on_state (hand_back l.number)) m r n
-    unfolding result
-    hand-back-done o r n er u =
-        let first = u.slot ∙ queue-first m l.sizes (table-of-lane m l k) q (named m l hand-back-lane) ends ee ∙ handed-first (state m) l.number in
-        performs m (hand_back l.number) k.sound x r n e h (er ∙ ap (λ (y : ℕ). accepted y 0 0 0) first)
-        (u.memory ∙ rw (k.sizes, ee) (reclaims o (u.slot ∙ ap (at m) ee)))
+      pub hand-back-in : QueueIn m (sizes_of l.sizes) ends
+      hand-back-in = queue-in m l.sizes in_table q (named m l within) ends ee
+
+      module _ (o : Option ℕ) (n : List ℕ) (u : Reclaimed m (sizes_of l.sizes) ends o n) where
+        pub hand-back-none : o ≡ None → (r : Result (List ℕ) Cause) → IsErrAnd r (λ d. d ≡ NothingDone) → Does (on_state op) m (answer_of r) n
+        unfolding causes first_cause
+        hand-back-none e r h =
+            let none : NoneIn m (sizes_of l.sizes) ends n = subst (λ (x : Option ℕ). Reclaimed m (sizes_of l.sizes) ends x n) e u in
+            let empty = sym (handed-empty (state m) l.number) ∙ queue-none m l.sizes in_table q (named m l within) ends ee none.empty in
+            subst (Does (on_state op) m (answer_of r)) (sym none.memory)
+            (refuses m op k.sound NothingDone r (sym (after-lane (state m) l.number clear others ∙ rw empty)) h)
+
+        module _ (i : ℕ) (e : o ≡ Some i) where
+          f : ReclaimedAt m (sizes_of l.sizes) ends i n
+          f = subst (λ (x : Option ℕ). Reclaimed m (sizes_of l.sizes) ends x n) e u
+
+          none_applies : 0 ≡ refusal (state m) op
+          unfolding causes first_cause
+          none_applies =
+              let some =
+              sym (handed-empty (state m) l.number) ∙ queue-some m l.sizes in_table q (named m l within) ends ee (omega (arith, f.slot, f.inside)) in
+              sym (after-lane (state m) l.number clear others ∙ rw some)
+
+          known : HandBackAccepted (state m) l.number
+          known = passed m op none_applies
+
+          -- from one queue or the other
+          reclaims : i ≡ at m (ends_at (sizes m) q) → reclaimed_words (sizes m) m q i ≡ stored (performed (state m) op) m
+          unfolding state
+          reclaims = go (from_global (state m) l.number) refl
+            where
+              go : (b : Bool) → from_global (state m) l.number ≡ b → i ≡ at m (ends_at (sizes m) (pick (state m) l.number b))
+                  → reclaimed_words (sizes m) m (pick (state m) l.number b) i ≡ stored (performed (state m) op) m
+              go true g eo = hand-back-global-stored (state m) m (shown m k.sound) (well_formed m k.sound) l.number i known g eo
+              go false g eo = hand-back-lane-stored (state m) m (shown m k.sound) (well_formed m k.sound) l.number i known g eo
+
+          pub hand-back-done : Does (on_state op) m (answer_of (Ok (i ∷ 0 ∷ 0 ∷ 0 ∷ []))) n
+          unfolding result
+          hand-back-done =
+              let first = f.slot ∙ queue-first m l.sizes in_table q (named m l within) ends ee ∙ handed-first (state m) l.number in
+              performs m op k.sound none_applies _ n (ap (λ (y : ℕ). accepted y 0 0 0) first)
+              (f.memory
+              ∙ ap₂ (λ (z : Sizes) (a : ℕ). appended (cleared (less_first m z a) (slot_address z i)) z free_at i) k.sizes ee
+              ∙ reclaims (f.slot ∙ ap (at m) ee))

@@ -6,5 +6,5 @@ use Rattle.updates.proofs.done_queue.Goals as goal
 pub returns-then-is_empty : goal.returns-then-is_empty
 returns-then-is_empty c = search (rules, lane-empty)
 
-pub returns : goal.returns
-returns c = search (rules, lane-some)
+pub returns-else-is_empty : goal.returns-else-is_empty
+returns-else-is_empty c = search (rules, lane-some)
