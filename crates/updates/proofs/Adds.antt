@@ -87,7 +87,7 @@ module _ (m : List ℕ) (l : Lane) (k : Named m l) (p : Product) where
   pub add-entry : (e : Cause) (r : Result (List ℕ) Cause) → number_of e ≡ first_cause (of_entry (state m) l.number p.code p.deposit p.material [])
       → IsErrAnd r (λ d. d ≡ e) → Does (on_state adds) m (answer_of r) m
   unfolding causes
-  add-entry e r q h = refuses m adds k.sound e r (entry-stops (state m) l.number p.code p.deposit p.material _ e (Err e) q refl) h
+  add-entry e r q h = refuses m adds k.sound e r (entry-stops {T = List ℕ} (state m) l.number p.code p.deposit p.material _ e (Err e) q refl) h
 
   -- none of them does
   module _ (entry : 0 ≡ first_cause (of_entry (state m) l.number p.code p.deposit p.material [])) (o : Option Found)
@@ -155,7 +155,7 @@ module _ (m : List ℕ) (l : Lane) (k : Named m l) (p : Product) where
   pub replace-entry : (e : Cause) (r : Result (List ℕ) Cause) → number_of e ≡ first_cause (of_entry (state m) l.number p.code p.deposit p.material [])
       → IsErrAnd r (λ d. d ≡ e) → Does (on_state replaces) m (answer_of r) m
   unfolding causes
-  replace-entry e r q h = refuses m replaces k.sound e r (entry-stops (state m) l.number p.code p.deposit p.material _ e (Err e) q refl) h
+  replace-entry e r q h = refuses m replaces k.sound e r (entry-stops {T = List ℕ} (state m) l.number p.code p.deposit p.material _ e (Err e) q refl) h
 
   module _ (entry : 0 ≡ first_cause (of_entry (state m) l.number p.code p.deposit p.material [])) (o : Option Found)
       (eo : o ≡ found (search_words (sizes_of l.sizes) m p.code))

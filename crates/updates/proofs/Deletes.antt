@@ -59,7 +59,7 @@ module _ (m : List ℕ) (l : Lane) (k : Named m l) (c : ℕ) where
   pub delete-lane : (e : Cause) (r : Result (List ℕ) Cause) → number_of e ≡ first_cause (of_lane (state m) l.number []) → IsErrAnd r (λ d. d ≡ e)
       → Does (on_state op) m (answer_of r) m
   unfolding causes
-  delete-lane e r q h = refuses m op k.sound e r (lane-stops (state m) l.number _ e (Err e) q refl) h
+  delete-lane e r q h = refuses m op k.sound e r (lane-stops {T = List ℕ} (state m) l.number _ e (Err e) q refl) h
 
   -- none of them does
   module _ (lane : 0 ≡ first_cause (of_lane (state m) l.number [])) (b : Bool) (eb : b ≡ wrong_code c) where

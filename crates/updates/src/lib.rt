@@ -46,12 +46,12 @@ fn search(m: &[u32], z: words::Sizes, code: u64) -> Option<Found>
 // ---- delete
 
 // Unlinks the slot that was found, and appends it to the queue; it keeps its chain link.
-fn remove(m: &mut [u32], z: words::Sizes, head: usize, queue: QueueAt, old: Found)
-    requires { Leaves m.old (sizes_of z) head queue.ends old }
-    ensures { m.new ≡ appended (unlinked m.old (sizes_of z) head old.slot old.prev) (sizes_of z) queue.ends old.slot }
+fn remove(m: &mut [u32], z: words::Sizes, head: usize, queue: QueueAt, gone: Found)
+    requires { Leaves m.old (sizes_of z) head queue.ends gone }
+    ensures { m.new ≡ appended (unlinked m.old (sizes_of z) head gone.slot gone.prev) (sizes_of z) queue.ends gone.slot }
 {
-    chains::unlink(m, z, head, old);
-    queue.append(m, z, old.slot);
+    chains::unlink(m, z, head, gone);
+    queue.append(m, z, gone.slot);
 }
 
 // Removes a code's slot, which waits in the lane's next queue.
