@@ -7,7 +7,7 @@ use lib.ListN.{length}
 use Rattle.model.specs.Word.{word_limit}
 use Rattle.model.specs.Lists.{from}
 use Rattle.model.specs.State.{Sizes as TableSizes, lane_count, Lane}
-use Rattle.model.specs.Layout.{length_offset, current_offset, done_offset, free_at, global_queues_at, queues_at, lane_length, lane_address, total}
+use Rattle.model.specs.Layout.{length_offset, current_offset, done_offset, free_at, global_queues_at, queues_at, lane_address, total}
 use Rattle.model.specs.Engine.{lane_at}
 use Rattle.model.specs.Rules.{queued, queued_in}
 use Rattle.model.specs.Memory.{at, read_lane, sizes, state}

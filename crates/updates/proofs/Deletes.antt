@@ -1,6 +1,6 @@
 -- Delete: the causes that refuse it, and where none does what its stores need and leave. The slot that was found leaves its chain for the lane's next
 -- queue.
-use Prim.Native.Nat.{ℕ, ◌+◌, ◌≤◌}
+use Prim.Native.Nat.{ℕ, ◌+◌}
 use mathlib.Core.Bool.{Bool, true, false, not}
 use mathlib.Core.Path.{◌≡◌, refl, ap, sym, ◌∙◌}
 use mathlib.Core.List.{List, [], ◌∷◌}

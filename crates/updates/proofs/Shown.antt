@@ -10,7 +10,7 @@ use lib.Dec.{ltb, eqb}
 use borrow.Author.Tests.{lt-ltb, le-ltb, ltb-true, ltb-false}
 use Rattle.model.specs.Word.{none}
 use Rattle.model.specs.Lists.{is_empty, first}
-use Rattle.model.specs.Layout.{queue_width, free_at, heads_at, slots_body}
+use Rattle.model.specs.Layout.{queue_width, slots_body}
 use Rattle.model.specs.State.{Sizes as TableSizes}
 use Rattle.model.specs.Table.{chain_number, slot_of, present}
 use Rattle.model.specs.Memory.{at, sizes, state}

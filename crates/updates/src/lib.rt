@@ -152,7 +152,11 @@ fn done_queue(m: &[u32], lane: access::Lane) -> QueueAt
     let own = QueueAt {
         ends: lane.address + DONE_AT,
     };
-    if own.is_empty(m, lane.sizes) { GLOBAL_DONE } else { own }
+    if own.is_empty(m, lane.sizes) {
+        GLOBAL_DONE
+    } else {
+        own
+    }
 }
 
 // Takes the first slot of the queue, clears it to the free values, appends it to the free queue, and answers its

@@ -4,4 +4,3 @@ use Rattle.labels.proofs.code_of.Given as goal
 
 abbrev pub invariant-loop-b : goal.invariant-loop-b
 invariant-loop-b l = Reading l.text l.code l.b-index
-

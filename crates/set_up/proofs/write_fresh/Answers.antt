@@ -1,6 +1,5 @@
 -- The bodies are written one after another, each where the one before it ends.
 use native.Mathlib.Omega.{arith}
-use borrow.Author.Rules.{rules}
 use Rattle.words.specs.Lent.{sizes_of}
 use Rattle.representation.proofs.Sentences.Split.{sizes-fit}
 use Rattle.set_up.proofs.FreshLaws.{all-written}

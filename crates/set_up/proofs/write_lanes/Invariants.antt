@@ -1,6 +1,4 @@
 -- The loop's invariant: the records of the lanes before this one are written.
-use mathlib.Core.Path.{◌≡◌}
-use lib.ListN.{length}
 use Rattle.model.specs.Layout.{lanes_body}
 use Rattle.words.specs.Lent.{sizes_of}
 use Rattle.set_up.specs.Written.{Written, rows}

@@ -1,6 +1,6 @@
 -- A law for each way out, the causes in their order; where none applies, a free slot is filled and linked at the head.
 use Rattle.updates.proofs.Causes.{none-refused}
-use Rattle.updates.proofs.Adds.{free-in, add-entry, add-present, add-none, add-inside, add-done}
+use Rattle.updates.proofs.Adds.{add-entry, add-present, add-none, add-done}
 use Rattle.updates.proofs.add.Goals as goal
 
 pub returns-in_err-check_entry : goal.returns-in_err-check_entry
