@@ -1,18 +1,17 @@
 -- The tree of codes: a code on its way through the cells, and the numbers entered one after the other.
-use Prim.Native.Nat.{ℕ, zero, suc, ◌+◌, ◌*◌, ◌-◌, ◌/◌, ◌%◌, ◌≤◌, ◌<◌}
+use Prim.Native.Nat.{ℕ, suc, ◌+◌, ◌*◌, ◌-◌, ◌/◌, ◌%◌, ◌≤◌, ◌<◌}
 use mathlib.Core.Bool.{Bool, true, false}
 use mathlib.Core.Path.{◌≡◌, refl, ap, sym, ◌∙◌, subst}
 use mathlib.Core.List.{List, [], ◌∷◌, map}
 use native.Mathlib.Omega.{arith}
 use native.Mathlib.Decide.{dec_lt}
-use lib.ListN.{get_or, set, length, take, length-set, replicate, get_or-replicate, length-replicate, get_or-eq_default}
+use lib.ListN.{get_or, set, length, take, length-set}
 use lib.Seq.{get_or-set_same, get_or-set_other}
 use Rattle.model.specs.Lists.{count, from, member, distinct}
 use Rattle.laws.specs.Tests.{same, other, decide}
 use Rattle.laws.specs.ListLaws.{map-map-from, take-map-from}
 use Rattle.laws.specs.Counts.{count-from, count-from-below}
 use Rattle.laws.specs.Repeats.{distinct-map, distinct-map-intro}
-use Rattle.distinct_codes.specs.Cells.{code_at}
 use Rattle.distinct_codes.specs.Tree.{branches, root, Empty, Path, here, down, Keeps, Shape, In, New, Old, Entered}
 
 unlike : false ≡ true → ⊥
@@ -45,10 +44,6 @@ module _ (R : ℕ) (f : ℕ → ℕ) (n : ℕ) (k : List ℕ) where
   pub way-start : Way (root R (f n)) (f n / R)
   way-start = record { behind = λ l h r. r; ahead = λ t r e. subst (λ (c : ℕ). Path R k (root R c) (c / R) t) e r }
 
-  pub way-begin : (p c d : ℕ) → c ≡ f n → p ≡ root R c → d ≡ c / R → Way p d
-  way-begin p c d e g h =
-      subst (λ (y : ℕ). Way p y) (sym (h ∙ ap (λ (x : ℕ). x / R) e)) (subst (λ (x : ℕ). Way x (f n / R)) (sym (g ∙ ap (root R) e)) way-start)
-
   past : {p d t v : ℕ} → get_or k p 0 ≡ suc v → (t ≡ v → ⊥) → Path R k p d t → Path R k (R + branches * v + d % branches) (d / branches) t
   past e h (here g) = absurd (h (omega arith))
   past {d = d} {t = t} {v = v} e h (down {v = w} g r) =
@@ -70,9 +65,6 @@ module _ (R : ℕ) (f : ℕ → ℕ) (n : ℕ) (k : List ℕ) where
 
     pub step-below : Shape R n k → p < R + branches * (v - 1)
     step-below s = s.order p (v - 1) holds
-
-    pub step-old : (l : List ℕ) → f (v - 1) ≡ f n → Entered R f n k false l
-    step-old l q = record { new = λ z. absurd (unlike z); old = λ z. record { slot = v - 1; cell = p; stands = holds; equal = q } }
 
   pub ended : {p d t : ℕ} → get_or k p 0 ≡ 0 → Path R k p d t → ⊥
   ended e (here g) = omega arith
@@ -116,14 +108,6 @@ module _ (R : ℕ) (f : ℕ → ℕ) (n : ℕ) (k : List ℕ) where
 
     pub step-new : (d : ℕ) → Way p d → Entered R f n k true l
     step-new d w = record { new = λ z. way-new d w; old = λ z. absurd (unlike (sym z)) }
-
--- cells that hold 0
-pub empty-cells : (n : ℕ) → Empty (replicate n 0)
-empty-cells n q =
-    elim (dec_lt q n) [
-      | yes p ↦ get_or-replicate n q 0 0 p
-      | no p ↦ get_or-eq_default (replicate n 0) 0 {n = q} (omega (arith, length-replicate {A = ℕ} n 0))
-    ]
 
 -- ---- the numbers, one after the other
 
@@ -190,21 +174,20 @@ module _ (R c : ℕ) (f : ℕ → ℕ) where
 
 -- ---- the slots of a list, by their places
 
-module _ (m : List ℕ) (base : ℕ) (a : List ℕ) (n : ℕ) where
-  abbrev numbered : ℕ → ℕ
-  numbered t = code_at m base (get_or a t 0)
-
-  pub apart-listed : n ≤ length a → (r : Bool) → r ≡ distinct (map numbered (from 0 n)) → r ≡ distinct (map (code_at m base) (take n a))
-  apart-listed h r e =
-      e ∙ ap distinct (sym (map-map-from (code_at m base) (λ (t : ℕ). get_or a t 0) 0 n) ∙ ap (map (code_at m base)) (sym (take-map-from a n h)))
+module _ (f : ℕ → ℕ) where
+  pub apart-listed : (a : List ℕ) → (r : Bool) → r ≡ distinct (map (λ (t : ℕ). f (get_or a t 0)) (from 0 (length a)))
+      → r ≡ distinct (map f a)
+  apart-listed a r e =
+      e ∙ ap distinct (sym (map-map-from f (λ (t : ℕ). get_or a t 0) 0 (length a))
+      ∙ ap (map f) (sym (take-map-from a (length a) (omega arith)) ∙ take-all a))
+    where
+      take-all : (xs : List ℕ) → take (length xs) xs ≡ xs
+      take-all [] = refl
+      take-all (x ∷ xs) = ap (λ (ys : List ℕ). x ∷ ys) (take-all xs)
 
   -- one code or none
-  pub apart-short : n < 2 → true ≡ distinct (map (code_at m base) (take n a))
+  pub apart-short : (a : List ℕ) → length a < 2 → true ≡ distinct (map f a)
   unfolding distinct member
-  apart-short h = go n a h
-    where
-      go : (n : ℕ) (a : List ℕ) → n < 2 → true ≡ distinct (map (code_at m base) (take n a))
-      go zero a h = refl
-      go (suc zero) [] h = refl
-      go (suc zero) (x ∷ a) h = refl
-      go (suc (suc n)) a h = absurd (omega arith)
+  apart-short [] h = refl
+  apart-short (x ∷ []) h = refl
+  apart-short (x ∷ (y ∷ a)) h = absurd (omega arith)

@@ -1,6 +1,6 @@
 -- The first step: cells that hold 0 or a slot's number plus 1, the first slot met whose code spreads there. A slot that meets a held cell is
 -- compared with its holder and put aside. Clients cite `meets`, `code_at`, `spread` and `Room`.
-use Rattle.std.specs.Prelude.{ℕ, zero, suc, ◌+◌, ◌*◌, ◌/◌, ◌%◌, ◌≤◌, ◌<◌, Bool, true, false, cond, ◌≡◌, List, [], ◌∷◌, ◌++◌, get_or, set, length, take, eqb}
+use Rattle.std.specs.Prelude.{ℕ, zero, suc, ◌+◌, ◌*◌, ◌/◌, ◌%◌, ◌≤◌, ◌<◌, cond, ◌≡◌, List, [], ◌∷◌, ◌++◌, get_or, set, eqb}
 use Rattle.model.specs.Layout.{slot_length}
 use Rattle.model.specs.Memory.{wide, low, high}
 
@@ -11,8 +11,10 @@ few_cells = 64
 abbrev pub many_cells : ℕ
 many_cells = 4096
 
-abbrev pub cells_of : Bool → ℕ
-cells_of few = cond few few_cells many_cells
+-- R may be such a number
+pub record CellCount (R : ℕ) : Type 0 where
+  pub some : 0 < R
+  pub most : R ≤ many_cells
 
 -- the cell of a code, of n. The laws hold for any function; this one keeps codes in regular steps apart, and its factors' sum is below 2^32.
 abbrev pub low_factor : ℕ
@@ -27,10 +29,10 @@ dropped = 1048576
 abbrev pub spread : ℕ → ℕ → ℕ
 spread n c = (low c * low_factor + high c * high_factor) / dropped % n
 
--- code c begins in cell r
-pub record Begins (few : Bool) (c r : ℕ) : Type 0 where
-  pub cell : r ≡ spread (cells_of few) c
-  pub below : r < cells_of few
+-- code c begins in cell r, of R
+pub record Begins (R c r : ℕ) : Type 0 where
+  pub cell : r ≡ spread R c
+  pub below : r < R
 
 -- the code of slot i, slot 0's words beginning at base
 abbrev pub code_at : List ℕ → ℕ → ℕ → ℕ
@@ -56,21 +58,3 @@ module _ (f g : ℕ → ℕ) where
   unfoldable pub meets : List ℕ → Held → Held
   meets [] h = h
   meets (i ∷ is) h = meets is (meet i h)
-
--- the first n of a are slots of the memory m, whose slot 0 begins at base
-pub record Places (m : List ℕ) (base : ℕ) (a : List ℕ) (n : ℕ) : Type 0 where
-  pub listed : n ≤ length a
-  pub members : (j : ℕ) → j < n → base + slot_length * get_or a j 0 + slot_length ≤ length m
-
--- and so are the holders of the cells
-pub record Room (m : List ℕ) (base : ℕ) (few : Bool) (k a : List ℕ) (n : ℕ) : Type 0 where
-  pub cells : cells_of few ≤ length k
-  pub holders : (q : ℕ) → base + slot_length * get_or k q 0 ≤ length m
-  pub aside : Places m base a n
-
--- slot i meets the cells k, with the first n of a put aside: they are l now, and the first o of b; or (r is false) its code is its cell's holder's
-pub record Meets (m : List ℕ) (base : ℕ) (few : Bool) (i : ℕ) (k a : List ℕ) (n : ℕ) (r : Bool) (o : ℕ) (l b : List ℕ) : Type 0 where
-  pub good : r ≡ true → meet (code_at m base) (spread (cells_of few)) i (held k (take n a)) ≡ held l (take o b)
-  pub bad : r ≡ false → meet (code_at m base) (spread (cells_of few)) i (held k (take n a)) ≡ clash
-  pub room : Room m base few l b o
-  pub most : o ≤ n + 1

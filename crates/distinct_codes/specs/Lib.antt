@@ -1,2 +1,3 @@
 pub mod Cells
+pub mod Met
 pub mod Tree

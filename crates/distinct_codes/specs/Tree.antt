@@ -2,7 +2,6 @@
 -- number that stands in a cell has sixteen cells of its own, from R + 16 × it, and a code that is not its own goes on in the one of its next digit.
 use Rattle.std.specs.Prelude.{ℕ, suc, ◌+◌, ◌*◌, ◌/◌, ◌%◌, ◌≤◌, ◌<◌, Bool, true, false, ◌≡◌, List, get_or, length}
 use Rattle.model.specs.Layout.{chain_count}
-use Rattle.distinct_codes.specs.Cells.{few_cells, many_cells, cells_of}
 
 -- the cells of a number's own, and the base of the digits
 abbrev pub branches : ℕ
@@ -12,16 +11,10 @@ branches = 16
 abbrev pub root : ℕ → ℕ → ℕ
 root R c = (c % R + c / chain_count % R) % R
 
--- r is the number of these
-pub record Roots (few : Bool) (r : ℕ) : Type 0 where
-  pub count : r ≡ cells_of few
-  pub some : few_cells ≤ r
-  pub most : r ≤ many_cells
-
--- code c begins in cell r
-pub record Rooted (few : Bool) (c r : ℕ) : Type 0 where
-  pub cell : r ≡ root (cells_of few) c
-  pub below : r < cells_of few
+-- code c begins in cell r, of R
+pub record Rooted (R c r : ℕ) : Type 0 where
+  pub cell : r ≡ root R c
+  pub below : r < R
 
 -- nothing stands in a cell
 abbrev pub Empty : List ℕ → Type 0

@@ -4,128 +4,92 @@
 #![tactic(auto)]
 
 pub mod cells;
+pub mod slots;
 
-ghost use Rattle.std.specs.Prelude.{◌≡◌, ℕ, ◌+◌, ◌*◌, ◌/◌, ◌<◌, ◌≤◌, map, length, get_or, take};
-ghost use Rattle.model.specs.Lists.{from, distinct};
-ghost use Rattle.model.specs.Layout.{max_slots, slot_length};
-ghost use Rattle.distinct_codes.specs.Cells.{few_cells, cells_of, code_at, Places};
-ghost use Rattle.distinct_codes.specs.Tree.{branches, Roots, Rooted, Shape, Entered, Empty};
+ghost use Rattle.std.specs.Prelude.{◌≡◌, ℕ, ◌+◌, ◌*◌, ◌<◌, ◌≤◌, map, length, get_or};
+ghost use Rattle.model.specs.Lists.{distinct};
+ghost use Rattle.model.specs.Layout.{max_slots};
+ghost use Rattle.distinct_codes.specs.Cells.{many_cells, CellCount};
+ghost use Rattle.distinct_codes.specs.Met.{code_of, Listed};
+ghost use Rattle.distinct_codes.specs.Tree.{branches, Rooted, Shape, Entered, Empty};
+
+use slots::Slots;
 
 // the base of the digits, and the cells of a number's own
-const DIGIT: u64 = 16;
-
-const BRANCHES: usize = DIGIT as usize;
-
-// codes of one chain are equal but for what this divides
-const CHAINS: u64 = words::CHAIN_COUNT as u64;
+const BRANCHES: usize = 16;
 
 // the cells of a tree of few codes, and of one of as many as there are slots
 const TREE_OF_FEW: usize = cells::FEW_CELLS + BRANCHES * cells::FEW_CELLS;
 
 const TREE_OF_MANY: usize = cells::MANY_CELLS + BRANCHES * (words::MAX_SLOTS as usize);
 
-// The number of cells in which codes begin.
-fn roots(few: bool) -> usize
-    ensures { Roots few result }
+// The cell in which a code begins: codes of one chain are equal but for what the number of chains divides.
+fn root<const CELLS: usize>(code: u64) -> usize
+    requires { CellCount CELLS }
+    ensures { Rooted CELLS code result }
 {
-    if few {
-        cells::FEW_CELLS
-    } else {
-        cells::MANY_CELLS
-    }
-}
-
-// The cell in which a code begins.
-fn root(code: u64, few: bool) -> usize
-    ensures { Rooted few code result }
-{
-    if few {
-        ((code % cells::FEW + code / CHAINS % cells::FEW) % cells::FEW) as usize
-    } else {
-        ((code % cells::MANY + code / CHAINS % cells::MANY) % cells::MANY) as usize
-    }
-}
-
-// The digits that lead on from there.
-fn digits_of(code: u64, few: bool) -> u64
-    ensures { result ≡ code / cells_of few }
-{
-    if few {
-        code / cells::FEW
-    } else {
-        code / cells::MANY
-    }
+    let cells = CELLS as u64;
+    ((code % cells + code / words::CHAIN_COUNT as u64 % cells) % cells) as usize
 }
 
 // Number i is entered by its code, that of the slot aside[i]; false where one entered before has that
 // code.
-fn enter(m: &[u32], base: usize, aside: &[u16], i: usize, few: bool, cells: &mut [u16]) -> bool
-    requires { Places m.now base aside.now (i + 1) × (i < max_slots) × (cells_of few + branches * i < length cells.old)
-        × Shape (cells_of few) i cells.old }
-    ensures { Entered (cells_of few) (λ (t : ℕ). code_at m.now base (get_or aside.now t 0)) i cells.old result
-        cells.new }
+fn enter<const CELLS: usize>(slots: Slots, aside: &[u16], i: usize, cells: &mut [u16]) -> bool
+    requires { Listed slots aside.now × (i < length aside.now) × CellCount CELLS
+        × (CELLS + branches * i < length cells.old) × Shape CELLS i cells.old }
+    ensures { Entered CELLS (λ (t : ℕ). code_of slots.entry (get_or aside.now t 0)) i cells.old result cells.new }
 {
-    let code = words::code_at(m, base + words::SLOT_LENGTH * cells::node(aside[i]));
-    let from = roots(few);
-    let mut digits = digits_of(code, few);
-    let mut p = root(code, few);
-    let mut v = cells::node(cells[p]);
+    let code = slots.code(aside[i] as usize);
+    let mut digits = code / CELLS as u64;
+    let mut p = root::<CELLS>(code);
+    let mut v = cells[p] as usize;
     while v > 0 {
         let s = v - 1;
-        if words::code_at(m, base + words::SLOT_LENGTH * cells::node(aside[s])) == code {
+        if slots.code(aside[s] as usize) == code {
             return false;
         }
-        p = from + BRANCHES * s + ((digits % DIGIT) as usize);
-        digits = digits / DIGIT;
-        v = cells::node(cells[p]);
+        p = CELLS + BRANCHES * s + (digits % BRANCHES as u64) as usize;
+        digits = digits / BRANCHES as u64;
+        v = cells[p] as usize;
     }
     cells[p] = (i + 1) as u16;
     true
 }
 
-// The n numbers, one after the other, into cells that are lent empty.
-fn enter_all(m: &[u32], base: usize, aside: &[u16], n: usize, few: bool, cells: &mut [u16]) -> bool
-    requires { Places m.now base aside.now n × (n ≤ max_slots) × (cells_of few + branches * n ≤ length cells.old) × Empty cells.old }
-    ensures { result ≡ distinct (map (λ (t : ℕ). code_at m.now base (get_or aside.now t 0)) (from 0 n)) }
+// The numbers of aside, one after the other, into cells that are lent empty.
+fn enter_all<const CELLS: usize>(slots: Slots, aside: &[u16], cells: &mut [u16]) -> bool
+    requires { Listed slots aside.now × CellCount CELLS × (CELLS + branches * length aside.now ≤ length cells.old)
+        × Empty cells.old }
+    ensures { result ≡ distinct (map (code_of slots.entry) aside.now) }
 {
-    let mut i: usize = 0;
-    while i < n {
-        if !enter(m, base, aside, i, few, cells) {
+    for i in 0..aside.len() {
+        if !enter::<CELLS>(slots, aside, i, cells) {
             return false;
         }
-        i = i + 1;
     }
     true
 }
 
-// The same in a small tree.
-fn apart_of_few(m: &[u32], base: usize, aside: &[u16], n: usize) -> bool
-    requires { Places m.now base aside.now n × (n ≤ few_cells) }
-    ensures { result ≡ distinct (map (λ (t : ℕ). code_at m.now base (get_or aside.now t 0)) (from 0 n)) }
+// The same in a tree of so many cells.
+fn apart_in<const CELLS: usize, const TREE: usize>(slots: Slots, aside: &[u16]) -> bool
+    requires { Listed slots aside.now × CellCount CELLS × (CELLS + branches * length aside.now ≤ TREE)
+        × (TREE ≤ many_cells + branches * max_slots) }
+    ensures { result ≡ distinct (map (code_of slots.entry) aside.now) }
 {
-    let mut cells = [0u16; TREE_OF_FEW];
-    enter_all(m, base, aside, n, true, &mut cells)
+    let mut cells = [0u16; TREE];
+    enter_all::<CELLS>(slots, aside, &mut cells)
 }
 
-// The same in a large one.
-fn apart_of_many(m: &[u32], base: usize, aside: &[u16], n: usize) -> bool
-    requires { Places m.now base aside.now n × (n ≤ max_slots) }
-    ensures { result ≡ distinct (map (λ (t : ℕ). code_at m.now base (get_or aside.now t 0)) (from 0 n)) }
+// No code stands twice among the slots of aside.
+pub fn apart(slots: Slots, aside: &[u16]) -> bool
+    requires { Listed slots aside.now }
+    ensures { result ≡ distinct (map (code_of slots.entry) aside.now) }
 {
-    let mut cells = [0u16; TREE_OF_MANY];
-    enter_all(m, base, aside, n, false, &mut cells)
-}
-
-// No code stands twice among the first n slots of aside.
-pub fn apart(m: &[u32], base: usize, aside: &[u16], n: usize) -> bool
-    requires { Places m.now base aside.now n × (n ≤ max_slots) }
-    ensures { result ≡ distinct (map (code_at m.now base) (take n aside.now)) }
-{
-    if n < 2 {
+    if aside.len() < 2 {
         return true;
     }
-    if n <= cells::FEW_CELLS {
-        return apart_of_few(m, base, aside, n);
+    if aside.len() <= cells::FEW_CELLS {
+        return apart_in::<{ cells::FEW_CELLS }, TREE_OF_FEW>(slots, aside);
     }
-    apart_of_many(m, base, aside, n)
+    apart_in::<{ cells::MANY_CELLS }, TREE_OF_MANY>(slots, aside)
 }

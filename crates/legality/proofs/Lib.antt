@@ -2,5 +2,4 @@
 mod StepsRead
 mod TableSaid
 mod TableLaws
-mod TableRead
 mod LegalLaws

@@ -1,7 +1,7 @@
 -- The steps of the walks, in the chains and queues that a memory reads: their slots are those of all chains and queues, and the checks of the queues
 -- have "lines agree with first and last" and that lengths agree among them.
 use Prim.Native.Nat.{ℕ, zero, suc, ◌+◌, ◌*◌, ◌<◌}
-use mathlib.Core.Bool.{Bool, true, false, ◌&&◌}
+use mathlib.Core.Bool.{Bool, true, ◌&&◌}
 use mathlib.Core.Path.{◌≡◌, refl, ap, ap₂, sym, ◌∙◌, subst}
 use mathlib.Core.List.{List, [], ◌∷◌, ◌++◌, map}
 use native.Mathlib.Omega.{arith}
@@ -23,6 +23,8 @@ use Rattle.laws.specs.ListLaws.{length-map-from, get_or-map-below}
 use Rattle.laws.specs.Walks.{walk-stop, walk-on, stop, on, step}
 use Rattle.laws.specs.Counts.{count-append}
 use Rattle.words.specs.Links.{slot_or_none}
+use Rattle.slot_places.specs.declared.slots.Queued.{Queued}
+use Rattle.slot_places.specs.declared.slots.Queued.TheVariants.{Free, Retired}
 use Rattle.slot_places.specs.Slots.{queued_fits}
 use Rattle.slot_places.specs.WalkSteps.{Step, slots_of, several, queue_count, walks, chain_steps, link_steps, end_steps, queue_steps, lane_steps}
 use Rattle.slot_places.proofs.WalkStepLaws.{slots_of-append}
@@ -63,8 +65,8 @@ module _ (m : List ℕ) where
   pub chain-slots : (k : ℕ) → slots_of (chain_steps m base S k) ≡ read_chain m k
   chain-slots k = walk-slots _ chain_link_at (S + 1) (at m (heads_at + k)) ∙ ap (walk (slot_field m chain_link_at) (at m (heads_at + k))) (add-one S)
 
-  pub link-slots : (free : Bool) (a : ℕ) → slots_of (link_steps m base S free a) ≡ read_queue m a
-  link-slots free a = walk-slots _ queue_link_at (S + 1) (at m a) ∙ ap (walk (slot_field m queue_link_at) (at m a)) (add-one S)
+  pub link-slots : (kind : Queued) (a : ℕ) → slots_of (link_steps m base S kind a) ≡ read_queue m a
+  link-slots kind a = walk-slots _ queue_link_at (S + 1) (at m a) ∙ ap (walk (slot_field m queue_link_at) (at m a)) (add-one S)
 
   -- ---- the parts
 
@@ -72,10 +74,10 @@ module _ (m : List ℕ) where
   chain_part = several (chain_steps m base S) 1 0 chain_count
 
   abbrev pub free_part : List Step
-  free_part = several (queue_steps m base S true) queue_width free_at 1
+  free_part = several (queue_steps m base S Free) queue_width free_at 1
 
   abbrev pub three_steps : ℕ → List Step
-  three_steps a = several (queue_steps m base S false) queue_width a queue_count
+  three_steps a = several (queue_steps m base S Retired) queue_width a queue_count
 
   abbrev pub lane_part : List Step
   lane_part = several (lane_steps m base S) lane_length (lanes_body (sizes m)) lane_total
@@ -83,28 +85,28 @@ module _ (m : List ℕ) where
   abbrev pub queued_part : List Step
   queued_part = queued_steps m base (lanes_body (sizes m)) lane_total S
 
-  queue-right : (free : Bool) (a : ℕ) → Right S (queue_steps m base S free a)
-  queue-right free a = right-append (right-walks m _ S _ (at m a) (S + 1)) (look (look ended))
+  queue-right : (kind : Queued) (a : ℕ) → Right S (queue_steps m base S kind a)
+  queue-right kind a = right-append (right-walks m _ S _ (at m a) (S + 1)) (look (look ended))
 
   pub steps-right : Right S (chain_part ++ queued_part)
   unfolding queued_steps
   steps-right =
       right-append (right-several (chain_steps m base S) 1 (λ k. right-walks m _ S _ (at m (heads_at + k)) (S + 1)) 0 chain_count)
-      (right-append (right-several (queue_steps m base S true) queue_width (queue-right true) free_at 1)
+      (right-append (right-several (queue_steps m base S Free) queue_width (queue-right Free) free_at 1)
       (right-append (three global_queues_at) (right-several (lane_steps m base S) lane_length (λ a. three (a + queues_at)) (lanes_body (sizes m)) lane_total)))
     where
       three : (a : ℕ) → Right S (three_steps a)
-      three a = right-several (queue_steps m base S false) queue_width (queue-right false) a 3
+      three a = right-several (queue_steps m base S Retired) queue_width (queue-right Retired) a 3
 
   -- ---- their slots
 
-  pub slots-queue : (i : ℕ) (free : Bool) (a : ℕ) → count i (slots_of (queue_steps m base S free a)) ≡ count i (read_queue m a)
+  pub slots-queue : (i : ℕ) (kind : Queued) (a : ℕ) → count i (slots_of (queue_steps m base S kind a)) ≡ count i (read_queue m a)
   unfolding slots_of count
-  slots-queue i free a =
+  slots-queue i kind a =
       omega (
         arith,
-        slots-append i (link_steps m base S free a) (end_steps m base S a (slots_of (link_steps m base S free a))),
-        ap (count i) (link-slots free a),
+        slots-append i (link_steps m base S kind a) (end_steps m base S a (slots_of (link_steps m base S kind a))),
+        ap (count i) (link-slots kind a),
       )
 
   slots-chains : (a n : ℕ) → slots_of (several (chain_steps m base S) 1 a n) ≡ concat (map (read_chain m) (from a n))
@@ -121,7 +123,7 @@ module _ (m : List ℕ) where
 
   pub free-count : (i : ℕ) → count i (slots_of free_part) ≡ count i (read_queue m free_at)
   unfolding several slots_of count
-  free-count i = omega (arith, slots-append i (queue_steps m base S true free_at) [], slots-queue i true free_at)
+  free-count i = omega (arith, slots-append i (queue_steps m base S Free free_at) [], slots-queue i Free free_at)
 
   -- three queues, the first of them at a
   three-count : (i a c : ℕ) → c ≡ a + done_offset
@@ -131,12 +133,12 @@ module _ (m : List ℕ) where
       let q : a + queue_width + queue_width ≡ c = omega arith in
       omega (
         arith,
-        slots-append i (queue_steps m base S false a) (several (queue_steps m base S false) queue_width (a + queue_width) 2),
-        slots-append i (queue_steps m base S false (a + queue_width)) (several (queue_steps m base S false) queue_width (a + queue_width + queue_width) 1),
-        slots-append i (queue_steps m base S false (a + queue_width + queue_width)) [],
-        slots-queue i false a,
-        slots-queue i false (a + queue_width),
-        slots-queue i false (a + queue_width + queue_width),
+        slots-append i (queue_steps m base S Retired a) (several (queue_steps m base S Retired) queue_width (a + queue_width) 2),
+        slots-append i (queue_steps m base S Retired (a + queue_width)) (several (queue_steps m base S Retired) queue_width (a + queue_width + queue_width) 1),
+        slots-append i (queue_steps m base S Retired (a + queue_width + queue_width)) [],
+        slots-queue i Retired a,
+        slots-queue i Retired (a + queue_width),
+        slots-queue i Retired (a + queue_width + queue_width),
         ap (λ (x : ℕ). count i (read_queue m x)) q,
       )
 
@@ -189,30 +191,30 @@ module _ (m : List ℕ) where
   given f o a = eqb (f (read_queue m a)) (at m (a + o))
 
   -- the checks at its end speak of the queue that the memory reads
-  ends-given : (free : Bool) (a : ℕ) → checks (end_steps m base S a (slots_of (link_steps m base S free a))) ≡ (given last last_offset a && (given length length_offset a && true))
+  ends-given : (kind : Queued) (a : ℕ) → checks (end_steps m base S a (slots_of (link_steps m base S kind a))) ≡ (given last last_offset a && (given length length_offset a && true))
   unfolding checks
-  ends-given free a = ap (λ (xs : List ℕ). checks (end_steps m base S a xs)) (link-slots free a)
+  ends-given kind a = ap (λ (xs : List ℕ). checks (end_steps m base S a xs)) (link-slots kind a)
 
-  ends-told : (free : Bool) (a : ℕ) → checks (queue_steps m base S free a) ≡ true → (given last last_offset a && (given length length_offset a && true)) ≡ true
-  ends-told free a h =
-      sym (ends-given free a) ∙ (checks-both (link_steps m base S free a) (end_steps m base S a (slots_of (link_steps m base S free a))) h).1
+  ends-told : (kind : Queued) (a : ℕ) → checks (queue_steps m base S kind a) ≡ true → (given last last_offset a && (given length length_offset a && true)) ≡ true
+  ends-told kind a h =
+      sym (ends-given kind a) ∙ (checks-both (link_steps m base S kind a) (end_steps m base S a (slots_of (link_steps m base S kind a))) h).1
 
-  pub queue-last : (free : Bool) (a : ℕ) → checks (queue_steps m base S free a) ≡ true → given last last_offset a ≡ true
-  queue-last free a h = (and-true (given last last_offset a) (given length length_offset a && true) (ends-told free a h)).0
+  pub queue-last : (kind : Queued) (a : ℕ) → checks (queue_steps m base S kind a) ≡ true → given last last_offset a ≡ true
+  queue-last kind a h = (and-true (given last last_offset a) (given length length_offset a && true) (ends-told kind a h)).0
 
-  pub queue-length : (free : Bool) (a : ℕ) → checks (queue_steps m base S free a) ≡ true → given length length_offset a ≡ true
-  queue-length free a h =
-      (and-true (given length length_offset a) true (and-true (given last last_offset a) (given length length_offset a && true) (ends-told free a h)).1).0
+  pub queue-length : (kind : Queued) (a : ℕ) → checks (queue_steps m base S kind a) ≡ true → given length length_offset a ≡ true
+  queue-length kind a h =
+      (and-true (given length length_offset a) true (and-true (given last last_offset a) (given length length_offset a && true) (ends-told kind a h)).1).0
 
   module _ (links : (x : ℕ) → x < S → slot_or_none S (at m (base + queue_link_at + slot_length * x)) ≡ true) where
-    given-queue : (free : Bool) (a : ℕ) → slot_or_none S (at m a) ≡ true → ((x : ℕ) → 0 < count x (read_queue m a) → queued_fits m base S free x ≡ true)
+    given-queue : (kind : Queued) (a : ℕ) → slot_or_none S (at m a) ≡ true → ((x : ℕ) → 0 < count x (read_queue m a) → queued_fits m base S kind x ≡ true)
         → given last last_offset a ≡ true → given length length_offset a ≡ true
-        → checks (queue_steps m base S free a) ≡ true
-    given-queue free a h f l n =
-        both-check (link_steps m base S free a) (end_steps m base S a (slots_of (link_steps m base S free a)))
-        (told-walks m (base + queue_link_at) S (queued_fits m base S free) links (at m a) (S + 1) h
-        (λ x p. f x (subst (λ (xs : List ℕ). 0 < count x xs) (link-slots free a) p)))
-        (ends-given free a ∙ and_intro (given last last_offset a) (given length length_offset a && true) l (and_intro (given length length_offset a) true n refl))
+        → checks (queue_steps m base S kind a) ≡ true
+    given-queue kind a h f l n =
+        both-check (link_steps m base S kind a) (end_steps m base S a (slots_of (link_steps m base S kind a)))
+        (told-walks m (base + queue_link_at) S (queued_fits m base S kind) links (at m a) (S + 1) h
+        (λ x p. f x (subst (λ (xs : List ℕ). 0 < count x xs) (link-slots kind a) p)))
+        (ends-given kind a ∙ and_intro (given last last_offset a) (given length length_offset a && true) l (and_intro (given length length_offset a) true n refl))
 
   -- ---- three queues, and all
 
@@ -220,7 +222,7 @@ module _ (m : List ℕ) where
   unfolding state
   lane_of i b = get_or-map-below (read_lane m) lane_total i fresh_lane b
 
-  module _ (f : List ℕ → ℕ) (o : ℕ) (told : (free : Bool) (a : ℕ) → checks (queue_steps m base S free a) ≡ true → given f o a ≡ true) where
+  module _ (f : List ℕ → ℕ) (o : ℕ) (told : (kind : Queued) (a : ℕ) → checks (queue_steps m base S kind a) ≡ true → given f o a ≡ true) where
     three-agree : (a g : ℕ) → checks (three_steps a) ≡ true → agrees_at m f o a (read_queues m g a) ≡ true
     three-agree a g h =
         every-intro _ (
@@ -231,7 +233,7 @@ module _ (m : List ℕ) where
         found : (j x : ℕ) → j < queue_count → a + queue_width * j ≡ x → given f o x ≡ true
         found j x b e =
             subst (λ (y : ℕ). given f o y ≡ true) e
-            (told false (a + queue_width * j) (several-check (queue_steps m base S false) queue_width a queue_count h j b))
+            (told Retired (a + queue_width * j) (several-check (queue_steps m base S Retired) queue_width a queue_count h j b))
 
     pub steps-agree : checks queued_part ≡ true → queues_agree m f o (state m) ≡ true
     unfolding queued_steps state read_lane several
@@ -239,7 +241,7 @@ module _ (m : List ℕ) where
         let k = checks-both free_part (three_steps global_queues_at ++ lane_part) h in
         let r = checks-both (three_steps global_queues_at) lane_part k.1 in
         every-intro _ (
-          told true free_at (several-check (queue_steps m base S true) queue_width free_at 1 k.0 0 (omega arith)),
+          told Free free_at (several-check (queue_steps m base S Free) queue_width free_at 1 k.0 0 (omega arith)),
           (
             three-agree global_queues_at global_generation_at r.0,
             (
@@ -263,32 +265,32 @@ module _ (m : List ℕ) where
       ∙ all-below (λ (i : ℕ). agrees_at m f o (lane_address (sizes m) i + queues_at) (lane_at (state m).engine i).queues) lane_total i h b
 
   module _ (links : (x : ℕ) → x < S → slot_or_none S (at m (base + queue_link_at + slot_length * x)) ≡ true)
-      (retired : (a x : ℕ) → 0 < count x (read_queue m a) → queued_fits m base S false x ≡ true) where
+      (retired : (a x : ℕ) → 0 < count x (read_queue m a) → queued_fits m base S Retired x ≡ true) where
     agree-three : (a g : ℕ) → slot_or_none S (at m a) ≡ true → slot_or_none S (at m (a + current_offset)) ≡ true → slot_or_none S (at m (a + done_offset)) ≡ true
         → agrees_at m last last_offset a (read_queues m g a) ≡ true → agrees_at m length length_offset a (read_queues m g a) ≡ true
         → checks (three_steps a) ≡ true
     agree-three a g h₀ h₁ h₂ l n =
         let e = every_true _ l in
         let k = every_true _ n in
-        check-several (queue_steps m base S false) queue_width a queue_count
+        check-several (queue_steps m base S Retired) queue_width a queue_count
         (found (here a h₀ e.0 k.0) (here (a + current_offset) h₁ e.1.0 k.1.0) (here (a + done_offset) h₂ e.1.1.0 k.1.1.0))
       where
         here : (x : ℕ) → slot_or_none S (at m x) ≡ true → given last last_offset x ≡ true → given length length_offset x ≡ true
-            → checks (queue_steps m base S false x) ≡ true
-        here x h t u = given-queue links false x h (retired x) t u
+            → checks (queue_steps m base S Retired x) ≡ true
+        here x h t u = given-queue links Retired x h (retired x) t u
 
-        there : (x y : ℕ) → x ≡ y → checks (queue_steps m base S false x) ≡ true → checks (queue_steps m base S false y) ≡ true
-        there x y q t = subst (λ (z : ℕ). checks (queue_steps m base S false z) ≡ true) q t
+        there : (x y : ℕ) → x ≡ y → checks (queue_steps m base S Retired x) ≡ true → checks (queue_steps m base S Retired y) ≡ true
+        there x y q t = subst (λ (z : ℕ). checks (queue_steps m base S Retired z) ≡ true) q t
 
-        found : checks (queue_steps m base S false a) ≡ true → checks (queue_steps m base S false (a + current_offset)) ≡ true
-            → checks (queue_steps m base S false (a + done_offset)) ≡ true → (j : ℕ) → j < queue_count
-            → checks (queue_steps m base S false (a + queue_width * j)) ≡ true
+        found : checks (queue_steps m base S Retired a) ≡ true → checks (queue_steps m base S Retired (a + current_offset)) ≡ true
+            → checks (queue_steps m base S Retired (a + done_offset)) ≡ true → (j : ℕ) → j < queue_count
+            → checks (queue_steps m base S Retired (a + queue_width * j)) ≡ true
         found t₀ t₁ t₂ zero b = there a (a + queue_width * 0) (omega arith) t₀
         found t₀ t₁ t₂ (suc zero) b = there (a + current_offset) (a + queue_width * 1) (omega arith) t₁
         found t₀ t₁ t₂ (suc (suc zero)) b = there (a + done_offset) (a + queue_width * 2) (omega arith) t₂
         found t₀ t₁ t₂ (suc (suc (suc j))) b = absurd (omega arith)
 
-    pub agree-steps : ((x : ℕ) → 0 < count x (read_queue m free_at) → queued_fits m base S true x ≡ true)
+    pub agree-steps : ((x : ℕ) → 0 < count x (read_queue m free_at) → queued_fits m base S Free x ≡ true)
         → slot_or_none S (at m free_at) ≡ true
         → slot_or_none S (at m global_queues_at) ≡ true → slot_or_none S (at m (global_queues_at + current_offset)) ≡ true
         → slot_or_none S (at m (global_queues_at + done_offset)) ≡ true
@@ -301,9 +303,9 @@ module _ (m : List ℕ) where
         let e = every_true _ l in
         let k = every_true _ n in
         both-check free_part (three_steps global_queues_at ++ lane_part)
-        (check-several (queue_steps m base S true) queue_width free_at 1
-        (λ j b. let q : free_at ≡ free_at + queue_width * j = omega arith in subst (λ (z : ℕ). checks (queue_steps m base S true z) ≡ true) q
-        (given-queue links true free_at f blank e.0 k.0)))
+        (check-several (queue_steps m base S Free) queue_width free_at 1
+        (λ j b. let q : free_at ≡ free_at + queue_width * j = omega arith in subst (λ (z : ℕ). checks (queue_steps m base S Free z) ≡ true) q
+        (given-queue links Free free_at f blank e.0 k.0)))
         (both-check (three_steps global_queues_at) lane_part (agree-three global_queues_at global_generation_at g₀ g₁ g₂ e.1.0 k.1.0)
         (check-several (lane_steps m base S) lane_length (lanes_body (sizes m)) lane_total (λ i b.
         agree-three (lane_address (sizes m) i + queues_at) (lane_address (sizes m) i + generation_at)

@@ -1,36 +1,43 @@
 -- The walks and the codes put aside decide the sentences about the slots: each slot is right for the place where it is met, each is met once, and
 -- two codes are equal only where two put aside are.
-use Prim.Native.Nat.{ℕ, zero, suc, ◌+◌, ◌*◌, ◌%◌, ◌≤◌, ◌<◌}
+use Prim.Native.Nat.{ℕ, zero, suc, ◌+◌, ◌*◌, ◌/◌, ◌%◌, ◌≤◌, ◌<◌}
 use mathlib.Core.Bool.{Bool, true, false, ◌&&◌}
 use mathlib.Core.Path.{◌≡◌, refl, ap, ap₂, sym, ◌∙◌, subst}
 use mathlib.Core.List.{List, [], ◌∷◌, ◌++◌, map}
 use native.Mathlib.Omega.{arith}
 use native.Mathlib.Decide.{dec_lt}
-use lib.ListN.{get_or, length, take, replicate, length-replicate}
+use lib.ListN.{get_or, length, replicate, length-replicate}
 use lib.Dec.{ltb, eqb}
 use borrow.Author.Tests.{eq-eqb, eqb-true, lt-ltb}
+use Rattle.std.specs.Prelude.{Some, None}
+use Rattle.std.proofs.Math.Nat.{mod-lt}
 use Rattle.model.specs.Word.{none}
 use Rattle.model.specs.Lists.{from, count, last, distinct, concat}
-use Rattle.model.specs.Layout.{slots_at, max_slots, chain_count, queue_width, current_offset, done_offset, last_offset, length_offset, heads_at, free_at, global_queues_at}
+use Rattle.model.specs.Layout.{slots_at, chain_count, queue_width, current_offset, done_offset, last_offset, length_offset, heads_at, free_at, global_queues_at}
 use Rattle.model.specs.Layout.{masks_at, queues_at, position_at, deposit_at, material_at, chain_link_at, queue_link_at, slot_length, lane_length, slots_body}
 use Rattle.model.specs.Layout.{lane_address, lanes_body}
-use Rattle.model.specs.Memory.{at, wide, sizes, slot_word, lane_word, read_chain, read_chains, read_queue}
+use Rattle.model.specs.Memory.{at, wide, low, high, sizes, slot_word, lane_word, read_chain, read_chains, read_queue}
 use Rattle.model.specs.Legal.{ends_in_range, queues_in_range, lane_links_in_range, slot_or_none as in_range, lasts_agree, lengths_agree}
-use Rattle.laws.specs.Tests.{unlike, refuted, every_true, and-true, and_intro, or_left, or_right, all-below, clash}
+use Rattle.laws.specs.Tests.{refuted, every_true, and-true, and_intro, or_left, or_right, all-below, clash}
 use Rattle.laws.specs.ListLaws.{get_or-replicate-default}
 use Rattle.laws.specs.Counts.{count-append}
-use Rattle.distinct_codes.specs.Cells.{cells_of, spread, code_at, held, Places}
+use Rattle.distinct_codes.specs.declared.slots.Slots.{Slots}
+use Rattle.distinct_codes.specs.Cells.{CellCount, low_factor, high_factor, dropped, spread, code_at, Held, held}
+use Rattle.distinct_codes.specs.Met.{code_of, Listed}
 use Rattle.distinct_codes.proofs.CellLaws.{meets-told, meets-twice}
 use Rattle.words.specs.Links.{slot_or_none}
+use Rattle.slot_places.specs.declared.slots.Queued.{Queued}
+use Rattle.slot_places.specs.declared.slots.Queued.TheVariants.{Free, Retired}
 use Rattle.slot_places.specs.Slots.{product_in_range, chained_fits, queued_fits}
 use Rattle.slot_places.specs.WalkSteps.{Step, Outcome, spoilt, painted, run, slots_of, several, queue_count, chain_steps, link_steps, queue_steps}
-use Rattle.slot_places.specs.WalkSteps.{lane_steps, unmarked, Counted, Ready, enters_all, Enters, Runs}
+use Rattle.slot_places.specs.WalkSteps.{lane_steps, unmarked}
+use Rattle.slot_places.specs.Walks.{chain_of, Counted, Ready, enters_all, Enters, Runs}
 use Rattle.slot_places.proofs.WalkStepLaws.{going, run-append, unmarked-all, unmarked-none, unmarked-some}
 use Rattle.slot_places.proofs.Marked.{checks, marks-are, marks-most, marks-checked, Spoilt, failed, doubled, spoilt-why}
 use Rattle.slot_places.proofs.Places.{Told, checks-both, both-check, told-append, told-several, several-check, check-several, walks-begin, walks-told}
 use Rattle.slot_places.proofs.Places.{told-walks}
 use Rattle.engine_legality.specs.WordSentences.{engine_legal}
-use Rattle.legality.specs.Parts.{Table, table_legal, queued_steps, Arrays}
+use Rattle.legality.specs.Parts.{Table, table_legal, queued_steps}
 use Rattle.legality.proofs.StepsRead.{S, base, lane_total, chain_part, free_part, three_steps, lane_part, queued_part, chain-slots, chains-are}
 use Rattle.legality.proofs.StepsRead.{free-count, retired-count, all-count, steps-right, queue-last, queue-length, steps-agree, agree-steps}
 use Rattle.legality.proofs.TableSaid.{chained_count, free_count, retired_count, TableSaid, chain-below, queue-below-at, chain-chained, table-said}
@@ -83,7 +90,7 @@ module _ (m : List ℕ) where
     queue-below : (a x : ℕ) → 0 < count x (read_queue m a) → x < S m
     queue-below a x p = queue-below-at m a x p
 
-    retired-fits : (a x : ℕ) → 0 < count x (read_queue m a) → queued_fits m (base m) (S m) false x ≡ true
+    retired-fits : (a x : ℕ) → 0 < count x (read_queue m a) → queued_fits m (base m) (S m) Retired x ≡ true
     retired-fits a x p =
         let b = queue-below a x p in
         and_intro (product_in_range m (slot_at x)) (slot_or_none (S m) (at m (slot_at x + chain_link_at))) (s.products x b) (s.chain_links x b)
@@ -127,26 +134,26 @@ module _ (m : List ℕ) where
     queued = checks-both (free_part m) (three_steps m global_queues_at ++ lane_part m) parts.1
 
     -- a slot in a queue
-    abbrev Fit : Bool → ℕ → Type 0
-    Fit free x = (queued_fits m (base m) (S m) free x ≡ true) × (slot_or_none (S m) (at m (base m + queue_link_at + slot_length * x)) ≡ true)
+    abbrev Fit : Queued → ℕ → Type 0
+    Fit kind x = (queued_fits m (base m) (S m) kind x ≡ true) × (slot_or_none (S m) (at m (base m + queue_link_at + slot_length * x)) ≡ true)
 
-    queue-told : (free : Bool) (a : ℕ) → Told (Fit free) (queue_steps m (base m) (S m) free a)
+    queue-told : (kind : Queued) (a : ℕ) → Told (Fit kind) (queue_steps m (base m) (S m) kind a)
     unfolding slots_of count
-    queue-told free a =
-        told-append (Fit free) (link_steps m (base m) (S m) free a) _
-        (walks-told m (base m + queue_link_at) (S m) (queued_fits m (base m) (S m) free) (at m a) (S m + 1)) (λ k i b. absurd (omega arith))
+    queue-told kind a =
+        told-append (Fit kind) (link_steps m (base m) (S m) kind a) _
+        (walks-told m (base m + queue_link_at) (S m) (queued_fits m (base m) (S m) kind) (at m a) (S m + 1)) (λ k i b. absurd (omega arith))
 
-    three-told : (a : ℕ) → Told (Fit false) (three_steps m a)
-    three-told a = told-several (queue_steps m (base m) (S m) false) queue_width (Fit false) (queue-told false) a 3
+    three-told : (a : ℕ) → Told (Fit Retired) (three_steps m a)
+    three-told a = told-several (queue_steps m (base m) (S m) Retired) queue_width (Fit Retired) (queue-told Retired) a 3
 
-    free-told : (x : ℕ) → 0 < free_count m x → Fit true x
+    free-told : (x : ℕ) → 0 < free_count m x → Fit Free x
     free-told x p =
-        told-several (queue_steps m (base m) (S m) true) queue_width (Fit true) (queue-told true) free_at 1 queued.0 x (omega (arith, free-count m x, p))
+        told-several (queue_steps m (base m) (S m) Free) queue_width (Fit Free) (queue-told Free) free_at 1 queued.0 x (omega (arith, free-count m x, p))
 
-    retired-told : (x : ℕ) → 0 < retired_count m x → Fit false x
+    retired-told : (x : ℕ) → 0 < retired_count m x → Fit Retired x
     retired-told x p =
-        told-append (Fit false) (three_steps m global_queues_at) (lane_part m) (three-told global_queues_at)
-        (told-several (lane_steps m (base m) (S m)) lane_length (Fit false) (λ a. three-told (a + queues_at)) (lanes_body (sizes m)) (lane_total m)) queued.1 x
+        told-append (Fit Retired) (three_steps m global_queues_at) (lane_part m) (three-told global_queues_at)
+        (told-several (lane_steps m (base m) (S m)) lane_length (Fit Retired) (λ a. three-told (a + queues_at)) (lanes_body (sizes m)) (lane_total m)) queued.1 x
         (omega (arith, retired-count m x, p))
 
     -- a slot on a chain
@@ -170,8 +177,8 @@ module _ (m : List ℕ) where
     -- the place of a slot
     data Place (i : ℕ) : Type 0 where
       chained : (k : ℕ) → Linked k i → Place i
-      free : 0 < free_count m i → Fit true i → Place i
-      retired : 0 < retired_count m i → Fit false i → Place i
+      free : 0 < free_count m i → Fit Free i → Place i
+      retired : 0 < retired_count m i → Fit Retired i → Place i
 
     find : (i a n : ℕ) → a + n ≤ chain_count → 0 < count i (concat (map (read_chain m) (from a n))) → Place i
     unfolding count concat from
@@ -197,7 +204,7 @@ module _ (m : List ℕ) where
       abbrev a : ℕ
       a = slot_at i
 
-      blank-parts : Fit true i → (wide m a ≡ 0) × (at m (a + deposit_at) ≡ 0) × (at m (a + material_at) ≡ 0) × (eqb (at m (a + chain_link_at)) none ≡ true)
+      blank-parts : Fit Free i → (wide m a ≡ 0) × (at m (a + deposit_at) ≡ 0) × (at m (a + material_at) ≡ 0) × (eqb (at m (a + chain_link_at)) none ≡ true)
       blank-parts f =
           let t₁ = and-true (eqb (wide m a) 0 && eqb (at m (a + deposit_at)) 0 && eqb (at m (a + material_at)) 0) (eqb (at m (a + chain_link_at)) none) f.0 in
           let t₂ = and-true (eqb (wide m a) 0 && eqb (at m (a + deposit_at)) 0) (eqb (at m (a + material_at)) 0) t₁.0 in
@@ -225,7 +232,7 @@ module _ (m : List ℕ) where
       rest-said z (retired p f) = absurd (omega arith)
 
     -- a queue's first is where its walk begins, and its last is its last slot or none
-    ends-said : (f : Bool) (a : ℕ) → checks (queue_steps m (base m) (S m) f a) ≡ true → ends_in_range m (at m) a ≡ true
+    ends-said : (f : Queued) (a : ℕ) → checks (queue_steps m (base m) (S m) f a) ≡ true → ends_in_range m (at m) a ≡ true
     ends-said f a h =
         and_intro (in_range m (at m a)) (in_range m (at m (a + last_offset)))
         (walks-begin m (base m + queue_link_at) (S m) (queued_fits m (base m) (S m) f) (at m a) (S m + 1) (checks-both (link_steps m (base m) (S m) f a) _ h).0)
@@ -241,7 +248,7 @@ module _ (m : List ℕ) where
         given : (j x : ℕ) → j < queue_count → a + queue_width * j ≡ x → ends_in_range m (at m) x ≡ true
         given j x b e =
             subst (λ (y : ℕ). ends_in_range m (at m) y ≡ true) e
-            (ends-said false (a + queue_width * j) (several-check (queue_steps m (base m) (S m) false) queue_width a queue_count h j b))
+            (ends-said Retired (a + queue_width * j) (several-check (queue_steps m (base m) (S m) Retired) queue_width a queue_count h j b))
 
     head-said : (k : ℕ) → k < chain_count → slot_or_none (S m) (at m (heads_at + k)) ≡ true
     head-said k b =
@@ -253,7 +260,7 @@ module _ (m : List ℕ) where
     unfolding lasts_agree lengths_agree
     checks-said d = record {
       heads = head-said;
-      free_ends = ends-said true free_at (several-check (queue_steps m (base m) (S m) true) queue_width free_at 1 queued.0 0 (omega arith));
+      free_ends = ends-said Free free_at (several-check (queue_steps m (base m) (S m) Free) queue_width free_at 1 queued.0 0 (omega arith));
       global_ends = three_said global_queues_at (checks-both (three_steps m global_queues_at) (lane_part m) queued.1).0;
       chain_links = λ i b. chain_link i (place i b);
       queue_links = λ i b. queue-link i (place i b);
@@ -299,120 +306,121 @@ module _ (m : List ℕ) where
               positive (suc x) f = omega arith
       decided-table n e z false q = refuted (table_legal m) (λ l. clash (table-said m l).codes (sym q))
 
--- ---- the same for the addresses that the code has
+-- ---- the same for the slots that the code hands on, and the marks, the cells and the slots put aside as they are lent
 
-module _ (m : List ℕ) (base lane n : ℕ) (t : Table m base lane n) (few : Bool) (s k a : List ℕ) (l : Arrays few (at m slots_at) s k a) where
+pub record Arrays (S R : ℕ) (s k a : List ℕ) : Type 0 where
+  pub marks : (i : ℕ) → get_or s i 0 ≡ 0
+  pub cells : (i : ℕ) → get_or k i 0 ≡ 0
+  pub aside : a ≡ []
+  pub mark_room : S ≤ length s
+  pub cell_room : R ≤ length k
+
+module _ (t : Slots) (lane n : ℕ) (y : Table t lane n) (R : ℕ) (c : CellCount R) (s k a : List ℕ) (l : Arrays t.count R s k a) where
+  abbrev m : List ℕ
+  m = t.memory.now
+
   abbrev chain_side : List Step
-  chain_side = several (chain_steps m base (at m slots_at)) 1 0 chain_count
+  chain_side = several (chain_of t) 1 0 chain_count
 
   abbrev queue_side : List Step
-  queue_side = queued_steps m base lane n (at m slots_at)
+  queue_side = queued_steps m t.base lane n t.count
 
   same-chains : chain_side ≡ chain_part m
-  same-chains = ap (λ (x : ℕ). several (chain_steps m x (at m slots_at)) 1 0 chain_count) t.slots
+  same-chains = ap₂ (λ (x z : ℕ). several (chain_steps m x z) 1 0 chain_count) y.slots y.count
 
   same-queues : queue_side ≡ queued_part m
   same-queues =
-      ap₂ (λ (x y : ℕ). queued_steps m x y n (at m slots_at)) t.slots t.lanes
-      ∙ ap (λ (y : ℕ). queued_steps m (slots_body (sizes m)) (lanes_body (sizes m)) y (at m slots_at)) t.count
+      ap₂ (λ (x z : ℕ). queued_steps m x lane n z) y.slots y.count
+      ∙ ap₂ (λ (x z : ℕ). queued_steps m (slots_body (sizes m)) x z (at m slots_at)) y.lanes y.lane_count
 
   same-steps : chain_side ++ queue_side ≡ chain_part m ++ queued_part m
   same-steps = ap₂ ◌++◌ same-chains same-queues
 
   -- what the chains ask for
-  pub chains-asks : Counted m base (at m slots_at) s (at m slots_at) × Ready m base (at m slots_at) few k a 0 (at m slots_at) × (masks_at ≤ length m)
+  pub chains-asks : Counted t s t.count × Ready t R k a t.count × (masks_at ≤ length m)
   chains-asks = (
-    record { within = t.total; few = t.few; marks = l.mark_room; left = unmarked-all (at m slots_at) s l.marks },
+    record { marks = l.mark_room; left = unmarked-all t.count s l.marks },
     record {
       room = record {
+        count = c;
         cells = l.cell_room;
-        holders = λ q. omega (arith, l.cells q, t.total);
-        aside = record { listed = omega arith; members = λ j b. absurd (omega arith) };
+        holders = λ q. omega (arith, l.cells q);
+        members = λ j b. absurd (omega (arith, b, ap length l.aside));
       };
-      places = l.aside_room;
-      most = omega arith;
+      most = omega (arith, ap length l.aside);
     },
-    omega (arith, t.total, t.slots),
+    omega (arith, t.within, y.slots),
   )
 
-  spread-below : (c : ℕ) → spread (cells_of few) c < length k
-  spread-below c = go few l.cell_room
-    where
-      go : (few : Bool) → cells_of few ≤ length k → spread (cells_of few) c < length k
-      go true h = omega arith
-      go false h = omega arith
+  spread-below : (x : ℕ) → spread R x < length k
+  spread-below x = omega (arith, l.cell_room, c.some, mod-lt ((low x * low_factor + high x * high_factor) / dropped) c.some)
 
-  codes_same : distinct (map (code_at m base) (slots_of chain_side)) ≡ distinct (map (code_at m (slots_body (sizes m))) (concat (read_chains m)))
+  codes_same : distinct (map (code_of t) (slots_of chain_side)) ≡ distinct (map (code_at m (slots_body (sizes m))) (concat (read_chains m)))
   codes_same =
-      ap₂ (λ (x : ℕ) (xs : List ℕ). distinct (map (code_at m x) xs)) t.slots (ap slots_of same-chains ∙ chains-are m)
+      ap₂ (λ (x : ℕ) (xs : List ℕ). distinct (map (code_at m x) xs)) y.slots (ap slots_of same-chains ∙ chains-are m)
 
-  module _ (r : Bool) (x y : ℕ) (u j b : List ℕ) (w : Enters m base (at m slots_at) few chain_side s k a 0 r x y u j b) where
-    pub table-chains : r ≡ false → false ≡ table_legal m
-    unfolding going
-    table-chains e = go r w e
+  left-room : t.count ≤ length s → S m ≤ length s
+  left-room h = omega (arith, h, y.count)
+
+  -- from no slot put aside
+  from-none : (h : Held) → enters_all t R chain_side k a ≡ h → enters_all t R chain_side k [] ≡ h
+  from-none h e = ap (λ (x : List ℕ). enters_all t R chain_side k x) (sym l.aside) ∙ e
+
+  pub table-chains : {u j b : List ℕ} → Enters t R chain_side s k a None u j b → false ≡ table_legal m
+  unfolding going
+  table-chains (Enters.spoils q) =
+      spoilt-table m s l.marks (left-room l.mark_room) y.engine
+      (ap (λ (ps : List Step). run ps s) (sym same-steps) ∙ run-append chain_side queue_side s ∙ ap (λ (o : Outcome). going o queue_side) q)
+  table-chains (Enters.repeats q) =
+      refuted (table_legal m) (λ z. meets-twice (code_of t) (spread R) k l.cells spread-below (slots_of chain_side) (from-none _ q)
+      (codes_same ∙ (table-said m z).codes))
+
+  module _ (x : ℕ) (u j b : List ℕ) (w : Enters t R chain_side s k a (Some x) u j b) where
+    passed : (run chain_side s ≡ painted u) × (enters_all t R chain_side k a ≡ held j b) × Counted t u x × Ready t R j b x
+    passed = go w
       where
-        go : (r : Bool) → Enters m base (at m slots_at) few chain_side s k a 0 r x y u j b → r ≡ false → false ≡ table_legal m
-        go false (Enters.spoils q) e =
-            spoilt-table m s l.marks l.mark_room t.engine
-            (ap (λ (ps : List Step). run ps s) (sym same-steps) ∙ run-append chain_side queue_side s ∙ ap (λ (o : Outcome). going o queue_side) q)
-        go false (Enters.repeats q) e =
-            refuted (table_legal m) (λ z. meets-twice (code_at m base) (spread (cells_of few)) k l.cells spread-below (slots_of chain_side) q
-            (codes_same ∙ (table-said m z).codes))
-        go true (Enters.passes q f c g) e = absurd (unlike (sym e))
+        go : Enters t R chain_side s k a (Some x) u j b
+            → (run chain_side s ≡ painted u) × (enters_all t R chain_side k a ≡ held j b) × Counted t u x × Ready t R j b x
+        go (Enters.passes q f c g) = (q, f, c, g)
 
-    module _ (e : r ≡ true) where
-      passed : (run chain_side s ≡ painted u) × (enters_all m base (at m slots_at) few chain_side k a 0 ≡ held j (take y b))
-          × Counted m base (at m slots_at) u x × Ready m base (at m slots_at) few j b y x
-      passed = go r w e
+    -- what the queues ask for, and the codes put aside
+    pub queues-asks : Counted t u x × (masks_at ≤ length m) × (lane + lane_length * n ≤ length m)
+    queues-asks = (passed.2, omega (arith, t.within, y.slots), omega (arith, t.within, y.slots, y.lanes, y.lane_count))
+
+    pub apart-asks : Listed t b
+    apart-asks = record { members = passed.3.room.members; few = omega (arith, passed.3.most) }
+
+    both : run (chain_part m ++ queued_part m) s ≡ run queue_side u
+    unfolding going
+    both = ap (λ (ps : List Step). run ps s) (sym same-steps) ∙ run-append chain_side queue_side s ∙ ap (λ (o : Outcome). going o queue_side) passed.0
+
+    pub table-queues : {o : List ℕ} → Runs t queue_side u None o → false ≡ table_legal m
+    table-queues (Runs.spoils f) = spoilt-table m s l.marks (left-room l.mark_room) y.engine (both ∙ f)
+
+    module _ (z : ℕ) (o : List ℕ) (q : Runs t queue_side u (Some z) o) where
+      ended : (run queue_side u ≡ painted o) × Counted t o z
+      ended = go q
         where
-          go : (r : Bool) → Enters m base (at m slots_at) few chain_side s k a 0 r x y u j b → r ≡ true
-              → (run chain_side s ≡ painted u) × (enters_all m base (at m slots_at) few chain_side k a 0 ≡ held j (take y b)) × Counted m base (at m slots_at) u x
-              × Ready m base (at m slots_at) few j b y x
-          go false (Enters.spoils q) e = absurd (unlike e)
-          go false (Enters.repeats q) e = absurd (unlike e)
-          go true (Enters.passes q f c g) e = (q, f, c, g)
+          go : Runs t queue_side u (Some z) o → (run queue_side u ≡ painted o) × Counted t o z
+          go (Runs.passes f c) = (f, c)
 
-      -- what the queues ask for, and the codes put aside
-      pub queues-asks : Counted m base (at m slots_at) u x × (masks_at ≤ length m) × (lane + lane_length * n ≤ length m)
-      queues-asks = (passed.2, omega (arith, t.total, t.slots), omega (arith, t.total, t.slots, t.lanes, t.count))
+      unmarked-left : z ≡ unmarked (S m) o
+      unmarked-left = ended.1.left ∙ ap (λ (i : ℕ). unmarked i o) y.count
 
-      pub apart-asks : Places m base b y × (y ≤ max_slots)
-      apart-asks = (passed.3.room.aside, omega (arith, passed.3.most, t.few))
+      pub table-left : (z ≡ 0 → ⊥) → false ≡ table_legal m
+      table-left g = left-table m s l.marks (left-room l.mark_room) o (both ∙ ended.0) z unmarked-left g
 
-      module _ (v : Bool) (z : ℕ) (o : List ℕ) (q : Runs m base (at m slots_at) queue_side u v z o) where
-        both : run (chain_part m ++ queued_part m) s ≡ run queue_side u
-        unfolding going
-        both = ap (λ (ps : List Step). run ps s) (sym same-steps) ∙ run-append chain_side queue_side s ∙ ap (λ (o : Outcome). going o queue_side) passed.0
+      pub table-decided : z ≡ 0 → (d : Bool) → d ≡ distinct (map (code_of t) b) → d ≡ table_legal m
+      table-decided g d f =
+          decided-table m s l.marks (left-room l.mark_room) o (both ∙ ended.0) z unmarked-left g d
+          (f ∙ sym (meets-told (code_of t) (spread R) k l.cells spread-below (slots_of chain_side) j b (from-none _ passed.1)) ∙ codes_same)
 
-        pub table-queues : v ≡ false → false ≡ table_legal m
-        table-queues h = go v q h
-          where
-            go : (v : Bool) → Runs m base (at m slots_at) queue_side u v z o → v ≡ false → false ≡ table_legal m
-            go false (Runs.spoils f) h = spoilt-table m s l.marks l.mark_room t.engine (both ∙ f)
-            go true (Runs.passes f c) h = absurd (unlike (sym h))
-
-        module _ (h : v ≡ true) where
-          ended : (run queue_side u ≡ painted o) × Counted m base (at m slots_at) o z
-          ended = go v q h
-            where
-              go : (v : Bool) → Runs m base (at m slots_at) queue_side u v z o → v ≡ true → (run queue_side u ≡ painted o) × Counted m base (at m slots_at) o z
-              go false (Runs.spoils f) h = absurd (unlike h)
-              go true (Runs.passes f c) h = (f, c)
-
-          pub table-left : (z ≡ 0 → ⊥) → false ≡ table_legal m
-          table-left g = left-table m s l.marks l.mark_room o (both ∙ ended.0) z ended.1.left g
-
-          pub table-decided : z ≡ 0 → (d : Bool) → d ≡ distinct (map (code_at m base) (take y b)) → d ≡ table_legal m
-          table-decided g d f =
-              decided-table m s l.marks l.mark_room o (both ∙ ended.0) z ended.1.left g d
-              (f ∙ sym (meets-told (code_at m base) (spread (cells_of few)) k l.cells spread-below (slots_of chain_side) j (take y b) passed.1) ∙ codes_same)
-
--- arrays of 0
-pub lent-zeros : (few : Bool) (S n c : ℕ) → S ≤ n → cells_of few ≤ c → Arrays few S (replicate n 0) (replicate c 0) (replicate n 0)
-lent-zeros few S n c h g = record {
+-- marks and cells of 0, and none put aside
+pub lent-zeros : (S n R : ℕ) (k a : List ℕ) → S ≤ n → k ≡ replicate R 0 → a ≡ [] → Arrays S R (replicate n 0) k a
+lent-zeros S n R k a h e f = record {
   marks = get_or-replicate-default 0 n;
-  cells = get_or-replicate-default 0 c;
-  mark_room = omega (arith, length-replicate {A = ℕ} n 0);
-  cell_room = omega (arith, g, length-replicate {A = ℕ} c 0);
-  aside_room = omega (arith, length-replicate {A = ℕ} n 0);
+  cells = λ i. ap (λ (x : List ℕ). get_or x i 0) e ∙ get_or-replicate-default 0 R i;
+  aside = f;
+  mark_room = omega (arith, h, length-replicate {A = ℕ} n 0);
+  cell_room = omega (arith, ap length e, length-replicate {A = ℕ} R 0);
 }

@@ -1,26 +1,25 @@
 -- Legality's sentences about the slots, as the check decides them, and the walks of the queues.
-use Rattle.std.specs.Prelude.{ℕ, ◌+◌, ◌*◌, ◌≤◌, ◌≡◌, Bool, true, false, not, List, [], ◌∷◌, ◌++◌, length, get_or}
+use Rattle.std.specs.Prelude.{ℕ, ◌+◌, ◌≡◌, Bool, true, not, List, [], ◌∷◌, ◌++◌}
 use Rattle.model.specs.Lists.{all, every, from}
 use Rattle.model.specs.State.{lane_count}
-use Rattle.model.specs.Layout.{max_slots, chain_count, heads_at, lane_length, slot_length, queue_width, free_at, global_queues_at, deposit_at, material_at}
+use Rattle.model.specs.Layout.{chain_count, heads_at, lane_length, queue_width, free_at, global_queues_at, deposit_at, material_at}
 use Rattle.model.specs.Layout.{chain_link_at, queue_link_at, lanes_body, slots_body, slot_address}
 use Rattle.model.specs.Rules.{wrong_product}
 use Rattle.model.specs.Memory.{at, wide, sizes, slot_word, state}
 use Rattle.model.specs.Legal.{slot_numbers, slot_or_none, ends_in_range, queues_in_range, stands_once, lasts_agree, lengths_agree, on_their_chains}
 use Rattle.model.specs.Legal.{no_code_twice, queue_links_at_rest, free_blank}
 use Rattle.slot_places.specs.WalkSteps.{Step, several, queue_count, queue_steps, lane_steps}
-use Rattle.distinct_codes.specs.Cells.{cells_of}
+use Rattle.distinct_codes.specs.declared.slots.Slots.{Slots}
+use Rattle.slot_places.specs.declared.slots.Queued.TheVariants.{Free, Retired}
 use Rattle.engine_legality.specs.WordSentences.{engine_legal}
 
--- the sizes are in range, the memory has the table's words, and the rest of it is legal; with the addresses of slot 0 and lane 0 and the number of
--- lanes
-pub record Table (m : List ℕ) (base lane n : ℕ) : Type 0 where
-  pub slots : base ≡ slots_body (sizes m)
-  pub lanes : lane ≡ lanes_body (sizes m)
-  pub count : n ≡ lane_count (sizes m)
-  pub few : (sizes m).slots ≤ max_slots
-  pub total : base + slot_length * (sizes m).slots ≤ length m
-  pub engine : engine_legal m ≡ true
+-- the slots are those of the memory's table, and the rest of it is legal; with the address of lane 0 and the number of lanes
+pub record Table (t : Slots) (lane n : ℕ) : Type 0 where
+  pub slots : t.base ≡ slots_body (sizes t.memory.now)
+  pub count : t.count ≡ (sizes t.memory.now).slots
+  pub lanes : lane ≡ lanes_body (sizes t.memory.now)
+  pub lane_count : n ≡ lane_count (sizes t.memory.now)
+  pub engine : engine_legal t.memory.now ≡ true
 
 module _ (m : List ℕ) where
   -- the heads of the chains, where their walks begin
@@ -51,13 +50,5 @@ module _ (m : List ℕ) where
 -- the walks of all queues: the free one, the global ones, and those of n lanes, whose words begin at lane
 unfoldable pub queued_steps : List ℕ → ℕ → ℕ → ℕ → ℕ → List Step
 queued_steps m base lane n S =
-    several (queue_steps m base S true) queue_width free_at 1
-    ++ (several (queue_steps m base S false) queue_width global_queues_at queue_count ++ several (lane_steps m base S) lane_length lane n)
-
--- the marks, the cells and the slots put aside as they are lent: all 0
-pub record Arrays (few : Bool) (S : ℕ) (s k a : List ℕ) : Type 0 where
-  pub marks : (i : ℕ) → get_or s i 0 ≡ 0
-  pub cells : (i : ℕ) → get_or k i 0 ≡ 0
-  pub mark_room : S ≤ length s
-  pub cell_room : cells_of few ≤ length k
-  pub aside_room : S ≤ length a
+    several (queue_steps m base S Free) queue_width free_at 1
+    ++ (several (queue_steps m base S Retired) queue_width global_queues_at queue_count ++ several (lane_steps m base S) lane_length lane n)

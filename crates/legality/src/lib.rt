@@ -4,110 +4,65 @@
 #![tactic(auto)]
 
 ghost use Rattle.std.specs.Prelude.{◌≡◌, ◌+◌, ◌*◌, ◌≤◌, true, length};
-ghost use Rattle.model.specs.Layout.{masks_at, lane_length};
+ghost use Rattle.model.specs.Layout.{masks_at, max_slots, lane_length};
 ghost use Rattle.model.specs.Memory.{sizes};
 ghost use Rattle.model.specs.Legal.{legal as is_legal};
-ghost use Rattle.distinct_codes.specs.Cells.{few_cells};
-ghost use Rattle.slot_places.specs.WalkSteps.{Counted, Runs};
+ghost use Rattle.distinct_codes.specs.Cells.{CellCount};
+ghost use Rattle.slot_places.specs.Walks.{Counted, Runs};
 ghost use Rattle.words.specs.Lent.{Lent};
 ghost use Rattle.engine_legality.specs.WordSentences.{engine_legal};
-ghost use Rattle.legality.specs.Parts.{Table, table_legal, queued_steps, Arrays};
+ghost use Rattle.legality.specs.Parts.{Table, table_legal, queued_steps};
+
+use distinct_codes::cells::Codes;
+use distinct_codes::slots::Slots;
+use slot_places::queue;
+use slot_places::slots::Queued;
 
 // the slots of a small table, and of any
-const FEW_SLOTS: u32 = 64;
-
-const FEW: usize = FEW_SLOTS as usize;
+const FEW: usize = 64;
 
 const MANY: usize = words::MAX_SLOTS as usize;
 
 // The queues: the free one, the global ones and those of the lanes, whose words begin at lane.
-fn walk_queues(
-    m: &[u32],
-    base: usize,
-    lane: usize,
-    lanes: usize,
-    slots: u32,
-    left: u32,
-    marks: &mut [u8],
-) -> slot_places::queue::Queued
-    requires { Counted m.now base slots marks.old left × (masks_at ≤ length m.now) × (lane + lane_length * lanes ≤ length m.now) }
-    ensures { Runs m.now base slots (queued_steps m.now base lane lanes slots) marks.old result.ok result.left
-        marks.new }
+fn walk_queues(slots: Slots, lane: usize, lanes: usize, left: u32, marks: &mut [u8]) -> Option<u32>
+    requires { Counted slots marks.old left × (masks_at ≤ length slots.memory.now) × (lane + lane_length * lanes ≤ length slots.memory.now) }
+    ensures { Runs slots.entry (queued_steps slots.entry.memory.now slots.entry.base lane lanes slots.entry.count) marks.old
+        result marks.new }
 {
-    let f = slot_places::queue::queues(m, base, slots, words::FREE_AT, 1, true, left, marks);
-    if !f.ok {
-        return slot_places::queue::Queued { ok: false, left };
-    }
-    let g = slot_places::queue::queues(
-        m,
-        base,
+    let f = queue::queues(slots, words::FREE_AT, 1, Queued::Free, left, marks)?;
+    let g = queue::queues(
         slots,
         words::GLOBAL_QUEUES_AT,
-        slot_places::queue::QUEUES,
-        false,
-        f.left,
+        queue::QUEUES,
+        Queued::Retired,
+        f,
         marks,
-    );
-    if !g.ok {
-        return slot_places::queue::Queued { ok: false, left };
-    }
-    slot_places::queue::lane_queues(m, base, slots, lane, lanes, g.left, marks)
+    )?;
+    queue::lane_queues(slots, lane, lanes, g, marks)
 }
 
-// The sentences about the slots, of which slot 0's words begin at base, for lanes from lane on: each
-// stands in one place and is right for it, and no code stands twice.
-fn slots_agree(
-    m: &[u32],
-    base: usize,
+// The sentences about the slots, for lanes from lane on: each stands in one place and is right for it, and
+// no code stands twice.
+fn slots_agree<const SLOTS: usize, const CELLS: usize>(
+    slots: Slots,
     lane: usize,
     lanes: usize,
-    few: bool,
-    marks: &mut [u8],
-    cells: &mut [u16],
-    aside: &mut [u16],
 ) -> bool
-    requires { Table m.now base lane lanes × Arrays few (sizes m.now).slots marks.old cells.old aside.old }
-    ensures { result ≡ table_legal m.now }
+    requires { Table slots lane lanes × (slots.count ≤ SLOTS) × (SLOTS ≤ max_slots) × CellCount CELLS }
+    ensures { result ≡ table_legal slots.entry.memory.now }
 {
-    let slots = m[words::SLOTS_AT];
-    let c = slot_places::chain::chains(m, base, slots, few, marks, cells, aside);
-    if !c.ok {
+    let mut marks = [0u8; SLOTS];
+    let mut codes = Codes::<CELLS, SLOTS>::new();
+    let Some(chained) = slot_places::chain::chains(slots, &mut marks, &mut codes) else {
+        return false;
+    };
+    let Some(left) = walk_queues(slots, lane, lanes, chained, &mut marks) else {
+        return false;
+    };
+    if left != 0 {
         return false;
     }
-    let q = walk_queues(m, base, lane, lanes, slots, c.left, marks);
-    if !q.ok {
-        return false;
-    }
-    if q.left != 0 {
-        return false;
-    }
-    distinct_codes::apart(m, base, aside, c.aside)
-}
-
-// The same for a small table, on small arrays.
-fn few_agree(m: &[u32], base: usize, lane: usize, lanes: usize) -> bool
-    requires { Table m.now base lane lanes × ((sizes m.now).slots ≤ few_cells) }
-    ensures { result ≡ table_legal m.now }
-{
-    let mut marks = [0u8; FEW];
-    let mut cells = [0u16; distinct_codes::cells::FEW_CELLS];
-    let mut aside = [0u16; FEW];
-    slots_agree(
-        m, base, lane, lanes, true, &mut marks, &mut cells, &mut aside,
-    )
-}
-
-// The same for any.
-fn many_agree(m: &[u32], base: usize, lane: usize, lanes: usize) -> bool
-    requires { Table m.now base lane lanes }
-    ensures { result ≡ table_legal m.now }
-{
-    let mut marks = [0u8; MANY];
-    let mut cells = [0u16; distinct_codes::cells::MANY_CELLS];
-    let mut aside = [0u16; MANY];
-    slots_agree(
-        m, base, lane, lanes, false, &mut marks, &mut cells, &mut aside,
-    )
+    distinct_codes::apart(slots, codes.aside.as_slice())
 }
 
 // The sentences about the slots, where those about the rest hold.
@@ -115,14 +70,18 @@ fn table_fits(m: &[u32]) -> bool
     requires { (Lent m.now (sizes m.now)) × (engine_legal m.now ≡ true) }
     ensures { result ≡ table_legal m.now }
 {
-    let z = words::Sizes::read(m);
-    let lanes = words::index(z.lane_count());
+    let z = words::NamedSizes::read(m).of_table();
+    let slots = Slots {
+        memory: m,
+        base: z.slots_start(),
+        count: z.slots,
+    };
     let lane = z.lane_address(0);
-    let base = z.slots_start();
-    if z.slots <= FEW_SLOTS {
-        return few_agree(m, base, lane, lanes);
+    let lanes = z.lane_count() as usize;
+    if z.slots as usize <= FEW {
+        return slots_agree::<FEW, { distinct_codes::cells::FEW_CELLS }>(slots, lane, lanes);
     }
-    many_agree(m, base, lane, lanes)
+    slots_agree::<MANY, { distinct_codes::cells::MANY_CELLS }>(slots, lane, lanes)
 }
 
 // Whether the memory is legal.

@@ -1,7 +1,7 @@
 -- The steps of the walks, for the loops that make them: the marks, a walk on its way, and steps one after the other.
 use Prim.Native.Nat.{ℕ, zero, suc, ◌+◌, ◌*◌, ◌-◌, ◌≤◌, ◌<◌}
 use mathlib.Core.Bool.{Bool, true, false}
-use mathlib.Core.Path.{◌≡◌, refl, ap, sym, ◌∙◌, subst}
+use mathlib.Core.Path.{◌≡◌, refl, ap, ap₂, sym, ◌∙◌, subst}
 use mathlib.Core.List.{List, [], ◌∷◌, ◌++◌}
 use native.Mathlib.Omega.{arith}
 use lib.ListN.{get_or, set, length, length-set}
@@ -12,7 +12,9 @@ use Rattle.model.specs.Word.{none}
 use Rattle.model.specs.Layout.{slot_length}
 use Rattle.model.specs.Memory.{at}
 use Rattle.laws.specs.Tests.{same, other, decide}
-use Rattle.slot_places.specs.WalkSteps.{Step, put, check, Outcome, spoilt, painted, met, run, slots_of, several, walks, unmarked, Counted}
+use Rattle.distinct_codes.specs.declared.slots.Slots.{Slots}
+use Rattle.slot_places.specs.WalkSteps.{Step, put, check, Outcome, spoilt, painted, met, run, slots_of, several, walks, unmarked}
+use Rattle.slot_places.specs.Walks.{Counted}
 
 -- ---- how many slots have no mark
 
@@ -109,6 +111,24 @@ module _ (g : ℕ → List Step) (d a n : ℕ) where
   unfolding several
   several-done h = let e : n ≡ 0 = omega arith in rw e
 
+-- those from the i-th on
+module _ (g : ℕ → List Step) (d a n i : ℕ) where
+  abbrev pub several_from : List Step
+  several_from = several g d (a + d * i) (n - i)
+
+module _ (g : ℕ → List Step) (d a n : ℕ) where
+  pub several-start : several_from g d a n 0 ≡ several g d a n
+  several-start =
+      let e : a + d * 0 ≡ a = omega arith in
+      let f : n - 0 ≡ n = omega arith in
+      ap₂ (λ (x y : ℕ). several g d x y) e f
+
+  pub several-next : (i : ℕ) → i < n → several_from g d a n i ≡ g (a + d * i) ++ several_from g d a n (i + 1)
+  several-next i h =
+      let e : a + d * i + d ≡ a + d * (i + 1) = omega arith in
+      let f : n - i - 1 ≡ n - (i + 1) = omega arith in
+      several-on g d (a + d * i) (n - i) (omega arith) ∙ ap₂ (λ (x y : ℕ). g (a + d * i) ++ several g d x y) e f
+
 -- ---- a walk on its way
 
 module _ (m : List ℕ) (field slots : ℕ) (fits : ℕ → Bool) (i n : ℕ) (h : 0 < n) where
@@ -129,16 +149,22 @@ module _ (m : List ℕ) (field slots : ℕ) (fits : ℕ → Bool) (i n : ℕ) (h
       go (suc n) h = let e : suc n - 1 ≡ n = omega arith in rw (lt-leb slots i b, e, walks)
 
 -- the steps from cur on lead to the outcome o, and Q holds of their slots; there are more of them than slots without a mark
-module _ (m : List ℕ) (base slots field : ℕ) (fits : ℕ → Bool) where
+module _ (t : Slots) (field : ℕ) (fits : ℕ → Bool) where
+  abbrev m : List ℕ
+  m = t.memory.now
+
+  abbrev slots : ℕ
+  slots = t.count
+
   pub record Going (Q : List ℕ → Type 0) (o : Outcome) (cur : ℕ) (s : List ℕ) (rest : ℕ) : Type 0 where
     pub fuel : ℕ
     pub more : rest < fuel
-    pub counted : Counted m base slots s rest
+    pub counted : Counted t s rest
     pub runs : run (walks m field slots fits cur fuel) s ≡ o
     pub onward : Q (slots_of (walks m field slots fits cur fuel))
 
   module _ (Q : List ℕ → Type 0) where
-    pub going_start : (cur : ℕ) (s : List ℕ) (left : ℕ) → Counted m base slots s left → Q (slots_of (walks m field slots fits cur (slots + 1)))
+    pub going_start : (cur : ℕ) (s : List ℕ) (left : ℕ) → Counted t s left → Q (slots_of (walks m field slots fits cur (slots + 1)))
         → Going Q (run (walks m field slots fits cur (slots + 1)) s) cur s left
     going_start cur s left c q = record {
       fuel = slots + 1;
@@ -203,8 +229,6 @@ module _ (m : List ℕ) (base slots field : ℕ) (fits : ℕ → Bool) where
             fuel = w.fuel - 1;
             more = omega (arith, w.more, going-left);
             counted = record {
-              within = w.counted.within;
-              few = w.counted.few;
               marks = omega (arith, w.counted.marks, length-set s cur met);
               left = omega (arith, going-left);
             };

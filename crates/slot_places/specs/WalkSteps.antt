@@ -1,12 +1,13 @@
 -- The walks along the links as lists of steps, each of which marks a slot that has no mark, or checks something. Clients cite `walks` and what is
--- made of it, `Counted` and `Passes`.
-use Rattle.std.specs.Prelude.{ℕ, zero, suc, ◌+◌, ◌*◌, ◌≤◌, Bool, true, false, cond, ◌≡◌, List, [], ◌∷◌, ◌++◌, get_or, set, length, take, leb, eqb}
+-- made of it.
+use Rattle.std.specs.Prelude.{ℕ, zero, suc, ◌+◌, ◌*◌, Bool, true, false, cond, List, [], ◌∷◌, ◌++◌, get_or, set, length, leb, eqb}
 use Rattle.model.specs.Word.{none}
 use Rattle.model.specs.Lists.{last}
-use Rattle.model.specs.Layout.{max_slots, heads_at, last_offset, length_offset, queue_width, queues_at, slot_length, chain_link_at, queue_link_at}
+use Rattle.model.specs.Layout.{heads_at, last_offset, length_offset, queue_width, queues_at, slot_length, chain_link_at, queue_link_at}
 use Rattle.model.specs.Memory.{at}
-use Rattle.distinct_codes.specs.Cells.{cells_of, spread, code_at, Held, clash, held, meets, Room}
 use Rattle.words.specs.Links.{slot_or_none}
+use Rattle.slot_places.specs.declared.slots.Queued.{Queued}
+use Rattle.slot_places.specs.declared.slots.Queued.TheVariants.{Retired}
 use Rattle.slot_places.specs.Slots.{chained_fits, queued_fits}
 
 -- ---- steps
@@ -62,64 +63,28 @@ module _ (m : List ℕ) (base slots : ℕ) where
   chain_steps k = walks m (base + chain_link_at) slots (chained_fits m base k) (at m (heads_at + k)) (slots + 1)
 
   -- the slots of the queue whose words stand at a, free or retired ones
-  abbrev pub link_steps : Bool → ℕ → List Step
-  link_steps free a = walks m (base + queue_link_at) slots (queued_fits m base slots free) (at m a) (slots + 1)
+  abbrev pub link_steps : Queued → ℕ → List Step
+  link_steps kind a = walks m (base + queue_link_at) slots (queued_fits m base slots kind) (at m a) (slots + 1)
 
   -- its last and its length are those given, xs being its slots
   abbrev pub end_steps : ℕ → List ℕ → List Step
   end_steps a xs = check (eqb (last xs) (at m (a + last_offset))) ∷ check (eqb (length xs) (at m (a + length_offset))) ∷ []
 
   -- the queue
-  abbrev pub queue_steps : Bool → ℕ → List Step
-  queue_steps free a = link_steps free a ++ end_steps a (slots_of (link_steps free a))
+  abbrev pub queue_steps : Queued → ℕ → List Step
+  queue_steps kind a = link_steps kind a ++ end_steps a (slots_of (link_steps kind a))
 
   -- next, current and done
   abbrev pub retired_steps : ℕ → List Step
-  retired_steps a = several (queue_steps false) queue_width a queue_count
+  retired_steps a = several (queue_steps Retired) queue_width a queue_count
 
   -- those of the lane whose words begin at a
   abbrev pub lane_steps : ℕ → List Step
   lane_steps a = retired_steps (a + queues_at)
 
--- ---- what the code knows of the marks
+-- ---- the marks
 
 -- how many of the first n slots have no mark
 unfoldable pub unmarked : ℕ → List ℕ → ℕ
 unmarked zero s = 0
 unmarked (suc n) s = cond (eqb (get_or s n 0) 0) 1 0 + unmarked n s
-
--- the slots lie in the memory, and r of them have no mark
-pub record Counted (m : List ℕ) (base slots : ℕ) (s : List ℕ) (r : ℕ) : Type 0 where
-  pub within : base + slot_length * slots ≤ length m
-  pub few : slots ≤ max_slots
-  pub marks : slots ≤ length s
-  pub left : r ≡ unmarked slots s
-
--- the steps turn the marks s into t, with left slots unmarked; or (the Boolean is false) they are spoilt
-pub data Runs (m : List ℕ) (base slots : ℕ) (ps : List Step) (s : List ℕ) : Bool → ℕ → List ℕ → Type 0 where
-  spoils : {left : ℕ} {t : List ℕ} → run ps s ≡ spoilt → Runs m base slots ps s false left t
-  passes : {left : ℕ} {t : List ℕ} → run ps s ≡ painted t → Counted m base slots t left → Runs m base slots ps s true left t
-
--- and of a walk, before which as many slots as `all` had no mark, the last slot is l
-pub data Walks (m : List ℕ) (base slots : ℕ) (ps : List Step) (s : List ℕ) (all : ℕ) : Bool → ℕ → ℕ → List ℕ → Type 0 where
-  spoils : {left l : ℕ} {t : List ℕ} → run ps s ≡ spoilt → Walks m base slots ps s all false left l t
-  passes : {left l : ℕ} {t : List ℕ} → run ps s ≡ painted t → Counted m base slots t left → l ≡ last (slots_of ps) → length (slots_of ps) + left ≡ all
-      → Walks m base slots ps s all true left l t
-
--- cells and aside are large enough for the slots that are left
-pub record Ready (m : List ℕ) (base slots : ℕ) (few : Bool) (k a : List ℕ) (n left : ℕ) : Type 0 where
-  pub room : Room m base few k a n
-  pub places : slots ≤ length a
-  pub most : n + left ≤ slots
-
--- the same of steps whose slots are entered by their codes into cells k, with the first n of a put aside: they are l then, and the first o of b
-module _ (m : List ℕ) (base slots : ℕ) (few : Bool) where
-  abbrev pub enters_all : List Step → List ℕ → List ℕ → ℕ → Held
-  enters_all ps k a n = meets (code_at m base) (spread (cells_of few)) (slots_of ps) (held k (take n a))
-
-  pub data Enters (ps : List Step) (s k a : List ℕ) (n : ℕ) : Bool → ℕ → ℕ → List ℕ → List ℕ → List ℕ → Type 0 where
-    spoils : {left o : ℕ} {t l b : List ℕ} → run ps s ≡ spoilt → Enters ps s k a n false left o t l b
-    repeats : {left o : ℕ} {t l b : List ℕ} → enters_all ps k a n ≡ clash → Enters ps s k a n false left o t l b
-    passes : {left o : ℕ} {t l b : List ℕ} → run ps s ≡ painted t → enters_all ps k a n ≡ held l (take o b) → Counted m base slots t left
-        → Ready m base slots few l b o left
-        → Enters ps s k a n true left o t l b

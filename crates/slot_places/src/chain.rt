@@ -1,119 +1,64 @@
 // The chains: a chained slot's link is tested before it is followed, and the last link is none.
-ghost use Rattle.std.specs.Prelude.{◌≡◌, ℕ, ◌+◌, ◌*◌, ◌<◌, ◌≤◌, length};
+ghost use Rattle.std.specs.Prelude.{◌+◌, ◌<◌, ◌≤◌, length};
 ghost use Rattle.model.specs.Layout.{chain_count, heads_at, masks_at};
-ghost use Rattle.slot_places.specs.WalkSteps.{chain_steps, several, Counted, Ready, Enters};
+ghost use Rattle.slot_places.specs.WalkSteps.{several};
+ghost use Rattle.slot_places.specs.Walks.{chain_of, Counted, Ready, Enters};
 
-// the mark of a slot that was met
-const MET: u8 = 1;
+use distinct_codes::cells::Codes;
+use distinct_codes::slots::Slots;
 
-// what is left: slots not met, and how many are put aside
-#[derive(Clone, Copy)]
-pub struct Chained {
-    pub ok: bool,
-    pub left: u32,
-    pub aside: usize,
-}
-
-// Chain k. The slots met before hold the cells, or are the first n aside; left are unmarked.
-fn walk_chain(
-    m: &[u32],
-    base: usize,
-    slots: u32,
+// Chain k, where left slots are unmarked: how many are left then.
+// Stays: (d) marks and left are two values, since the marks are lent and what is left is answered by value, of which `?` takes the new one.
+fn walk_chain<const CELLS: usize, const SLOTS: usize>(
+    slots: Slots,
     k: usize,
     left: u32,
-    n: usize,
-    few: bool,
     marks: &mut [u8],
-    cells: &mut [u16],
-    aside: &mut [u16],
-) -> Chained
-    requires { Counted m.now base slots marks.old left × Ready m.now base slots few cells.old aside.old n left × (k < chain_count)
-        × (heads_at + k < length m.now) }
-    ensures { Enters m.now base slots few (chain_steps m.now base slots k) marks.old cells.old
-        aside.old n result.ok result.left result.aside marks.new cells.new aside.new }
+    codes: &mut Codes<CELLS, SLOTS>,
+) -> Option<u32>
+    requires { Counted slots marks.old left × Ready slots CELLS codes.old.cells codes.old.aside.items left × (slots.count ≤ SLOTS)
+        × (k < chain_count) × (heads_at + k < length slots.memory.now) }
+    ensures { Enters slots.entry CELLS (chain_of slots.entry k) marks.old codes.old.cells codes.old.aside.items result
+        marks.new codes.new.cells codes.new.aside.items }
 {
     let chain = k as u64;
-    let mut cur = m[words::HEADS_AT + k];
+    let mut cur = slots.memory[words::HEADS_AT + k];
     let mut rest = left;
-    let mut o = n;
-    while cur < slots {
+    while cur < slots.count {
         let c = cur as usize;
         if marks[c] != 0 {
-            return Chained {
-                ok: false,
-                left,
-                aside: n,
-            };
+            return None;
         }
-        if !crate::slots::chained_fits(m, base + words::SLOT_LENGTH * c, chain) {
-            return Chained {
-                ok: false,
-                left,
-                aside: n,
-            };
+        if !crate::slots::chained_fits(slots, c, chain) {
+            return None;
         }
-        let e = distinct_codes::cells::meet(m, base, c, few, cells, aside, o);
-        if !e.ok {
-            return Chained {
-                ok: false,
-                left,
-                aside: n,
-            };
+        if !codes.meet(slots, c) {
+            return None;
         }
-        o = e.count;
-        marks[c] = MET;
+        marks[c] = crate::MET;
         rest = rest - 1;
-        cur = m[base + words::SLOT_LENGTH * c + words::CHAIN_LINK_AT];
+        cur = slots.word(c, words::CHAIN_LINK_AT);
     }
     if cur != words::NONE {
-        return Chained {
-            ok: false,
-            left,
-            aside: n,
-        };
+        return None;
     }
-    Chained {
-        ok: true,
-        left: rest,
-        aside: o,
-    }
+    Some(rest)
 }
 
-// The chains, one after the other.
-pub fn chains(
-    m: &[u32],
-    base: usize,
-    slots: u32,
-    few: bool,
+// The chains, one after the other: how many slots are left unmarked.
+pub fn chains<const CELLS: usize, const SLOTS: usize>(
+    slots: Slots,
     marks: &mut [u8],
-    cells: &mut [u16],
-    aside: &mut [u16],
-) -> Chained
-    requires { Counted m.now base slots marks.old slots × Ready m.now base slots few cells.old aside.old 0 slots × (masks_at ≤ length m.now) }
-    ensures { Enters m.now base slots few (several (chain_steps m.now base slots) 1 0 chain_count) marks.old
-        cells.old aside.old 0 result.ok result.left result.aside marks.new cells.new aside.new }
+    codes: &mut Codes<CELLS, SLOTS>,
+) -> Option<u32>
+    requires { Counted slots marks.old slots.count × Ready slots CELLS codes.old.cells codes.old.aside.items slots.count
+        × (slots.count ≤ SLOTS) × (masks_at ≤ length slots.memory.now) }
+    ensures { Enters slots.entry CELLS (several (chain_of slots.entry) 1 0 chain_count) marks.old codes.old.cells
+        codes.old.aside.items result marks.new codes.new.cells codes.new.aside.items }
 {
-    let mut k: usize = 0;
-    let mut chains = words::CHAIN_COUNT;
-    let mut left = slots;
-    let mut n: usize = 0;
-    while chains > 0 {
-        let w = walk_chain(m, base, slots, k, left, n, few, marks, cells, aside);
-        if !w.ok {
-            return Chained {
-                ok: false,
-                left,
-                aside: n,
-            };
-        }
-        left = w.left;
-        n = w.aside;
-        k = k + 1;
-        chains = chains - 1;
+    let mut left = slots.count;
+    for k in 0..words::CHAIN_COUNT {
+        left = walk_chain(slots, k, left, marks, codes)?;
     }
-    Chained {
-        ok: true,
-        left,
-        aside: n,
-    }
+    Some(left)
 }

@@ -4,4 +4,7 @@
 
 pub mod chain;
 pub mod queue;
-mod slots;
+pub mod slots;
+
+// the mark of a slot that was met
+const MET: u8 = 1;

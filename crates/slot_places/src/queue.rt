@@ -1,181 +1,107 @@
 // The queues, one at a time: a queue's slots by their links, and then its last and its length. A free slot
 // and a retired one have tests of their own.
-ghost use Rattle.std.specs.Prelude.{◌≡◌, ℕ, ◌+◌, ◌*◌, ◌<◌, ◌≤◌, true, false, length};
+ghost use Rattle.std.specs.Prelude.{ℕ, ◌+◌, ◌*◌, ◌<◌, ◌≤◌, length};
 ghost use Rattle.model.specs.Layout.{queue_width, lane_length};
-ghost use Rattle.slot_places.specs.WalkSteps.{link_steps, queue_steps, lane_steps, several, Counted, Runs, Walks};
+ghost use Rattle.slot_places.specs.WalkSteps.{several};
+ghost use Rattle.slot_places.specs.Walks.{links_of, queue_of, lane_of, Counted, Runs, Walks};
 
-// the mark of a slot that was met
-const MET: u8 = 1;
+use crate::slots::Queued;
+use distinct_codes::slots::Slots;
 
 // the queues of a lane, and the global ones: next, current and done
 pub const QUEUES: usize = 3;
 
+// how many slots are left unmarked, and the last of a queue's, or none
 #[derive(Clone, Copy)]
-pub struct Walked {
-    pub ok: bool,
-    pub left: u32,
-    pub last: u32,
+struct Walked {
+    left: u32,
+    last: u32,
 }
 
-// what is left: slots not met
-#[derive(Clone, Copy)]
-pub struct Queued {
-    pub ok: bool,
-    pub left: u32,
-}
-
-// The slots of the queue whose first is head, free or retired ones; last is the last of them, or none.
+// The slots of the queue whose first stands at at.
 fn walk_queue(
-    m: &[u32],
-    base: usize,
-    slots: u32,
+    slots: Slots,
     at: usize,
-    free: bool,
+    queued: Queued,
     left: u32,
     marks: &mut [u8],
-) -> Walked
-    requires { Counted m.now base slots marks.old left × (at < length m.now) }
-    ensures { Walks m.now base slots (link_steps m.now base slots free at) marks.old left result.ok
-        result.left result.last marks.new }
+) -> Option<Walked>
+    requires { Counted slots marks.old left × (at < length slots.memory.now) }
+    ensures { Walks slots.entry (links_of slots.entry queued at) marks.old left result marks.new }
 {
-    let mut cur = m[at];
+    let mut cur = slots.memory[at];
     let mut last = words::NONE;
     let mut rest = left;
-    while cur < slots {
+    while cur < slots.count {
         let c = cur as usize;
         if marks[c] != 0 {
-            return Walked {
-                ok: false,
-                left,
-                last,
-            };
+            return None;
         }
-        if !crate::slots::queued_fits(m, base + words::SLOT_LENGTH * c, slots, free) {
-            return Walked {
-                ok: false,
-                left,
-                last,
-            };
+        if !queued.fits(slots, c) {
+            return None;
         }
-        marks[c] = MET;
+        marks[c] = crate::MET;
         rest = rest - 1;
         last = cur;
-        cur = m[base + words::SLOT_LENGTH * c + words::QUEUE_LINK_AT];
+        cur = slots.word(c, words::QUEUE_LINK_AT);
     }
     if cur != words::NONE {
-        return Walked {
-            ok: false,
-            left,
-            last,
-        };
+        return None;
     }
-    Walked {
-        ok: true,
-        left: rest,
-        last,
-    }
+    Some(Walked { left: rest, last })
 }
 
 // The queue whose words stand at at: its slots, and that its last and its length are those given.
-fn queue(
-    m: &[u32],
-    base: usize,
-    slots: u32,
-    at: usize,
-    free: bool,
-    left: u32,
-    marks: &mut [u8],
-) -> Queued
-    requires { Counted m.now base slots marks.old left × (at + queue_width ≤ length m.now) }
-    ensures { Runs m.now base slots (queue_steps m.now base slots free at) marks.old result.ok result.left
-        marks.new }
+fn queue(slots: Slots, at: usize, queued: Queued, left: u32, marks: &mut [u8]) -> Option<u32>
+    requires { Counted slots marks.old left × (at + queue_width ≤ length slots.memory.now) }
+    ensures { Runs slots.entry (queue_of slots.entry queued at) marks.old result marks.new }
 {
-    let w = walk_queue(m, base, slots, at, free, left, marks);
-    if !w.ok {
-        return Queued { ok: false, left };
+    let w = walk_queue(slots, at, queued, left, marks)?;
+    if w.last != slots.memory[at + words::LAST_OFFSET] {
+        return None;
     }
-    if w.last != m[at + words::LAST_OFFSET] {
-        return Queued { ok: false, left };
+    if left - w.left != slots.memory[at + words::LENGTH_OFFSET] {
+        return None;
     }
-    if left - w.left != m[at + words::LENGTH_OFFSET] {
-        return Queued { ok: false, left };
-    }
-    Queued {
-        ok: true,
-        left: w.left,
-    }
+    Some(w.left)
 }
 
 // n queues, their words from first on.
 pub fn queues(
-    m: &[u32],
-    base: usize,
-    slots: u32,
+    slots: Slots,
     first: usize,
     n: usize,
-    free: bool,
+    queued: Queued,
     left: u32,
     marks: &mut [u8],
-) -> Queued
-    requires { Counted m.now base slots marks.old left × (first + queue_width * n ≤ length m.now) }
-    ensures { Runs m.now base slots (several (queue_steps m.now base slots free) queue_width first n) marks.old
-        result.ok result.left marks.new }
+) -> Option<u32>
+    requires { Counted slots marks.old left × (first + queue_width * n ≤ length slots.memory.now) }
+    ensures { Runs slots.entry (several (queue_of slots.entry queued) queue_width first n) marks.old result
+        marks.new }
 {
-    let mut at = first;
-    let mut more = n;
     let mut rest = left;
-    while more > 0 {
-        let w = queue(m, base, slots, at, free, rest, marks);
-        if !w.ok {
-            return Queued { ok: false, left };
-        }
-        rest = w.left;
-        at = at + words::QUEUE_WIDTH;
-        more = more - 1;
+    for i in 0..n {
+        rest = queue(slots, first + words::QUEUE_WIDTH * i, queued, rest, marks)?;
     }
-    Queued {
-        ok: true,
-        left: rest,
-    }
+    Some(rest)
 }
 
 // The queues of n lanes, the first lane's words at first.
-pub fn lane_queues(
-    m: &[u32],
-    base: usize,
-    slots: u32,
-    first: usize,
-    n: usize,
-    left: u32,
-    marks: &mut [u8],
-) -> Queued
-    requires { Counted m.now base slots marks.old left × (first + lane_length * n ≤ length m.now) }
-    ensures { Runs m.now base slots (several (lane_steps m.now base slots) lane_length first n) marks.old
-        result.ok result.left marks.new }
+pub fn lane_queues(slots: Slots, first: usize, n: usize, left: u32, marks: &mut [u8]) -> Option<u32>
+    requires { Counted slots marks.old left × (first + lane_length * n ≤ length slots.memory.now) }
+    ensures { Runs slots.entry (several (lane_of slots.entry) lane_length first n) marks.old result marks.new }
 {
-    let mut at = first;
-    let mut more = n;
     let mut rest = left;
-    while more > 0 {
-        let w = queues(
-            m,
-            base,
+    for i in 0..n {
+        let lane = first + words::LANE_LENGTH * i;
+        rest = queues(
             slots,
-            at + words::QUEUES_AT,
+            lane + words::QUEUES_AT,
             QUEUES,
-            false,
+            Queued::Retired,
             rest,
             marks,
-        );
-        if !w.ok {
-            return Queued { ok: false, left };
-        }
-        rest = w.left;
-        at = at + words::LANE_LENGTH;
-        more = more - 1;
+        )?;
     }
-    Queued {
-        ok: true,
-        left: rest,
-    }
+    Some(rest)
 }

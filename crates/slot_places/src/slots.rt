@@ -1,79 +1,72 @@
 // The tests of one slot, where a walk meets it: a slot's part of document 01's sentences.
-ghost use Rattle.std.specs.Prelude.{◌≡◌, ℕ, ◌+◌, ◌*◌, ◌≤◌, cond, not, length};
-ghost use Rattle.model.specs.Layout.{slot_length};
-ghost use Rattle.model.specs.Rules.{wrong_product};
-ghost use Rattle.slot_places.specs.Slots.{SlotAt, chained_at, free_at, retired_at};
+ghost use Rattle.std.specs.Prelude.{◌≡◌, ◌<◌};
+ghost use Rattle.slot_places.specs.Slots.{slot_in, chained_fits, queued_fits};
 
-// chains, as a divisor of codes
-const CHAINS: u64 = words::CHAIN_COUNT as u64;
+use distinct_codes::slots::Slots;
+use words::product::Product;
 
 // the words of a slot: its product, and its links
 #[derive(Clone, Copy)]
 struct Slot {
-    code: u64,
-    deposit: u32,
-    material: u32,
+    product: Product,
     chain: u32,
     queue: u32,
 }
 
-// The words of the slot that begins at b.
-fn slot_at(m: &[u32], b: usize) -> Slot
-    requires { b + slot_length ≤ length m.now }
-    ensures { SlotAt m.now b result.code result.deposit result.material result.chain result.queue }
-{
-    Slot {
-        code: words::code_at(m, b),
-        deposit: m[b + words::DEPOSIT_AT],
-        material: m[b + words::MATERIAL_AT],
-        chain: m[b + words::CHAIN_LINK_AT],
-        queue: m[b + words::QUEUE_LINK_AT],
+impl Slot {
+    // The words of slot i.
+    fn read(slots: Slots, i: usize) -> Slot
+        requires { i < slots.count }
+        ensures { result ≡ slot_in slots.entry i }
+    {
+        Slot {
+            product: Product {
+                code: slots.code(i),
+                deposit: slots.word(i, words::DEPOSIT_AT),
+                material: slots.word(i, words::MATERIAL_AT),
+            },
+            chain: slots.word(i, words::CHAIN_LINK_AT),
+            queue: slots.word(i, words::QUEUE_LINK_AT),
+        }
     }
 }
 
-// The fields of a product are in range.
-fn product_fits(code: u64, deposit: u32, material: u32) -> bool
-    ensures { result ≡ not (wrong_product code deposit material) }
-{
-    !((code > words::MAX_CODE) | (deposit > words::MAX_DEPOSIT) | (material > words::MAX_MATERIAL))
-}
-
-// A slot on chain k: "chained slots are on chain (code mod 64)", "fields are in range", and "a slot
+// Slot i on chain k: "chained slots are on chain (code mod 64)", "fields are in range", and "a slot
 // outside every line has line link none".
-pub fn chained_fits(m: &[u32], b: usize, k: u64) -> bool
-    requires { b + slot_length ≤ length m.now }
-    ensures { result ≡ chained_at m.now b k }
+pub fn chained_fits(slots: Slots, i: usize, k: u64) -> bool
+    requires { i < slots.count }
+    ensures { result ≡ chained_fits slots.entry.memory.now slots.entry.base k i }
 {
-    let s = slot_at(m, b);
-    (s.code % CHAINS == k) & product_fits(s.code, s.deposit, s.material) & (s.queue == words::NONE)
+    let s = Slot::read(slots, i);
+    (s.product.code % words::CHAIN_COUNT as u64 == k)
+        & !s.product.is_wrong()
+        & (s.queue == words::NONE)
 }
 
-// A slot in the free queue: "free slots hold ..".
-fn free_fits(m: &[u32], b: usize) -> bool
-    requires { b + slot_length ≤ length m.now }
-    ensures { result ≡ free_at m.now b }
-{
-    let s = slot_at(m, b);
-    (s.code == 0) & (s.deposit == 0) & (s.material == 0) & (s.chain == words::NONE)
+// What a queue holds.
+#[derive(Clone, Copy, Debug, PartialEq, Eq)]
+pub enum Queued {
+    Free,
+    Retired,
 }
 
-// A slot in another queue: "links and fields are in range".
-fn retired_fits(m: &[u32], b: usize, slots: u32) -> bool
-    requires { b + slot_length ≤ length m.now }
-    ensures { result ≡ retired_at m.now b slots }
-{
-    let s = slot_at(m, b);
-    product_fits(s.code, s.deposit, s.material) & words::links::link_fits(s.chain, slots)
-}
-
-// A slot in a queue.
-pub fn queued_fits(m: &[u32], b: usize, slots: u32, free: bool) -> bool
-    requires { b + slot_length ≤ length m.now }
-    ensures { result ≡ cond free (free_at m.now b) (retired_at m.now b slots) }
-{
-    if free {
-        free_fits(m, b)
-    } else {
-        retired_fits(m, b, slots)
+impl Queued {
+    // Slot i in such a queue: "free slots hold ..", or "links and fields are in range".
+    pub fn fits(self, slots: Slots, i: usize) -> bool
+        requires { i < slots.count }
+        ensures { result ≡ queued_fits slots.entry.memory.now slots.entry.base slots.entry.count self i }
+    {
+        let s = Slot::read(slots, i);
+        match self {
+            Queued::Free => {
+                (s.product.code == 0)
+                    & (s.product.deposit == 0)
+                    & (s.product.material == 0)
+                    & (s.chain == words::NONE)
+            }
+            Queued::Retired => {
+                !s.product.is_wrong() & words::links::link_fits(s.chain, slots.count)
+            }
+        }
     }
 }

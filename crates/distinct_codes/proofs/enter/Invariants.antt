@@ -2,20 +2,18 @@
 use Prim.Native.Nat.{ℕ, ◌+◌, ◌*◌, ◌-◌, ◌<◌, ◌≤◌}
 use mathlib.Core.Path.{◌≡◌}
 use lib.ListN.{get_or}
-use Rattle.distinct_codes.specs.Cells.{cells_of, many_cells, code_at}
+use Rattle.distinct_codes.specs.Met.{code_of}
 use Rattle.distinct_codes.specs.Tree.{branches}
 use Rattle.distinct_codes.proofs.TreeLaws.{Way}
 use Rattle.distinct_codes.proofs.enter.Given as goal
 
 abbrev pub invariant-loop-v : goal.invariant-loop-v
-invariant-loop-v l =
-    (l.code ≡ code_at l.m l.base (get_or l.aside l.i 0))
-    × (l.from ≡ cells_of l.few)
-    × (l.from ≤ many_cells)
+invariant-loop-v g l =
+    (l.code ≡ code_of l.slots (get_or l.aside l.i 0))
     × (l.v ≡ get_or l.cells l.p 0)
-    × (l.p < l.from + branches * l.i)
+    × (l.p < g.row.CELLS + branches * l.i)
     × (l.v ≤ l.i)
-    × Way (cells_of l.few) (λ (t : ℕ). code_at l.m l.base (get_or l.aside t 0)) l.i l.cells l.p l.digits
+    × Way g.row.CELLS (λ (t : ℕ). code_of l.slots (get_or l.aside t 0)) l.i l.cells l.p l.digits
 
 abbrev pub decreases-loop-v : goal.decreases-loop-v
-decreases-loop-v l = l.from + branches * l.i - l.p
+decreases-loop-v g l = g.row.CELLS + branches * l.i - l.p

@@ -1,26 +1,21 @@
 use mathlib.Core.Path.{◌∙◌}
 use native.Mathlib.Omega.{arith}
-use borrow.Author.Tests.{not-true, not-false}
-use Rattle.slot_places.proofs.ChainLaws.{chains-fail, chains-on, chains-done, chains-counted}
+use Rattle.slot_places.proofs.ChainLaws.{enters-ready, rest-fail, rest-next, rest-end}
 use Rattle.slot_places.proofs.chain.chains.Goals as goal
 
-pub returns-then-not-w : goal.returns-then-not-w
-returns-then-not-w c =
-    c.loop-chains.invariant.3 _ _ _ _ _ _
-    (chains-fail _ _ _ _ _ _ c.loop-chains-test.true _ _ _ _ _ c.walk_chain-w.ensures (not-true _ c.if-not-w.true))
+pub returns-in_err-left : goal.returns-in_err-left
+returns-in_err-left g c =
+    rw c.from_residual.ensures
+    (rest-fail _ _ _ _ _ _ _ _ _ _ _ _ _ c.loop-k.invariant.2 (omega arith) c.loop-k.k (omega arith) c.in_err-left.ensures)
 
-pub loop-chains-preserved : goal.loop-chains-preserved
-loop-chains-preserved c =
-    let w = chains-counted _ _ _ _ _ _ _ _ _ _ c.walk_chain-w.ensures (not-false _ c.if-not-w.false) in (
-      omega arith,
+pub loop-k-preserved : goal.loop-k-preserved
+loop-k-preserved g c =
+    let w = enters-ready _ _ _ _ _ _ c.in_ok-left.ensures in (
       w.0,
       w.1,
-      λ r x y t l b e. c.loop-chains.invariant.3 r x y t l b
-          (chains-on _ _ _ _ _ _ c.loop-chains-test.true _ _ _ _ _ c.walk_chain-w.ensures (not-false _ c.if-not-w.false) r e),
-      c.walk_chain-w.auto.marks ∙ c.loop-chains.invariant.4,
-      c.walk_chain-w.auto.cells ∙ c.loop-chains.invariant.5,
-      c.walk_chain-w.auto.aside ∙ c.loop-chains.invariant.6,
+      rest-next _ _ _ _ _ _ _ _ _ _ _ _ _ c.loop-k.invariant.2 (omega arith) c.loop-k.k (omega arith) c.in_ok-left.ensures,
+      c.walk_chain.auto.marks ∙ c.loop-k.invariant.3,
     )
 
 pub returns : goal.returns
-returns c = c.loop-chains.invariant.3 _ _ _ _ _ _ (chains-done _ _ _ _ _ _ c.loop-chains-test.false _ _ _ _ _ c.loop-chains.invariant.1 c.loop-chains.invariant.2)
+returns g c = rest-end _ _ _ _ _ _ _ _ _ _ _ _ _ c.loop-k.invariant.2 _ (omega arith) c.loop-k.invariant.0 c.loop-k.invariant.1

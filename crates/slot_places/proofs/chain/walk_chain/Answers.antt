@@ -1,4 +1,3 @@
-use mathlib.Core.Path.{refl, ◌∙◌}
 use native.Mathlib.Omega.{arith}
 use borrow.Author.Tests.{not-true, not-false}
 use Rattle.slot_places.proofs.ChainLaws.{chain-done, chain-astray, chain-twice, chain-unfit, chain-asks, chain-less}
@@ -7,38 +6,39 @@ use borrow.Author.Rules.{rules}
 use Rattle.slot_places.proofs.chain.walk_chain.Goals as goal
 
 pub returns-then-marks-c-ne0 : goal.returns-then-marks-c-ne0
-returns-then-marks-c-ne0 c = chain-twice _ _ _ _ _ _ _ _ _ _ _ _ _ _ _ c.loop-cur.invariant.0 c.loop-cur-test.true c.if-marks-c-ne0.true
+returns-then-marks-c-ne0 g c = chain-twice _ _ _ _ _ _ _ _ _ _ _ c.loop-cur.invariant.0 c.loop-cur-test.true c.if-marks-c-ne0.true
 
 pub returns-then-not-chained_fits : goal.returns-then-not-chained_fits
-returns-then-not-chained_fits c =
-    chain-unfit _ _ _ _ _ _ _ _ _ _ _ _ _ _ _ c.loop-cur.invariant.0 c.loop-cur-test.true c.if-marks-c-ne0.false _
+returns-then-not-chained_fits g c =
+    chain-unfit _ _ _ _ _ _ _ _ _ _ _ c.loop-cur.invariant.0 c.loop-cur-test.true c.if-marks-c-ne0.false _
     c.chained_fits.ensures (not-true _ c.if-not-chained_fits.true-raw)
 
-pub meet-e-requires : goal.meet-e-requires
-meet-e-requires c = chain-asks _ _ _ _ _ _ _ _ _ _ _ _ _ _ _ c.loop-cur.invariant.0 c.loop-cur-test.true c.if-marks-c-ne0.false
+pub meet-requires : goal.meet-requires
+meet-requires g c = (
+  search rules,
+  chain-asks _ _ _ _ _ _ _ _ _ _ _ c.loop-cur.invariant.0 c.loop-cur-test.true c.if-marks-c-ne0.false _ c.requires.2,
+)
 
-pub returns-then-not-e : goal.returns-then-not-e
-returns-then-not-e c =
-    chain-repeats _ _ _ _ _ _ _ _ _ _ _ _ _ _ _ c.loop-cur.invariant.0 c.loop-cur-test.true c.if-marks-c-ne0.false _ _ _ _ c.meet-e.ensures
-    (not-true _ c.if-not-e.true)
+pub returns-then-not-meet : goal.returns-then-not-meet
+returns-then-not-meet g c =
+    chain-repeats _ _ _ _ _ _ _ _ _ _ _ c.loop-cur.invariant.0 c.loop-cur-test.true c.if-marks-c-ne0.false _ _ _ c.meet.ensures
+    (not-true _ c.if-not-meet.true-raw)
 
 pub overflow_sub-rest : goal.overflow_sub-rest
-overflow_sub-rest c = omega (arith, chain-less _ _ _ _ _ _ _ _ _ _ _ _ _ _ _ c.loop-cur.invariant.0 c.loop-cur-test.true c.if-marks-c-ne0.false)
+overflow_sub-rest g c = omega (arith, chain-less _ _ _ _ _ _ _ _ _ _ _ c.loop-cur.invariant.0 c.loop-cur-test.true c.if-marks-c-ne0.false)
 
 pub loop-cur-smaller : goal.loop-cur-smaller
-loop-cur-smaller c = chain-less _ _ _ _ _ _ _ _ _ _ _ _ _ _ _ c.loop-cur.invariant.0 c.loop-cur-test.true c.if-marks-c-ne0.false
+loop-cur-smaller g c = chain-less _ _ _ _ _ _ _ _ _ _ _ c.loop-cur.invariant.0 c.loop-cur-test.true c.if-marks-c-ne0.false
 
 pub loop-cur-preserved : goal.loop-cur-preserved
-loop-cur-preserved c = (
-  chain-on _ _ _ _ _ _ _ _ _ _ _ _ _ _ _ c.loop-cur.invariant.0 c.loop-cur-test.true c.if-marks-c-ne0.false _ _ _ _ c.meet-e.ensures _
-      c.chained_fits.ensures (not-false _ c.if-not-chained_fits.false-raw) (not-false _ c.if-not-e.false) _ refl (search rules),
+loop-cur-preserved g c = (
+  chain-on _ _ _ _ _ _ _ _ _ _ _ c.loop-cur.invariant.0 c.loop-cur-test.true c.if-marks-c-ne0.false _ _ _ c.meet.ensures _
+      c.chained_fits.ensures (not-false _ c.if-not-chained_fits.false-raw) (not-false _ c.if-not-meet.false-raw) _ c.word-cur.ensures,
   search rules,
-  c.meet-e.auto.cells ∙ c.loop-cur.invariant.2,
-  c.meet-e.auto.aside ∙ c.loop-cur.invariant.3,
 )
 
 pub returns-then-cur : goal.returns-then-cur
-returns-then-cur c = chain-astray _ _ _ _ _ _ _ _ _ _ _ _ _ _ _ c.loop-cur.invariant.0 c.loop-cur-test.false c.if-cur.true
+returns-then-cur g c = chain-astray _ _ _ _ _ _ _ _ _ _ _ c.loop-cur.invariant.0 c.loop-cur-test.false c.if-cur.true
 
 pub returns : goal.returns
-returns c = chain-done _ _ _ _ _ _ _ _ _ _ _ _ _ _ _ c.loop-cur.invariant.0 c.loop-cur-test.false c.if-cur.false
+returns g c = chain-done _ _ _ _ _ _ _ _ _ _ _ c.loop-cur.invariant.0 c.loop-cur-test.false c.if-cur.false

@@ -5,11 +5,9 @@ use Rattle.slot_places.proofs.ChainLaws.{Chaining}
 use Rattle.slot_places.proofs.chain.walk_chain.Given as goal
 
 abbrev pub invariant-loop-cur : goal.invariant-loop-cur
-invariant-loop-cur l =
-    Chaining l.m l.base l.slots l.few l.k l.initial.marks l.initial.cells l.initial.aside l.n l.cur l.marks l.cells l.aside l.o l.rest
+invariant-loop-cur g l =
+    Chaining l.slots g.row.CELLS l.k l.initial.marks l.initial.codes.cells l.initial.codes.aside.items l.cur l.marks l.codes.cells l.codes.aside.items l.rest
     × (length l.marks ≡ length l.initial.marks)
-    × (length l.cells ≡ length l.initial.cells)
-    × (length l.aside ≡ length l.initial.aside)
 
 abbrev pub decreases-loop-cur : goal.decreases-loop-cur
-decreases-loop-cur l = l.rest
+decreases-loop-cur g l = l.rest

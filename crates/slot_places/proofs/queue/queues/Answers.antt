@@ -1,20 +1,17 @@
 use mathlib.Core.Path.{◌∙◌}
 use native.Mathlib.Omega.{arith}
-use borrow.Author.Tests.{not-true, not-false}
-use Rattle.slot_places.proofs.QueueLaws.{runs-counted, several-fail, several-more, several-none}
+use Rattle.slot_places.proofs.QueueLaws.{runs-counted, rest-fail, rest-next, rest-end}
 use Rattle.slot_places.proofs.queue.queues.Goals as goal
 
-pub returns-then-not-w : goal.returns-then-not-w
-returns-then-not-w c = c.loop-more.invariant.2 _ _ _ (several-fail _ _ _ _ _ _ _ c.loop-more-test.true _ _ c.queue-w.ensures (not-true _ c.if-not-w.true))
+pub returns-in_err-rest : goal.returns-in_err-rest
+returns-in_err-rest c = rw c.from_residual.ensures (rest-fail _ _ _ _ _ _ _ _ c.loop-i.invariant.1 (omega arith) c.in_err-rest.ensures)
 
-pub loop-more-preserved : goal.loop-more-preserved
-loop-more-preserved c = (
-  omega arith,
-  runs-counted _ _ _ _ _ _ c.queue-w.ensures (not-false _ c.if-not-w.false),
-  λ r x t e. c.loop-more.invariant.2 r x t
-      (several-more _ _ _ _ _ _ _ c.loop-more-test.true _ _ c.queue-w.ensures (not-false _ c.if-not-w.false) r e),
-  c.queue-w.auto.marks ∙ c.loop-more.invariant.3,
+pub loop-i-preserved : goal.loop-i-preserved
+loop-i-preserved c = (
+  runs-counted _ _ _ c.in_ok-rest.ensures,
+  rest-next _ _ _ _ _ _ _ _ c.loop-i.invariant.1 (omega arith) c.in_ok-rest.ensures,
+  c.queue.auto.marks ∙ c.loop-i.invariant.2,
 )
 
 pub returns : goal.returns
-returns c = c.loop-more.invariant.2 _ _ _ (several-none _ _ _ _ _ _ _ c.loop-more-test.false _ _ c.loop-more.invariant.1)
+returns c = rest-end _ _ _ _ _ _ _ _ _ c.loop-i.invariant.1 (omega arith) c.loop-i.invariant.0

@@ -5,7 +5,7 @@ use Rattle.slot_places.proofs.QueueLaws.{Queueing}
 use Rattle.slot_places.proofs.queue.walk_queue.Given as goal
 
 abbrev pub invariant-loop-cur : goal.invariant-loop-cur
-invariant-loop-cur l = Queueing l.m l.base l.slots l.free l.at l.initial.marks l.left l.cur l.marks l.last l.rest × (length l.marks ≡ length l.initial.marks)
+invariant-loop-cur l = Queueing l.slots l.queued l.at l.initial.marks l.left l.cur l.marks l.last l.rest × (length l.marks ≡ length l.initial.marks)
 
 abbrev pub decreases-loop-cur : goal.decreases-loop-cur
 decreases-loop-cur l = l.rest
