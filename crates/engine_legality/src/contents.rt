@@ -13,6 +13,6 @@ pub fn contents_agree(m: &[u32]) -> bool
         return false;
     };
     let mut own = [0u32; words::CONTENTS_LENGTH];
-    words::contents::write(&mut own, z);
-    m.starts_with(&own) && words::contents::bodies_of(z).total as usize <= m.len()
+    z.write_contents(&mut own);
+    m.starts_with(&own) && z.bodies().total as usize <= m.len()
 }

@@ -120,7 +120,7 @@ fn write_fresh(m: &mut [u32], z: words::Sizes)
     requires { (sizes_fit (sizes_of z) ≡ true) × (total (sizes_of z) ≤ length m.old) }
     ensures { m.new ≡ stored (fresh (sizes_of z)) m.old }
 {
-    words::contents::write(m, z);
+    z.write_contents(m);
     write_global(m, z.slots);
     fill(m, words::MASKS_AT, z.cabinet_count() as usize, 0);
     write_lanes(m, z);
@@ -136,7 +136,7 @@ pub fn set_up(m: &mut [u32], sizes: words::NamedSizes) -> Result<[u32; 4], Cause
     let Ok(z) = words::Sizes::try_from(sizes) else {
         return Err(Cause::BadSize);
     };
-    let total = words::contents::bodies_of(z).total;
+    let total = z.bodies().total;
     if m.len() < total as usize {
         return Err(Cause::ShortMemory);
     }

@@ -52,46 +52,48 @@ pub struct Bodies {
     pub total: u32,
 }
 
-// The bodies of a table with these sizes.
-pub fn bodies_of(z: crate::Sizes) -> Bodies
-    ensures { BodiesOf (sizes_of z) result }
-{
-    let cabinets = z.cabinet_count();
-    let first_lane = MASKS_BODY + cabinets;
-    let lanes_length = LANE_LENGTH * z.lane_count();
-    let first_slot = first_lane + lanes_length;
-    let slots_length = SLOT_LENGTH * z.slots;
-    let first_yard = first_slot + slots_length;
-    Bodies {
-        masks_long: cabinets,
-        lanes: first_lane,
-        lanes_long: lanes_length,
-        slots: first_slot,
-        slots_long: slots_length,
-        yards: first_yard,
-        total: first_yard + z.yards,
+impl crate::Sizes {
+    // The bodies of a table with these sizes.
+    pub fn bodies(self) -> Bodies
+        ensures { BodiesOf (sizes_of self) result }
+    {
+        let cabinets = self.cabinet_count();
+        let first_lane = MASKS_BODY + cabinets;
+        let lanes_length = LANE_LENGTH * self.lane_count();
+        let first_slot = first_lane + lanes_length;
+        let slots_length = SLOT_LENGTH * self.slots;
+        let first_yard = first_slot + slots_length;
+        Bodies {
+            masks_long: cabinets,
+            lanes: first_lane,
+            lanes_long: lanes_length,
+            slots: first_slot,
+            slots_long: slots_length,
+            yards: first_yard,
+            total: first_yard + self.yards,
+        }
     }
-}
 
-// Writes the contents of a table with these sizes.
-pub fn write(m: &mut [u32], z: crate::Sizes)
-    requires { contents_length ≤ length m.old }
-    ensures { m.new ≡ sets m.old 0 (contents (sizes_of z)) }
-{
-    let b = bodies_of(z);
-    m[crate::VERSION_AT] = crate::VERSION;
-    m[crate::CABINETS_AT] = z.cabinets;
-    m[crate::PLACES_AT] = z.places;
-    m[crate::SLOTS_AT] = z.slots;
-    m[GLOBAL_AT] = GLOBAL_BODY;
-    m[GLOBAL_LENGTH_AT] = GLOBAL_LENGTH;
-    m[MASKS_AT] = MASKS_BODY;
-    m[MASKS_LENGTH_AT] = b.masks_long;
-    m[LANES_AT] = b.lanes;
-    m[LANES_LENGTH_AT] = b.lanes_long;
-    m[SLOTS_BODY_AT] = b.slots;
-    m[SLOTS_LENGTH_AT] = b.slots_long;
-    m[YARDS_BODY_AT] = b.yards;
-    m[YARDS_LENGTH_AT] = z.yards;
-    m[crate::YARDS_AT] = z.yards;
+    // Writes the contents of a table with these sizes.
+    pub fn write_contents(self, m: &mut [u32])
+        requires { contents_length ≤ length m.old }
+        ensures { m.new ≡ sets m.old 0 (contents (sizes_of self)) }
+    {
+        let b = self.bodies();
+        m[crate::VERSION_AT] = crate::VERSION;
+        m[crate::CABINETS_AT] = self.cabinets;
+        m[crate::PLACES_AT] = self.places;
+        m[crate::SLOTS_AT] = self.slots;
+        m[GLOBAL_AT] = GLOBAL_BODY;
+        m[GLOBAL_LENGTH_AT] = GLOBAL_LENGTH;
+        m[MASKS_AT] = MASKS_BODY;
+        m[MASKS_LENGTH_AT] = b.masks_long;
+        m[LANES_AT] = b.lanes;
+        m[LANES_LENGTH_AT] = b.lanes_long;
+        m[SLOTS_BODY_AT] = b.slots;
+        m[SLOTS_LENGTH_AT] = b.slots_long;
+        m[YARDS_BODY_AT] = b.yards;
+        m[YARDS_LENGTH_AT] = self.yards;
+        m[crate::YARDS_AT] = self.yards;
+    }
 }

@@ -12,7 +12,7 @@ pub returns : goal.returns
 returns c =
     let f = sizes-fit (sizes_of c.args.z) c.requires.0 in
     all-written (sizes_of c.args.z) _ _ c.cabinet_count.ensures c.yards_start.ensures (omega arith) c.requires.1
-    (record { is = c.write.ensures })
+    (record { is = c.write_contents.ensures })
     c.write_global.ensures
     c.fill.ensures
     c.write_lanes.ensures

@@ -12,11 +12,11 @@ returns-in_default c = search (rules, contents-unsized)
 pub returns-then-starts_with : goal.returns-then-starts_with
 returns-then-starts_with c =
     let ok = c.in-Ok.ensures in
-    contents-decided _ c.if-m-lt-CONTENTS_LENGTH.false _ c.read.ensures _ ok.0 ok.1 _ c.write.ensures
-    _ c.starts_with.ensures.value c.if-starts_with.true _ c.bodies_of.ensures.total
+    contents-decided _ c.if-m-lt-CONTENTS_LENGTH.false _ c.read.ensures _ ok.0 ok.1 _ c.write_contents.ensures
+    _ c.starts_with.ensures.value c.if-starts_with.true _ c.bodies.ensures.total
 
 pub returns-else-starts_with : goal.returns-else-starts_with
 returns-else-starts_with c =
     let ok = c.in-Ok.ensures in
-    contents-other _ c.if-m-lt-CONTENTS_LENGTH.false _ c.read.ensures _ ok.0 ok.1 _ c.write.ensures
+    contents-other _ c.if-m-lt-CONTENTS_LENGTH.false _ c.read.ensures _ ok.0 ok.1 _ c.write_contents.ensures
     _ c.starts_with.ensures.value c.if-starts_with.false
