@@ -10,14 +10,12 @@ pub mod product;
 pub mod sizes;
 
 ghost use Rattle.std.specs.Prelude.{◌≡◌, ◌+◌, ◌<◌, ◌≤◌, length};
-ghost use Rattle.model.specs.Word.{word_limit, less as differenceOf};
 ghost use Rattle.model.specs.State.{cabinet_count, lane_count};
 ghost use Rattle.model.specs.Layout.{contents_length, lane_address, slots_body, slot_address, yards_body};
 ghost use Rattle.model.specs.Legal.{sizes_fit};
 ghost use Rattle.model.specs.Memory.{wide, whole_of, low as low_word, high as high_word};
 ghost use Rattle.words.specs.Lent.{sizes_of, named, sizes_in, Few};
 ghost use Rattle.words.specs.Sizing.{Sized};
-ghost use Rattle.words.specs.Sums.{plus as sum_of};
 
 pub use sizes::{NamedSizes, Sizes, SizesOutOfRange};
 
@@ -234,27 +232,6 @@ impl Sizes {
 }
 
 // ---- numbers
-
-// A word as an index.
-pub fn index(x: u32) -> usize
-    ensures { result ≡ x }
-{
-    x as usize
-}
-
-// The sum of two words, which wraps.
-pub fn plus(a: u32, b: u32) -> u32
-    ensures { result ≡ sum_of a b }
-{
-    a.wrapping_add(b)
-}
-
-// The first word less the second, which wraps.
-pub fn less(a: u32, b: u32) -> u32
-    ensures { result ≡ differenceOf a b }
-{
-    a.wrapping_sub(b)
-}
 
 // The 64-bit number with these words.
 pub fn whole(low: u32, high: u32) -> u64
