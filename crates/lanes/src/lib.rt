@@ -62,6 +62,8 @@ pub struct Place {
 }
 
 // The four counts whose words stand from at on, low word first.
+// Stays: four counts are read and written one by one, since the project's rules name a record with two arrays of four; a loop over
+// them reads no plainer, and needs an invariant.
 fn read_counts(m: &[u32], at: usize) -> [u64; words::KINDS]
     requires { at + counts_width ≤ length m.now }
     ensures { result ≡ read_counts m.now at }
@@ -204,6 +206,7 @@ impl LaneRecord {
     }
 
     // The same by value, through a record that is lent.
+    // Stays: the project's rules name the count by value and the thin function over a lent record; a change is a function by value.
     pub fn passed(self, kind: Kind) -> LaneRecord
         ensures { result ≡ counted_record self (number_of kind) }
     {

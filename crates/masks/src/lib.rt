@@ -9,6 +9,8 @@ ghost use Rattle.laws.specs.MaskFlags.{trues, first_true};
 ghost use Rattle.masks.specs.Bits.{width, bits, with_bit, without_bit};
 
 // ---- masks
+// Stays: that a place is below the width is a premise of three functions: places are worked out as numbers (a lane's in its cabinet,
+// the p-th of some words), and a type of places would be made and taken apart at each.
 
 // Whether bit p of a mask is set.
 pub fn test(mask: u32, p: u32) -> bool

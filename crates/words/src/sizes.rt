@@ -1,4 +1,6 @@
 // The sizes of a table, handed on by value.
+// Stays: memory and sizes, `m` and `z`, are two parameters all over the library: a struct that held the memory by `&mut` would owe
+// two clauses more in each contract, that it keeps the reference and that the sizes stay.
 ghost use Rattle.words.specs.Few.{Few};
 
 // The sizes that somebody names: any four numbers.
