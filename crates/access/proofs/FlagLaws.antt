@@ -1,13 +1,13 @@
 -- What each bit of a lane's flags says, and the word after one of them is set or cleared. The word is the mask of the lane's four answers, so a bit of
 -- it is one of them, and the word with a bit changed is the mask of the lane so changed.
 use Prim.Native.Nat.{ℕ, ◌+◌, ◌≤◌, ◌<◌}
-use mathlib.Core.Path.{◌≡◌, ap, sym, ◌∙◌}
+use mathlib.Core.Path.{◌≡◌, refl, ap, sym, ◌∙◌}
 use mathlib.Core.Bool.{Bool, true, false}
 use mathlib.Core.List.{List, [], ◌∷◌}
 use native.Mathlib.Omega.{arith}
 use lib.ListN.{length, get_or, set}
 use Rattle.model.specs.Lists.{mask}
-use Rattle.model.specs.State.{lane_count, Lookup, is_running, is_held, Lane}
+use Rattle.model.specs.State.{lane_count, Lookup as TableLookup, is_running, is_held, Lane}
 use Rattle.model.specs.Layout.{flags_at, lane_length, lane_address, online_bit, reading_bit, lookup_bit}
 use Rattle.model.specs.Engine.{set_online, set_reading, set_lookup}
 use Rattle.model.specs.Rules.{lane_of}
@@ -18,7 +18,10 @@ use Rattle.masks.proofs.BitLaws.{with_bit-mask, without_bit-mask}
 use Rattle.representation.proofs.Addresses.Fields.{lane}
 use Rattle.representation.specs.Sound.{Sound}
 use Rattle.access.specs.declared.Lane as code
-use Rattle.access.specs.Flags.{with_flag}
+use Rattle.words.specs.declared.flags.Flag.{Flag}
+use Rattle.words.specs.declared.flags.Flag.TheVariants.{Online, Reading, Lookup, Snapshot}
+use Rattle.words.specs.Flags.{bit_of}
+use Rattle.access.specs.Flags.{has_flag, with_flag}
 use Rattle.access.specs.Lanes.{LaneIn}
 use Rattle.access.proofs.Ways.{shown}
 
@@ -51,7 +54,7 @@ module _ (l : Lane) where
   unfolding flags
   flags-reading b = put-mask (bits l) reading_bit b (omega arith) (omega arith)
 
-  pub flags-lookup : (k : Lookup) → with_flag lookup_bit (is_running k) (flags l) ≡ flags (set_lookup k l)
+  pub flags-lookup : (k : TableLookup) → with_flag lookup_bit (is_running k) (flags l) ≡ flags (set_lookup k l)
   unfolding flags
   flags-lookup k = put-mask (bits l) lookup_bit (is_running k) (omega arith) (omega arith)
 
@@ -71,26 +74,13 @@ module _ (m : List ℕ) (v : Sound m) (i : ℕ) (within : i < lane_count (sizes 
   unfolding flags
   bit-shown p = ap (flag p) flags-shown ∙ flag-mask (bits (lane_of (state m) i)) p
 
-  pub online-shown : flag online_bit (at m (lane_address (sizes m) i)) ≡ (lane_of (state m) i).online
-  online-shown = bit-shown online_bit
-
-  pub reading-shown : flag reading_bit (at m (lane_address (sizes m) i)) ≡ (lane_of (state m) i).reading
-  reading-shown = bit-shown reading_bit
-
-  pub running-shown : flag lookup_bit (at m (lane_address (sizes m) i)) ≡ is_running (lane_of (state m) i).lookup
-  running-shown = bit-shown lookup_bit
-
 -- ---- by a test of a bit of the lane's flags
 
-module _ (m : List ℕ) (l : code.Lane) (k : LaneIn m l) (b : Bool) where
-  bit-by : (p : ℕ) → b ≡ flag p (at m l.address) → b ≡ flag p (at m (lane_address (sizes m) l.number))
-  bit-by p e = e ∙ ap (λ (a : ℕ). flag p (at m a)) k.named.address
-
-  pub online-by : b ≡ flag online_bit (at m l.address) → b ≡ (lane_of (state m) l.number).online
-  online-by e = bit-by online_bit e ∙ online-shown m k.named.sound l.number k.known
-
-  pub reading-by : b ≡ flag reading_bit (at m l.address) → b ≡ (lane_of (state m) l.number).reading
-  reading-by e = bit-by reading_bit e ∙ reading-shown m k.named.sound l.number k.known
-
-  pub running-by : b ≡ flag lookup_bit (at m l.address) → b ≡ is_running (lane_of (state m) l.number).lookup
-  running-by e = bit-by lookup_bit e ∙ running-shown m k.named.sound l.number k.known
+pub flag-by : (m : List ℕ) (l : code.Lane) → LaneIn m l → (of : Flag) (b : Bool) → b ≡ flag (bit_of of) (at m l.address) → b ≡ has_flag of (lane_of (state m) l.number)
+flag-by m l k of b e = e ∙ ap (λ (a : ℕ). flag (bit_of of) (at m a)) k.named.address ∙ bit-shown m k.named.sound l.number k.known (bit_of of) ∙ answer of
+  where
+    answer : (f : Flag) → get_or (bits (lane_of (state m) l.number)) (bit_of f) false ≡ has_flag f (lane_of (state m) l.number)
+    answer Online = refl
+    answer Reading = refl
+    answer Lookup = refl
+    answer Snapshot = refl

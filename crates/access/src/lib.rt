@@ -5,18 +5,18 @@
 pub mod causes;
 
 ghost use Rattle.std.specs.Prelude.{◌≡◌, [], ◌∷◌, ◌+◌, ◌<◌, leb, OnOk};
-ghost use Rattle.model.specs.State.{lane_count, is_running};
+ghost use Rattle.model.specs.State.{lane_count};
 ghost use Rattle.model.specs.Layout.{heads_at};
 ghost use Rattle.model.specs.Lists.{first};
 ghost use Rattle.model.specs.Table.{chain_number, chain_of};
 ghost use Rattle.model.specs.Rules.{first_cause, of_lane, lane_of, wrong_code};
-ghost use Rattle.model.specs.Memory.{at, flag, state};
+ghost use Rattle.model.specs.Memory.{state};
 ghost use Rattle.laws.specs.Subtractions.{subtracted};
 ghost use Rattle.representation.specs.Sound.{Sound};
 ghost use Rattle.words.specs.Lent.{sizes_of};
 ghost use Rattle.words.specs.Flags.{bit_of};
 ghost use Rattle.access.specs.Causes.{refusal_of, answer_of};
-ghost use Rattle.access.specs.Flags.{flag_put};
+ghost use Rattle.access.specs.Flags.{has_flag, flag_put};
 ghost use Rattle.access.specs.Lanes.{Named, LaneIn, Standing, most_subtractions, split_of, yard_size, Placed};
 
 use causes::Cause;
@@ -26,6 +26,7 @@ use words::flags::Flag;
 // ---- answers
 
 // The five words of an answer.
+// Stays: the C interface has five words for each answer.
 #[derive(Clone, Copy, Debug, PartialEq, Eq)]
 pub struct Answer {
     pub status: u32,
@@ -73,6 +74,8 @@ impl From<Answer> for [u32; 5] {
 // ---- lanes
 
 // A lane by its number: where its record would begin, and the sizes of the table. Worked out once a call and handed on.
+// Stays: that it is a lane of a memory (`Named`, `LaneIn`) is a fact of both, and the C interface lends the memory for one
+// call, so it is no ghost field here.
 #[derive(Clone, Copy)]
 pub struct Lane {
     pub number: u32,
@@ -116,36 +119,12 @@ impl Lane {
         Place::new(z, y.times, b.times, b.left)
     }
 
-    // Whether its flags have this one.
-    fn has(self, m: &[u32], of: Flag) -> bool
+    // Whether it has this flag.
+    pub fn has(self, m: &[u32], of: Flag) -> bool
         requires { LaneIn m.now self }
-        ensures { result ≡ flag (bit_of of) (at m.now self.address) }
+        ensures { result ≡ has_flag of (lane_of (state m.now) self.number) }
     {
         of.is_set(m[self.address])
-    }
-
-    // Whether it is on.
-    pub fn is_online(self, m: &[u32]) -> bool
-        requires { LaneIn m.now self }
-        ensures { result ≡ (lane_of (state m.now) self.number).online }
-    {
-        self.has(m, Flag::Online)
-    }
-
-    // Whether its section is open.
-    pub fn is_reading(self, m: &[u32]) -> bool
-        requires { LaneIn m.now self }
-        ensures { result ≡ (lane_of (state m.now) self.number).reading }
-    {
-        self.has(m, Flag::Reading)
-    }
-
-    // Whether its lookup is running.
-    pub fn is_running(self, m: &[u32]) -> bool
-        requires { LaneIn m.now self }
-        ensures { result ≡ is_running (lane_of (state m.now) self.number).lookup }
-    {
-        self.has(m, Flag::Lookup)
     }
 
     // A flag of its becomes `on`. All other words stay.
@@ -170,6 +149,7 @@ struct Split {
 const MOST_SUBTRACTIONS: u32 = 7;
 
 // Subtracts a size from a number until what is left is below it, at most seven times.
+// Stays: a size at a time, since no dividing instruction may come into the library.
 fn subtract_size(number: u32, size: u32) -> Split
     ensures { split_of result ≡ subtracted most_subtractions size number }
 {
@@ -212,7 +192,7 @@ pub fn check_lane(m: &[u32], lane: Lane) -> Result<(), Cause>
     if lane.is_unknown() {
         return Err(Cause::NoLane);
     }
-    if !lane.is_online(m) {
+    if !lane.has(m, Flag::Online) {
         return Err(Cause::Offline);
     }
     Ok(())

@@ -17,6 +17,7 @@ ghost use Rattle.periods.specs.Ticks.{runs_in, done_words};
 
 use access::Lane;
 use access::causes::Cause;
+use words::flags::Flag;
 
 // ---- off
 
@@ -28,7 +29,7 @@ fn is_other_online(m: &[u32], lane: Lane, i: u32) -> bool
     if i == lane.number {
         return false;
     }
-    Lane::at(m, i).is_online(m)
+    Lane::at(m, i).has(m, Flag::Online)
 }
 
 // Whether a lane other than `lane` is on.
@@ -47,7 +48,7 @@ fn check_off(m: &[u32], lane: Lane) -> Result<(), Cause>
     ensures lane { OnOk result (LaneIn m.now lane) }
 {
     access::check_lane(m, lane)?;
-    if lane.is_reading(m) {
+    if lane.has(m, Flag::Reading) {
         return Err(Cause::InSection);
     }
     if !another_online(m, lane) {

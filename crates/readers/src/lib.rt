@@ -32,7 +32,7 @@ fn check_begin(m: &[u32], lane: Lane) -> Result<(), Cause>
     ensures lane { OnOk result (LaneIn m.now lane) }
 {
     access::check_lane(m, lane)?;
-    if lane.is_reading(m) {
+    if lane.has(m, Flag::Reading) {
         return Err(Cause::InSection);
     }
     Ok(())
@@ -60,7 +60,7 @@ fn check_on(m: &[u32], lane: Lane) -> Result<(), Cause>
     if lane.is_unknown() {
         return Err(Cause::NoLane);
     }
-    if lane.is_online(m) {
+    if lane.has(m, Flag::Online) {
         return Err(Cause::AlreadyOnline);
     }
     Ok(())
@@ -116,7 +116,7 @@ fn check_end(m: &[u32], lane: Lane) -> Result<(), Cause>
     ensures lane { OnOk result (LaneIn m.now lane) }
 {
     access::check_lane(m, lane)?;
-    if !lane.is_reading(m) {
+    if !lane.has(m, Flag::Reading) {
         return Err(Cause::NoSection);
     }
     Ok(())
@@ -143,10 +143,10 @@ fn check_start(m: &[u32], lane: Lane, code: u64) -> Result<(), Cause>
     ensures lane { OnOk result (LaneIn m.now lane) }
 {
     access::check_lane(m, lane)?;
-    if !lane.is_reading(m) {
+    if !lane.has(m, Flag::Reading) {
         return Err(Cause::NoSection);
     }
-    if lane.is_running(m) {
+    if lane.has(m, Flag::Lookup) {
         return Err(Cause::InLookup);
     }
     if access::wrong_code(code) {
@@ -176,7 +176,7 @@ fn check_step(m: &[u32], lane: Lane) -> Result<(), Cause>
     ensures looking { OnOk result (Looking m.now lane) }
 {
     access::check_lane(m, lane)?;
-    if !lane.is_running(m) {
+    if !lane.has(m, Flag::Lookup) {
         return Err(Cause::NoLookup);
     }
     Ok(())
@@ -227,7 +227,7 @@ fn check_pass(m: &[u32], lane: Lane, kind: u32) -> Result<Kind, Cause>
     ensures kind { IfOk result (λ k. number_of k ≡ kind) }
 {
     access::check_lane(m, lane)?;
-    if lane.is_reading(m) {
+    if lane.has(m, Flag::Reading) {
         return Err(Cause::InSection);
     }
     Kind::try_from(kind).map_err(|_| Cause::OutOfRange)

@@ -6,4 +6,4 @@ pub returns-then-i-lane : goal.returns-then-i-lane
 returns-then-i-lane c = itself _ _ c.requires.0 _ c.if-i-lane.true
 
 pub returns : goal.returns
-returns c = another _ _ c.requires.0 _ _ c.at.ensures.named c.at.ensures.number c.if-i-lane.false _ c.is_online.ensures
+returns c = another _ _ c.requires.0 _ _ c.at.ensures.named c.at.ensures.number c.if-i-lane.false _ c.has.ensures
