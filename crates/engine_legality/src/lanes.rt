@@ -56,6 +56,7 @@ impl<'a> Lane<'a> {
     }
 
     // The ends of its queues are in range.
+    // Stays: a call for each of three queues; a loop over their places is no shorter, and branches at each.
     fn queues_fit(&self) -> bool
         ensures { result ≡ queues_fit (word_at self.now.words.now) self.now.slots queues_at }
     {
