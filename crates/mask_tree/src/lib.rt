@@ -18,6 +18,7 @@ pub fn clear(m: &mut [u32], at: usize, place: u32) -> bool
 }
 
 // The mask of these words: bit p stands while the p-th of them is not 0.
+#[tactic(auto, unfolding(model::specs::Lists::mask, model::specs::Lists::from))]
 fn mask_of(words: &[u32]) -> u32
     requires { length words.now ≤ width }
     ensures { result ≡ mask_of words.now (length words.now) }
@@ -41,6 +42,7 @@ pub struct Level {
 
 impl Level {
     // Sets the masks of the level by those of the level below, which stand from `below` on.
+    #[tactic(auto, unfolding(crate::specs::Tree::raised_to))]
     pub fn raise(self, m: &mut [u32], below: usize)
         requires { (below + self.count * self.wide ≤ length m.old) × ((self.first + self.count ≤ length m.old) × (self.wide ≤ width)) }
         ensures { m.new ≡ raised_to m.old below (level_of self) self.count }

@@ -3,15 +3,10 @@ use mathlib.Core.Path.{refl, ap, ◌∙◌}
 use mathlib.Core.Bool.{not}
 use native.Mathlib.Omega.{arith}
 use borrow.Author.Tests.{eq-eqb, ne_eqb}
-use Rattle.model.specs.Lists.{from, mask}
 use Rattle.model.specs.Memory.{at, is_not_zero}
 use Rattle.masks.proofs.BitLaws.{mask-set, mask-clear}
 use Rattle.mask_tree.proofs.mask_of.Goals as goal
 use Rattle.mask_tree.proofs.mask_of.Goals.{then-word-ne0, else-word-ne0}
-
-pub loop-p-init : goal.loop-p-init
-unfolding mask from
-loop-p-init c = refl
 
 pub loop-p-preserved : goal.loop-p-preserved
 loop-p-preserved c =

@@ -1,17 +1,11 @@
 use Prim.Native.Nat.{◌+◌}
-use mathlib.Core.Path.{refl}
 use native.Mathlib.Omega.{arith}
 use lib.ListN.{length-set}
-use Rattle.mask_tree.specs.Tree.{raised_to}
 use Rattle.mask_tree.proofs.FunctionLaws.{group-within, raised-on}
 use Rattle.mask_tree.proofs.Level.raise.Goals as goal
 
 pub slice_bounds-mask_of-end : goal.slice_bounds-mask_of-end
 slice_bounds-mask_of-end c = omega (arith, group-within c.loop-g.g c.args.self.count c.args.self.wide (omega arith))
-
-pub loop-g-init : goal.loop-g-init
-unfolding raised_to
-loop-g-init c = (refl, refl)
 
 pub loop-g-preserved : goal.loop-g-preserved
 loop-g-preserved c =
