@@ -1,4 +1,5 @@
 -- Groups of the same size: a loop over the members of each, in a loop over the groups, asks of all members, and each group lies within them.
+-- A lane's words are the memory's from its first on.
 use Prim.Native.Nat.{ℕ, zero, suc, ◌+◌, ◌*◌, ◌-◌, ◌/◌, ◌%◌, ◌<◌, ◌≤◌}
 use mathlib.Core.Bool.{Bool, true}
 use mathlib.Core.Path.{◌≡◌, ap, ap₂, sym, ◌∙◌, fun_ext}

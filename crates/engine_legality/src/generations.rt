@@ -26,7 +26,8 @@ impl Generations {
         }
     }
 
-    // A lane's generation: "0 while its current line is empty", else near the current one and not after the largest.
+    // A lane's generation: "0 while its current line is empty", else the current one or one next to it, not
+    // after the largest, and while a period runs the one before only with the lane's bit set.
     pub fn lane_fits(self, g: u32, empty: bool, pending: bool) -> bool
         ensures { result ≡ generation_fits self g empty pending }
     {
@@ -40,7 +41,8 @@ impl Generations {
                     & (!(before & self.runs) | pending)))
     }
 
-    // The global generation: 0 while its current queue is empty, else the current one or the next, and not after the largest.
+    // The global generation: 0 while its current queue is empty, else the current one or the next, and not
+    // after the largest.
     pub fn global_fits(self, g: u32, empty: bool) -> bool
         ensures { result ≡ global_fits self g empty }
     {
