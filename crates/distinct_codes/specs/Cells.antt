@@ -1,17 +1,14 @@
 -- The first step: cells that hold 0 or a slot's number plus 1, the first slot met whose code spreads there. A slot that meets a held cell is
--- compared with its holder and put aside. Clients cite `meets`, `code_at`, `spread` and `Room`.
+-- compared with its holder and put aside. Clients cite `meets`, `code_at` and `spread`.
 use Rattle.std.specs.Prelude.{ℕ, zero, suc, ◌+◌, ◌*◌, ◌/◌, ◌%◌, ◌≤◌, ◌<◌, cond, ◌≡◌, List, [], ◌∷◌, ◌++◌, get_or, set, eqb}
 use Rattle.model.specs.Layout.{slot_length}
 use Rattle.model.specs.Memory.{wide, low, high}
 
--- the number of cells in which codes begin: for few, as many as these at most, and for more
-abbrev pub few_cells : ℕ
-few_cells = 64
-
+-- the largest number of cells in which codes begin
 abbrev pub many_cells : ℕ
 many_cells = 4096
 
--- R may be such a number
+-- R may be their number
 pub record CellCount (R : ℕ) : Type 0 where
   pub some : 0 < R
   pub most : R ≤ many_cells

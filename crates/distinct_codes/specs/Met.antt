@@ -1,4 +1,4 @@
--- The same of the slots that the code hands on.
+-- What a slot leaves that is met, of the slots that the code hands on. Clients cite `code_of`, `Listed`, `Room` and `Meets`.
 use Rattle.std.specs.Prelude.{ℕ, ◌+◌, ◌≤◌, ◌<◌, Bool, true, false, ◌≡◌, List, get_or, length}
 use Rattle.distinct_codes.specs.declared.slots.Slots.{Slots}
 use Rattle.distinct_codes.specs.Cells.{CellCount, spread, code_at, clash, held, meet}
