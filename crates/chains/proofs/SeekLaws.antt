@@ -22,19 +22,8 @@ use Rattle.chains.specs.Chained.{before_code}
 
 -- ---- what was found
 
-pub found-real : (f : Found) → f.slot ≢ none → found f ≡ Some f
+found-real : (f : Found) → f.slot ≢ none → found f ≡ Some f
 found-real f n = rw (ne_eqb f.slot none n)
-
-pub found-nothing : (f : Found) → f.slot ≡ none → found f ≡ None
-found-nothing f e = rw (eq-eqb f.slot none e)
-
--- a slot that was found is the search's
-pub found-some : (f g : Found) → found f ≡ Some g → f ≡ g
-found-some f g e =
-    elim (decide f.slot none) [
-      | same q t u ↦ absurd (let w : None ≡ Some g = sym (found-nothing f q) ∙ e in cc)
-      | other q t u ↦ let w : Some f ≡ Some g = sym (found-real f q) ∙ e in cc
-    ]
 
 -- ---- the loop
 
