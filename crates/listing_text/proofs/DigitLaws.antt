@@ -1,73 +1,61 @@
 -- An argument, digit by digit: what the machine makes of a word of digits, or the line is bad.
 use Prim.Native.Nat.{ℕ, ◌+◌, ◌-◌, ◌*◌, ◌^◌, ◌≤◌, ◌<◌}
-use mathlib.Core.Bool.{Bool, true, false}
+use mathlib.Core.Bool.{true, false}
 use mathlib.Core.List.{List, [], ◌∷◌}
 use mathlib.Core.Logic.{◌⊎◌, inl, inr}
 use mathlib.Core.Path.{◌≡◌, refl, ap, ◌∙◌}
-use native.Mathlib.Decide.{dec_lt, dec_le}
+use native.Mathlib.Decide.{dec_lt}
 use native.Mathlib.Omega.{arith}
-use lib.Dec.{leb}
-use borrow.Author.Tests.{le-leb, leb-true}
+use borrow.Author.Tests.{lt-ltb, le-ltb}
+use Rattle.std.specs.Prelude.{Some}
+use Rattle.std.specs.declared.option.Option.{Option}
 use Rattle.model.specs.Lists.{all}
 use Rattle.model.specs.Digits.{number_from, is_digit, value_from}
-use Rattle.listing_text.specs.Machine.{arguing, refused, counted, grown}
+use Rattle.listing_text.specs.Machine.{arguing, so_far, with_digit, grown}
+use Rattle.listing_text.specs.declared.command.Command.{Command}
 use Rattle.listing_text.specs.declared.line.Line.{Line}
-use Rattle.listing_text.proofs.Bools.{either, true-false, and_left, and_right, and-true}
+use Rattle.listing_text.specs.declared.line.Line.TheVariants.{Bad}
+use Rattle.listing_text.proofs.Bools.{either, and_left, and_right, and-true}
 use Rattle.listing_text.proofs.NumberLaws.{value_from-grows}
-use Rattle.listing_text.proofs.MachineLaws.{counted-below, counted-above, counted-digit, counted-full, grown-named, grown_all, grown_all-bad}
+use Rattle.listing_text.proofs.MachineLaws.{grown_all, grown_all-bad}
 
--- ---- an argument
+module _ (c : Command) (vs : List ℕ) where
+  -- a digit more
+  pub digit-read : (v : Option ℕ) (b : ℕ) → is_digit b ≡ true → so_far v * 10 + (b - 48) < 2 ^ 64
+      → grown (arguing c vs v) b ≡ arguing c vs (Some (so_far v * 10 + (b - 48)))
+  unfolding grown with_digit
+  digit-read v b h k = rw (h, lt-ltb (so_far v * 10 + (b - 48)) (2 ^ 64) k)
 
--- a digit after v
-pub digit-read : (w n v : ℕ) (vs : List ℕ) (d : Bool) (b : ℕ) → is_digit b ≡ true → v * 10 + (b - 48) < 2 ^ 64
-    → grown (arguing w n vs v d) b ≡ arguing w n vs (v * 10 + (b - 48)) true
-digit-read w n v vs d b h k =
-    let lo : 48 ≤ b = leb-true 48 b (and_left (leb 48 b) (leb b 57) h) in
-    let hi : b ≤ 57 = leb-true b 57 (and_right (leb 48 b) (leb b 57) h) in
-    grown-named (arguing w n vs v d) b refl refl ∙ counted-digit (arguing w n vs v d) b lo hi (omega arith)
+  pub digits-read : (n : ℕ) (x : List ℕ) → all is_digit x ≡ true → value_from n x < 2 ^ 64
+      → grown_all (arguing c vs (Some n)) x ≡ arguing c vs (Some (value_from n x))
+  unfolding grown_all all value_from number_from
+  digits-read n [] h k = refl
+  digits-read n (b ∷ x) h k =
+      let g : n * 10 + (b - 48) ≤ value_from (n * 10 + (b - 48)) x = value_from-grows (n * 10 + (b - 48)) x in
+      let e : n * 10 + (b - 48) < 2 ^ 64 = omega arith in
+      ap (λ (l : Line). grown_all l x) (digit-read (Some n) b (and_left (is_digit b) (all is_digit x) h) e)
+      ∙ digits-read (n * 10 + (b - 48)) x (and_right (is_digit b) (all is_digit x) h) k
 
-pub digits-read : (w n v : ℕ) (vs : List ℕ) (x : List ℕ) → all is_digit x ≡ true → value_from v x < 2 ^ 64
-    → grown_all (arguing w n vs v true) x ≡ arguing w n vs (value_from v x) true
-unfolding grown_all all value_from number_from
-digits-read w n v vs [] h k = refl
-digits-read w n v vs (b ∷ x) h k =
-    let g : v * 10 + (b - 48) ≤ value_from (v * 10 + (b - 48)) x = value_from-grows (v * 10 + (b - 48)) x in
-    let e : v * 10 + (b - 48) < 2 ^ 64 = omega arith in
-    ap (λ (l : Line). grown_all l x) (digit-read w n v vs true b (and_left (is_digit b) (all is_digit x) h) e)
-    ∙ digits-read w n (v * 10 + (b - 48)) vs x (and_right (is_digit b) (all is_digit x) h) k
+  -- a byte that makes the line bad
+  no_digit : (v : Option ℕ) (b : ℕ) → is_digit b ≡ false → grown (arguing c vs v) b ≡ Bad
+  unfolding grown with_digit
+  no_digit v b h = rw h
 
--- a byte that makes the line bad
-grown-refused : (l : Line) (b : ℕ) (x : List ℕ) → grown l b ≡ refused l → (grown_all l (b ∷ x)).bad ≡ true
-unfolding grown_all refused
-grown-refused l b x e = ap (λ (y : Line). (grown_all y x).bad) e ∙ ap (λ (y : Line). y.bad) (grown_all-bad (refused l) x refl)
+  too_wide : (v : Option ℕ) (b : ℕ) → is_digit b ≡ true → 2 ^ 64 ≤ so_far v * 10 + (b - 48) → grown (arguing c vs v) b ≡ Bad
+  unfolding grown with_digit
+  too_wide v b h k = rw (h, le-ltb (so_far v * 10 + (b - 48)) (2 ^ 64) k)
 
-no_digit : (w n v : ℕ) (vs : List ℕ) (d : Bool) (b : ℕ) → is_digit b ≡ false → grown (arguing w n vs v d) b ≡ refused (arguing w n vs v d)
-no_digit w n v vs d b h = grown-named (arguing w n vs v d) b refl refl ∙ go (dec_le 48 b) (dec_le b 57)
-  where
-    go : Dec (48 ≤ b) → Dec (b ≤ 57) → counted (arguing w n vs v d) b ≡ refused (arguing w n vs v d)
-    go (no p) q = counted-below (arguing w n vs v d) b (omega arith)
-    go (yes p) (no q) = counted-above (arguing w n vs v d) b p (omega arith)
-    go (yes p) (yes q) = absurd (true-false (is_digit b) (and-true (le-leb 48 b p) (le-leb b 57 q)) h)
+  -- a word that is no digits, or too large a number, makes the line bad
+  abbrev BadAfter : Option ℕ → List ℕ → Type 0
+  BadAfter v x = so_far v < 2 ^ 64 → (all is_digit x ≡ true → 2 ^ 64 ≤ value_from (so_far v) x) → grown_all (arguing c vs v) x ≡ Bad
 
-too_wide : (w n v : ℕ) (vs : List ℕ) (d : Bool) (b : ℕ) → is_digit b ≡ true → 2 ^ 64 ≤ v * 10 + (b - 48)
-    → grown (arguing w n vs v d) b ≡ refused (arguing w n vs v d)
-too_wide w n v vs d b h k =
-    let lo : 48 ≤ b = leb-true 48 b (and_left (leb 48 b) (leb b 57) h) in
-    let hi : b ≤ 57 = leb-true b 57 (and_right (leb 48 b) (leb b 57) h) in
-    grown-named (arguing w n vs v d) b refl refl ∙ counted-full (arguing w n vs v d) b lo hi (omega arith)
-
--- a word that is no digits, or too large a number, makes the line bad
-abbrev BadAfter : ℕ → ℕ → ℕ → List ℕ → Bool → List ℕ → Type 0
-BadAfter w n v vs d x = v < 2 ^ 64 → (all is_digit x ≡ true → 2 ^ 64 ≤ value_from v x) → (grown_all (arguing w n vs v d) x).bad ≡ true
-
-pub digits-bad : (w n v : ℕ) (vs : List ℕ) (d : Bool) (x : List ℕ) → BadAfter w n v vs d x
-unfolding grown_all all value_from number_from
-digits-bad w n v vs d [] h k = absurd (let z : 2 ^ 64 ≤ v = k refl in omega arith)
-digits-bad w n v vs d (b ∷ x) h k = go (either (is_digit b)) (dec_lt (v * 10 + (b - 48)) (2 ^ 64)) (digits-bad w n (v * 10 + (b - 48)) vs true x)
-  where
-    go : (is_digit b ≡ true) ⊎ (is_digit b ≡ false) → Dec (v * 10 + (b - 48) < 2 ^ 64) → BadAfter w n (v * 10 + (b - 48)) vs true x
-        → (grown_all (arguing w n vs v d) (b ∷ x)).bad ≡ true
-    go (inr f) j ih = grown-refused (arguing w n vs v d) b x (no_digit w n v vs d b f)
-    go (inl t) (yes j) ih =
-        ap (λ (l : Line). (grown_all l x).bad) (digit-read w n v vs d b t j) ∙ ih j (λ e. k (and-true t e))
-    go (inl t) (no j) ih = grown-refused (arguing w n vs v d) b x (too_wide w n v vs d b t (omega arith))
+  pub digits-bad : (v : Option ℕ) (x : List ℕ) → BadAfter v x
+  unfolding grown_all all value_from number_from
+  digits-bad v [] h k = absurd (let z : 2 ^ 64 ≤ so_far v = k refl in omega arith)
+  digits-bad v (b ∷ x) h k = go (either (is_digit b)) (dec_lt (so_far v * 10 + (b - 48)) (2 ^ 64)) (digits-bad (Some (so_far v * 10 + (b - 48))) x)
+    where
+      go : (is_digit b ≡ true) ⊎ (is_digit b ≡ false) → Dec (so_far v * 10 + (b - 48) < 2 ^ 64) → BadAfter (Some (so_far v * 10 + (b - 48))) x
+          → grown_all (arguing c vs v) (b ∷ x) ≡ Bad
+      go (inr f) j ih = ap (λ (l : Line). grown_all l x) (no_digit v b f) ∙ grown_all-bad x
+      go (inl t) (yes j) ih = ap (λ (l : Line). grown_all l x) (digit-read v b t j) ∙ ih j (λ e. k (and-true t e))
+      go (inl t) (no j) ih = ap (λ (l : Line). grown_all l x) (too_wide v b t (omega arith)) ∙ grown_all-bad x

@@ -1,12 +1,11 @@
 pub mod LineCases
 pub mod NumberLaws
-pub mod BufferLaws
+pub mod TextLaws
 mod Bools
+pub mod TakenLaws
 pub mod MachineLaws
-pub mod LimitLaws
-pub mod BlockLaws
 pub mod CommandLaws
-pub mod ReachLaws
 pub mod DigitLaws
 pub mod ArgumentLaws
 pub mod LineLaws
+pub mod BlockLaws

@@ -1,49 +1,54 @@
 -- The machine reads what `parsed` says: `parses`. Its bytes are taken word by word; the first names the command, the others are its arguments.
-use Prim.Native.Nat.{ℕ}
+use Prim.Native.Nat.{ℕ, ◌≤◌}
 use mathlib.Core.Bool.{Bool, true, false, cond}
 use mathlib.Core.List.{List, [], ◌∷◌, map}
-use mathlib.Core.Logic.{⊎_elim}
 use mathlib.Core.Path.{◌≡◌, refl, sym, ap, ◌∙◌}
+use native.Mathlib.Decide.{dec_le}
 use native.Mathlib.Omega.{arith}
+use lib.ListN.{length}
 use lib.Dec.{eqb}
+use Rattle.std.specs.Prelude.{None, Some}
+use Rattle.std.specs.declared.option.Option.{Option}
 use Rattle.model.specs.Lists.{all}
 use Rattle.model.specs.Digits.{value}
+use Rattle.calls.specs.declared.Call as code-call
 use Rattle.listing_text.specs.Number.{space, is_number}
-use Rattle.listing_text.specs.Call.{Parsed, bad, Command, longer, words_of, asked, of_words, parsed}
-use Rattle.listing_text.specs.Machine.{naming, started, grown, ended, fed, fed_all, packed_from, command_of, within, asked_of, requested, finished, limits_of}
-use Rattle.listing_text.specs.LineReading.{parsed_of, Requests, Reads, Finishes}
+use Rattle.listing_text.specs.Call.{Parsed, bad, Command, unknown, commands, lookup, longer, words_of, asked, of_words, parsed}
+use Rattle.listing_text.specs.Machine.{started, grown, named, begun, ended, fed, fed_all, requested, finished}
+use Rattle.listing_text.specs.Arguments.{parsed_of}
+use Rattle.listing_text.specs.LineReading.{Finishes}
+use Rattle.listing_text.specs.declared.command.Command as named-command
 use Rattle.listing_text.specs.declared.line.Line.{Line}
-use Rattle.listing_text.specs.declared.line.Asked.{Asked}
-use Rattle.listing_text.specs.declared.line.Request.{Request}
 use Rattle.listing_text.proofs.Bools.{cond_same}
-use Rattle.listing_text.proofs.MachineLaws.{ended-unnamed, grown_all, words_fed, word-bad}
-use Rattle.listing_text.proofs.LimitLaws.{asked_of-within, asked_of-other}
-use Rattle.listing_text.proofs.ReachLaws.{asked-unknown}
+use Rattle.listing_text.proofs.MachineLaws.{grown_all, words_fed, words_fed-bad, word-bad}
+use Rattle.listing_text.proofs.CommandLaws.{entry_or, lookup-named, asked-unknown, unknown-long, name-short, name-long}
 use Rattle.listing_text.proofs.ArgumentLaws.{asks, arguments-read}
-use Rattle.listing_text.proofs.CommandLaws.{Commanded, Uncommanded, command-read}
 
 -- ---- words
 
--- a first word that is no command, and one that is
-unknown-read : (w : List ℕ) (ws : List (List ℕ)) → Uncommanded w → requested (words_fed started (w ∷ ws)) ≡ of_words (w ∷ ws)
+-- what a line asks for whose first word names no command
+asks-unknown : (w : List ℕ) (ws : List (List ℕ)) → lookup w commands ≡ unknown → bad ≡ of_words (w ∷ ws)
 unfolding of_words
-unknown-read w ws u =
-    word-bad started w ws u.line
-    ∙ sym (ap (λ (c : Command). cond (all is_number ws) (asked c (map value ws)) bad) u.command
+asks-unknown w ws e =
+    sym (ap (λ (c : Command). cond (all is_number ws) (asked c (map value ws)) bad) e
     ∙ ap (λ (p : Parsed). cond (all is_number ws) p bad) (asked-unknown (map value ws))
     ∙ cond_same (all is_number ws) bad)
 
-known_read : (w : List ℕ) (ws : List (List ℕ)) → Commanded w → requested (words_fed started (w ∷ ws)) ≡ of_words (w ∷ ws)
-unfolding of_words words_fed
-known_read w ws k =
-    ap (λ (l : Line). requested (words_fed (ended l) ws)) k.line
-    ∙ ap (λ (l : Line). requested (words_fed l ws)) (ended-unnamed (naming (packed_from 0 w)) refl refl)
-    ∙ arguments-read (packed_from 0 w) ws 0 (0 ∷ 0 ∷ 0 ∷ 0 ∷ []) refl (omega arith)
-    ∙ ap (λ (c : Command). asks c [] ws) k.command
+-- the line after a first word that is not too long
+named-read : (w : List ℕ) (ws : List (List ℕ)) (c : Option named-command.Command) → lookup w commands ≡ entry_or c
+    → requested (words_fed (begun c) ws) ≡ of_words (w ∷ ws)
+unfolding of_words requested
+named-read w ws None e = ap requested (words_fed-bad ws) ∙ asks-unknown w ws e
+named-read w ws (Some c) e = arguments-read c ws [] (omega arith) ∙ ap (λ (d : Command). asks d [] ws) (sym e)
 
 -- the words of a line, one at least
 pub words-read : (w : List ℕ) (ws : List (List ℕ)) → requested (words_fed started (w ∷ ws)) ≡ of_words (w ∷ ws)
-words-read w ws = ⊎_elim (unknown-read w ws) (known_read w ws) (command-read w)
+unfolding words_fed ended
+words-read w ws = go (dec_le (length w) 7)
+  where
+    go : Dec (length w ≤ 7) → requested (words_fed started (w ∷ ws)) ≡ of_words (w ∷ ws)
+    go (yes h) = ap (λ (l : Line). requested (words_fed (ended l) ws)) (name-short w [] (omega arith)) ∙ named-read w ws (named w) (lookup-named w)
+    go (no h) = word-bad started w ws (name-long w [] (omega arith) (omega arith)) ∙ asks-unknown w ws (unknown-long w (omega arith))
 
 -- ---- bytes: the machine on them is the machine on their words
 
@@ -74,7 +79,7 @@ abbrev Fuses : Line → List ℕ → Type 0
 Fuses l bs = finished (fed_all l bs) ≡ requested (words_fed l (words_of bs))
 
 bytes-words : (l : Line) (bs : List ℕ) → Fuses l bs
-unfolding finished fed fed_all words_of words_fed grown_all
+unfolding finished fed words_of words_fed grown_all
 bytes-words l [] = refl
 bytes-words l (b ∷ bs) = go (eqb b space) refl (bytes-words (ended l) bs) (bytes-words (grown l b) bs)
   where
@@ -93,28 +98,5 @@ parses bs =
     ∙ words-read k.first k.rest
     ∙ ap of_words (sym k.is)
 
-pub reads-parsed : {l : Line} (bs : List ℕ) → Reads l bs → finished l ≡ parsed bs
-reads-parsed bs h = ap finished h ∙ parses bs
-
--- ---- the end of the line
-
--- what a command asks for with numbers that are within its limits, and with others
-pub fits-asked : {c : Command} {vs : List ℕ} {r : Request} (n : ℕ) (b : Bool) → Requests c vs r → b ≡ within (limits_of r.0 r.1) n vs → b ≡ true
-    → parsed_of r.2 ≡ asked_of c n vs
-fits-asked {c} {vs} n b q e t = q.asked ∙ asked_of-within c n vs (rw q.limits (sym e ∙ t))
-
-pub fits_not : {c : Command} {vs : List ℕ} {r : Request} (n : ℕ) (b : Bool) → Requests c vs r → b ≡ within (limits_of r.0 r.1) n vs → b ≡ false
-    → bad ≡ asked_of c n vs
-fits_not {c} {vs} n b q e f = asked_of-other c n vs (rw q.limits (sym e ∙ f))
-
-pub finishes : {l : Line} {r : Asked} → parsed_of r ≡ finished l → Finishes l r
-finishes e = record { machine = e; reads = λ bs h. e ∙ reads-parsed bs h }
-
--- w is the line with its last word ended
-pub finished-bad : (l w : Line) → w ≡ ended l → w.bad ≡ true → finished l ≡ bad
-unfolding finished requested
-finished-bad l w e h = rw (← e, h)
-
-pub finished-whole : (l w : Line) → w ≡ ended l → w.bad ≡ false → finished l ≡ asked_of (command_of w.word) w.given w.values
-unfolding finished requested
-finished-whole l w e h = rw (← e, h)
+pub finishes : {l : Line} {r : Option code-call.Call} → parsed_of r ≡ finished l → Finishes l r
+finishes e = record { machine = e; reads = λ bs h. e ∙ ap finished h ∙ parses bs }

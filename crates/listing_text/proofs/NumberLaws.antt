@@ -2,10 +2,12 @@
 use Prim.Native.Nat.{ℕ, zero, suc, ◌+◌, ◌-◌, ◌*◌, ◌/◌, ◌%◌, ◌^◌, ◌≤◌, ◌<◌}
 use mathlib.Core.List.{List, [], ◌∷◌, ◌++◌}
 use mathlib.Core.Path.{◌≡◌, refl, sym, ap, ◌∙◌}
-use native.Mathlib.Nat.{le_refl, le_trans, pow-suc}
+use native.Mathlib.Nat.{le_refl, le_trans, add_comm}
 use native.Mathlib.Decide.{dec_lt}
 use native.Mathlib.Omega.{arith}
-use lib.ListN.{length, length-append}
+use lib.ListN.{length}
+use Rattle.std.specs.Fmt as std
+use Rattle.std.proofs.lemmas.Fmt.{decimal_by_steps, length-decimal-le}
 use borrow.Author.Tests.{lt-ltb, le-ltb}
 use Rattle.model.specs.Digits.{number_from, value_from}
 use Rattle.listing_text.specs.Number.{decimal, decimal_in}
@@ -54,27 +56,11 @@ decimal-more (suc k) h =
     decimal_in-more k (suc k) h
     ∙ ap (λ (l : List ℕ). l ++ ((suc k % 10 + 48) ∷ [])) (decimal_in-enough k (suc k / 10) (suc k / 10) (omega arith) (omega arith))
 
-pub decimal-more-length : {n : ℕ} → 10 ≤ n → length (decimal n) ≡ length (decimal (n / 10)) + 1
-decimal-more-length {n} h = ap length (decimal-more n h) ∙ simp length-append
+-- the library's digits are these, and ten at most for a number of 32 bits
+pub decimal-same : (n : ℕ) → n < 2 ^ 64 → std.decimal n ≡ decimal n
+decimal-same n h =
+    decimal_by_steps (λ m ds. ds ≡ decimal m) (λ m k. ap (λ (d : ℕ). d ∷ []) (add_comm 48 m) ∙ sym (decimal_digit m k))
+    (λ m ds k e. ap (λ (l : List ℕ). l ++ ((48 + m % 10) ∷ [])) e ∙ ap (λ (d : ℕ). decimal (m / 10) ++ (d ∷ [])) (add_comm 48 (m % 10)) ∙ sym (decimal-more m k)) n h
 
--- ---- what the digits of a number are
-
--- ---- how many digits
-
-decimal_in-length : (j k n : ℕ) → n < 10 ^ suc k → length (decimal_in j n) ≤ suc k
-unfolding decimal_in
-decimal_in-length zero k n h = omega arith
-decimal_in-length (suc j) k n h = go (dec_lt n 10) k h (decimal_in-length j)
-  where
-    go : Dec (n < 10) → (k : ℕ) → n < 10 ^ suc k → ((i : ℕ) (m : ℕ) → m < 10 ^ suc i → length (decimal_in j m) ≤ suc i) → length (decimal_in (suc j) n) ≤ suc k
-    go (yes t) k h ih = rw (decimal_in-digit (suc j) n t) (omega arith)
-    go (no t) zero h ih = absurd (omega arith)
-    go (no t) (suc i) h ih =
-        let p : 10 ^ suc (suc i) ≡ 10 ^ suc i * 10 = pow-suc 10 (suc i) in
-        let s : length (decimal_in j (n / 10)) ≤ suc i = ih i (n / 10) (omega (arith, p)) in
-        rw (decimal_in-more j n (omega arith)) (simp length-append (omega arith))
-
--- a number of 32 bits has at most ten digits
 pub decimal-length : (n : ℕ) → n < 2 ^ 32 → length (decimal n) ≤ 10
-unfolding decimal
-decimal-length n h = decimal_in-length n 9 n (omega arith)
+decimal-length n h = rw (← decimal-same n (omega arith)) (length-decimal-le 10 n (omega arith) (omega arith) (omega arith))

@@ -1,5 +1,5 @@
--- The line that the listing program prints for an answer or for a bad line, and a text put into a buffer.
-use Rattle.std.specs.Prelude.{ℕ, ◌+◌, ◌*◌, ◌≤◌, List, [], ◌∷◌, ◌++◌, ◌≡◌, length, take, drop, get_or}
+-- The line that the listing program prints for an answer or for a bad line, and a text put after another.
+use Rattle.std.specs.Prelude.{ℕ, ◌+◌, ◌*◌, ◌≤◌, List, [], ◌∷◌, ◌++◌, ◌≡◌, length, get_or}
 use Rattle.model.specs.Rules.{Answer}
 use Rattle.model.specs.Digits.{bytes}
 use Rattle.listing_text.specs.Number.{space, newline, decimal}
@@ -29,16 +29,7 @@ bad_text = bytes "bad" ++ newline ∷ []
 abbrev pub answer_of : List ℕ → Answer
 answer_of ws = record { status = get_or ws 0 0; a = get_or ws 1 0; b = get_or ws 2 0; c = get_or ws 3 0; d = get_or ws 4 0 }
 
--- xs with the text in the place of as many bytes from `at` on
-abbrev pub placed : List ℕ → ℕ → List ℕ → List ℕ
-placed xs at text = take at xs ++ text ++ drop (at + length text) xs
-
--- a buffer that held xs holds ys: the text from `at` to the new end e, and all else as it was
-pub record Puts (xs : List ℕ) (at : ℕ) (text : List ℕ) (ys : List ℕ) (e : ℕ) : Type 0 where
-  pub buffer : ys ≡ placed xs at text
-  pub end : e ≡ at + length text
-
--- the same, and the text is at most k bytes
-pub record PutsWithin (k : ℕ) (xs : List ℕ) (at : ℕ) (text : List ℕ) (ys : List ℕ) (e : ℕ) : Type 0 where
-  pub puts : Puts xs at text ys e
-  pub short : e ≤ at + k
+-- a text that was xs is ys: t stands at its end, of at most k bytes
+pub record Puts (k : ℕ) (xs t ys : List ℕ) : Type 0 where
+  pub text : ys ≡ xs ++ t
+  pub short : length t ≤ k

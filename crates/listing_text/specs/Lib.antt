@@ -2,4 +2,5 @@ pub mod Number
 pub mod Call
 pub mod Answer
 pub mod Machine
+pub mod Arguments
 pub mod LineReading

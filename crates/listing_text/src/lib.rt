@@ -2,11 +2,13 @@
 #![tactic(auto)]
 
 mod answer;
+mod command;
 mod line;
 
 pub use answer::{put_answer, put_bad};
-pub use line::{Asked, Fed, Line, feed, feed_until_newline, finish, start};
+pub use command::Command;
+pub use line::{Fed, Line};
 
-const SPACE: u8 = 32;
+const SPACE: u8 = b' ';
 
-const NEWLINE: u8 = 10;
+const NEWLINE: u8 = b'\n';

@@ -1,343 +1,147 @@
 // A line of a listing: what has been read of it so far, by value, and what it asks for at its end.
-ghost use Rattle.std.specs.Prelude.{◌≡◌, suc, ◌≤◌, ◌<◌, [], get_or};
-ghost use Rattle.listing_text.specs.Call.{set_up_of};
-ghost use Rattle.listing_text.specs.Machine.{refused, lettered, counted, argued, ended, grown, command_of, limits_of, room, within, asked_of};
-ghost use Rattle.listing_text.specs.LineReading.{Reads, parsed_of, Requests, Feeds, Finishes, BlockFeeds};
+ghost use Rattle.std.specs.Prelude.{◌≡◌, []};
+ghost use Rattle.listing_text.specs.Machine.{with_digit, argued, ended, grown, fed_all};
+ghost use Rattle.listing_text.specs.LineReading.{Reads, Feeds, Finishes, BlockFeeds};
 
+use crate::command::Command;
 use crate::{NEWLINE, SPACE};
-use calls::{Call, Op};
-use words::product::Product;
+use arrayvec::ArrayVec;
+use calls::Call;
 
-// The largest number of 32 bits, how many there are, and the largest of 64 bits.
-const WORD: u64 = 4294967295;
+// The most letters that a command has, and arguments that a line has room for.
+const LETTERS: usize = 7;
 
-const WORDS: u64 = WORD + 1;
-
-const CODE: u64 = 18446744073709551615;
-
-// The byte of the digit 0, and the base of numbers.
-const ZERO: u64 = 48;
-
-const BASE: u64 = 10;
-
-// How many arguments a line has room for.
 const ROOM: usize = 4;
 
-// The yards of a listing's table.
-const ONE_YARD: u32 = 1;
-
-// The base in which a command's letters are one number. Below SEVENTH they leave room for one more: no command has more than seven.
-const LETTER_BASE: u64 = 256;
-
-const SEVENTH: u64 = 0x1_0000_0000_0000;
-
-// The letters of the commands, in base 256.
-const SETUP: u64 = 0x7365747570;
-
-const ADD: u64 = 0x616464;
-
-const REP: u64 = 0x726570;
-
-const DEL: u64 = 0x64656c;
-
-const BEGIN: u64 = 0x626567696e;
-
-const END: u64 = 0x656e64;
-
-const START: u64 = 0x7374617274;
-
-const STEP: u64 = 0x73746570;
-
-const PASS: u64 = 0x70617373;
-
-const CLOCK: u64 = 0x636c6f636b;
-
-const ON: u64 = 0x6f6e;
-
-const OFF: u64 = 0x6f6666;
-
-const BACK: u64 = 0x6261636b;
-
-const AWAITED: u64 = 0x61776169746564;
+// The base of numbers.
+const BASE: u64 = 10;
 
 // What has been read of a line.
-#[derive(Clone, Copy)]
-pub struct Line {
+#[derive(Drop)]
+pub enum Line {
     // Whatever follows, the line is bad.
-    bad: bool,
-    // The command has ended.
-    named: bool,
-    // The command's letters, in base 256.
-    word: u64,
-    // The argument that is being read has a digit, and its value so far.
-    digits: bool,
-    value: u64,
-    // How many arguments have ended, and their values.
-    given: usize,
-    values: [u64; ROOM],
-}
-
-// What a line asks for.
-#[derive(Clone, Copy)]
-pub enum Asked {
     Bad,
-    Call(Call),
+    // The bytes of its first word.
+    Naming(ArrayVec<u8, LETTERS>),
+    // A command, the arguments that have ended, and the value of the one that is being read, once it has a digit.
+    Arguing(Command, ArrayVec<u64, ROOM>, Option<u64>),
 }
 
-// What a command asks for: how many arguments, the largest that the second may be, where the others have 32 bits, and the call with them.
-#[derive(Clone, Copy)]
-struct Request(usize, u64, Asked);
-
-// A part of a block, fed: the line, where to go on, and whether a newline ended the line.
-#[derive(Clone, Copy)]
-pub struct Fed {
+// A part of a block, fed: the line, and what follows the newline that ended it.
+#[derive(Drop)]
+pub struct Fed<'a> {
     pub line: Line,
-    pub next: usize,
-    pub ended: bool,
+    pub rest: Option<&'a [u8]>,
 }
 
-// Nothing read yet.
-pub fn start() -> Line
-    ensures { Reads result [] }
+// The value of an argument with one byte more. None is of more than 64 bits.
+#[tactic(auto, using(crate::proofs::MachineLaws::digit_none, crate::proofs::MachineLaws::digit_wide, crate::proofs::MachineLaws::digit_summed))]
+fn with_digit(value: Option<u64>, byte: u8) -> Option<u64>
+    ensures { result ≡ with_digit value byte }
 {
-    Line {
-        bad: false,
-        named: false,
-        word: 0,
-        digits: false,
-        value: 0,
-        given: 0,
-        values: [0; ROOM],
+    if !byte.is_ascii_digit() {
+        return None;
     }
+    value
+        .unwrap_or(0)
+        .checked_mul(BASE)?
+        .checked_add(u64::from(byte - b'0'))
 }
 
-// One byte more of a line. The newline is no part of it.
-pub fn feed(line: Line, byte: u8) -> Line
-    ensures { Feeds line byte result }
-{
-    if byte == SPACE {
-        end_word(line)
-    } else {
-        grow_word(line, byte)
+impl Line {
+    // Nothing read yet.
+    pub fn new() -> Line
+        ensures { Reads result [] }
+    {
+        Line::Naming(ArrayVec::new())
     }
-}
 
-// The bytes of block from `from` on, up to the first newline or the end of the block.
-pub fn feed_until_newline(line: Line, block: &[u8], from: usize) -> Fed
-    ensures { BlockFeeds line block.now from result }
-{
-    let mut read = line;
-    let mut i = from;
-    while i < block.len() {
-        let byte = block[i];
-        i += 1;
-        if byte == NEWLINE {
-            return Fed {
-                line: read,
-                next: i,
-                ended: true,
-            };
-        }
-        read = feed(read, byte);
-    }
-    Fed {
-        line: read,
-        next: i,
-        ended: false,
-    }
-}
-
-// What the line asks for: all of it has been fed.
-pub fn finish(line: Line) -> Asked
-    ensures { Finishes line result }
-{
-    let whole = end_word(line);
-    if whole.bad {
-        return Asked::Bad;
-    }
-    let values = whole.values;
-    asked_of(whole.word, whole.given, values)
-}
-
-fn refuse(line: Line) -> Line
-    ensures { result ≡ refused line }
-{
-    let mut next = line;
-    next.bad = true;
-    next
-}
-
-// A letter of the command.
-fn add_letter(line: Line, byte: u8) -> Line
-    ensures { result ≡ lettered line byte }
-{
-    if byte < b'a' {
-        return refuse(line);
-    }
-    if b'z' < byte {
-        return refuse(line);
-    }
-    if line.word < SEVENTH {
-        let mut next = line;
-        next.word = line.word * LETTER_BASE + byte as u64;
-        next
-    } else {
-        refuse(line)
-    }
-}
-
-// A digit of an argument. A number past 64 bits fits no argument.
-fn add_digit(line: Line, byte: u8) -> Line
-    ensures { result ≡ counted line byte }
-{
-    if byte < b'0' {
-        return refuse(line);
-    }
-    if b'9' < byte {
-        return refuse(line);
-    }
-    let digit = byte as u64 - ZERO;
-    if line.value <= (CODE - digit) / BASE {
-        let mut next = line;
-        next.digits = true;
-        next.value = line.value * BASE + digit;
-        next
-    } else {
-        refuse(line)
-    }
-}
-
-// A byte that is no space.
-fn grow_word(line: Line, byte: u8) -> Line
-    ensures { result ≡ grown line byte }
-{
-    if line.bad {
-        return line;
-    }
-    if line.named {
-        add_digit(line, byte)
-    } else {
-        add_letter(line, byte)
-    }
-}
-
-// The end of an argument.
-fn end_argument(line: Line) -> Line
-    ensures { result ≡ argued line }
-{
-    let i = line.given;
-    if line.digits {
-        if i < ROOM {
-            let mut next = line;
-            next.values[i] = line.value;
-            next.given = i + 1;
-            next.digits = false;
-            next.value = 0;
-            next
+    // One byte more of a line. The newline is no part of it.
+    pub fn feed(self, byte: u8) -> Line
+        ensures { Feeds self byte result }
+    {
+        if byte == SPACE {
+            self.end_word()
         } else {
-            refuse(line)
+            self.grow_word(byte)
         }
-    } else {
-        refuse(line)
     }
-}
 
-// The end of a word, at a space or at the end of the line.
-fn end_word(line: Line) -> Line
-    ensures { result ≡ ended line }
-{
-    if line.bad {
-        return line;
+    // Several bytes more, none of them a newline.
+    fn feed_all(self, bytes: &[u8]) -> Line
+        ensures { result ≡ fed_all self bytes.now }
+    {
+        bytes.iter().fold(self, |line, byte| line.feed(*byte))
     }
-    if line.named {
-        end_argument(line)
-    } else {
-        let mut next = line;
-        next.named = true;
-        next
-    }
-}
 
-// The largest that argument i may be.
-fn largest(second: u64, i: usize) -> u64
-    ensures { i < room → suc result ≡ get_or (limits_of room second) i 0 }
-{
-    if i == 1 { second } else { WORD }
-}
-
-// As many arguments as `count`, each within its width.
-fn fits(count: usize, second: u64, given: usize, values: [u64; ROOM]) -> bool
-    requires { count ≤ room }
-    ensures { result ≡ within (limits_of count second) given values }
-{
-    if given != count {
-        return false;
-    }
-    let mut i = 0;
-    while i < given {
-        if largest(second, i) < values[i] {
-            return false;
+    // The bytes of a block up to its first newline or its end.
+    pub fn feed_until_newline(self, block: &[u8]) -> Fed<'_>
+        ensures { BlockFeeds self block.now result }
+    {
+        match block.iter().position(|byte| *byte == NEWLINE) {
+            Some(i) => Fed {
+                line: self.feed_all(&block[..i]),
+                rest: Some(&block[i + 1..]),
+            },
+            None => Fed {
+                line: self.feed_all(block),
+                rest: None,
+            },
         }
-        i += 1;
     }
-    true
+
+    // What the line asks for, if it is not bad: all of it has been fed.
+    pub fn finish(self) -> Option<Call>
+        ensures { Finishes self result }
+    {
+        match self.end_word() {
+            Line::Arguing(command, arguments, _) => command.call(arguments.as_slice()),
+            Line::Bad => None,
+            Line::Naming(_) => None,
+        }
+    }
+
+    // A byte that is no space.
+    fn grow_word(self, byte: u8) -> Line
+        ensures { result ≡ grown self byte }
+    {
+        match self {
+            Line::Bad => Line::Bad,
+            Line::Naming(mut letters) => match letters.try_push(byte) {
+                Ok(()) => Line::Naming(letters),
+                Err(_) => Line::Bad,
+            },
+            Line::Arguing(command, arguments, value) => match with_digit(value, byte) {
+                Some(more) => Line::Arguing(command, arguments, Some(more)),
+                None => Line::Bad,
+            },
+        }
+    }
+
+    // The end of a word, at a space or at the end of the line.
+    fn end_word(self) -> Line
+        ensures { result ≡ ended self }
+    {
+        match self {
+            Line::Bad => Line::Bad,
+            Line::Naming(letters) => match Command::named(letters.as_slice()) {
+                Some(command) => Line::Arguing(command, ArrayVec::new(), None),
+                None => Line::Bad,
+            },
+            Line::Arguing(command, arguments, value) => match value {
+                Some(value) => end_argument(command, arguments, value),
+                None => Line::Bad,
+            },
+        }
+    }
 }
 
-fn asked_of(word: u64, given: usize, values: [u64; ROOM]) -> Asked
-    ensures { parsed_of result ≡ asked_of (command_of word) given values }
+// The end of an argument, which the line has room for or not.
+fn end_argument(command: Command, mut arguments: ArrayVec<u64, ROOM>, value: u64) -> Line
+    ensures { result ≡ argued command arguments value }
 {
-    let request = request_of(word, values);
-    if fits(request.0, request.1, given, values) {
-        request.2
-    } else {
-        Asked::Bad
-    }
-}
-
-// What `setup` asks for: a listing has one yard.
-fn set_up_of(yards: u32, cabinets: u32, places: u32, slots: u32) -> Asked
-    ensures { parsed_of result ≡ set_up_of yards cabinets places slots }
-{
-    if yards == ONE_YARD {
-        Asked::Call(Call::SetUp(yards, cabinets, places, slots))
-    } else {
-        Asked::Bad
-    }
-}
-
-// The commands, each with its call. An argument is cut to 32 bits, which changes none that fits; the second may be a code, which is not cut.
-fn request_of(word: u64, values: [u64; ROOM]) -> Request
-    ensures { Requests (command_of word) values result }
-{
-    let code = values[1];
-    let lane = (values[0] % WORDS) as u32;
-    let kind = (code % WORDS) as u32;
-    let deposit = (values[2] % WORDS) as u32;
-    let material = (values[3] % WORDS) as u32;
-    let product = Product {
-        code: code,
-        deposit: deposit,
-        material: material,
-    };
-    match word {
-        SETUP => Request(4, WORD, set_up_of(lane, kind, deposit, material)),
-        ADD => Request(4, CODE, Asked::Call(Call::OnState(Op::Add(lane, product)))),
-        REP => Request(
-            4,
-            CODE,
-            Asked::Call(Call::OnState(Op::Replace(lane, product))),
-        ),
-        DEL => Request(2, CODE, Asked::Call(Call::OnState(Op::Delete(lane, code)))),
-        BEGIN => Request(1, WORD, Asked::Call(Call::OnState(Op::Begin(lane)))),
-        END => Request(1, WORD, Asked::Call(Call::OnState(Op::End(lane)))),
-        START => Request(2, CODE, Asked::Call(Call::OnState(Op::Start(lane, code)))),
-        STEP => Request(1, WORD, Asked::Call(Call::OnState(Op::Step(lane)))),
-        PASS => Request(2, WORD, Asked::Call(Call::OnState(Op::Pass(lane, kind)))),
-        CLOCK => Request(1, WORD, Asked::Call(Call::OnState(Op::Clock(lane)))),
-        ON => Request(1, WORD, Asked::Call(Call::OnState(Op::On(lane)))),
-        OFF => Request(1, WORD, Asked::Call(Call::OnState(Op::Off(lane)))),
-        BACK => Request(1, WORD, Asked::Call(Call::OnState(Op::HandBack(lane)))),
-        AWAITED => Request(0, WORD, Asked::Call(Call::OnState(Op::Awaited))),
-        _ => Request(0, WORD, Asked::Bad),
+    match arguments.try_push(value) {
+        Ok(()) => Line::Arguing(command, arguments, None),
+        Err(_) => Line::Bad,
     }
 }

@@ -1,15 +1,12 @@
--- The digits, and then a store. A number of 32 bits has at most ten digits.
-use borrow.Author.Rules.{rules}
-use native.Mathlib.Omega.{arith}
-use Rattle.listing_text.proofs.NumberLaws.{decimal-length}
-use Rattle.listing_text.proofs.BufferLaws.{puts_word}
+-- The digits, and then a byte.
+use Rattle.std.proofs.Common.{rules, ◌≡◌, ◌≤◌, ◌++◌, length}
+use Rattle.std.specs.Fmt as std
+use Rattle.listing_text.proofs.TextLaws.{puts_word}
 use Rattle.listing_text.proofs.answer.put_word.Goals as goal
 
-pub put_number-end-requires : goal.put_number-end-requires
-put_number-end-requires c = omega (arith, c.requires, decimal-length c.args.n c.ranges.n.fits)
-
-pub bounds-out-end : goal.bounds-out-end
-bounds-out-end c = omega (arith, c.requires, decimal-length c.args.n c.ranges.n.fits, c.put_number-end.ensures.end)
-
 pub returns : goal.returns
-returns c = search (rules, puts_word)
+returns g c =
+    let digits : c.as_bytes.result.now ≡ std.decimal c.args.n = cc in
+    let few : length c.as_bytes.result.now ≤ 10 = search rules in
+    let put : c.try_extend_from_slice.new.self.items ≡ c.args.out.now.items ++ c.as_bytes.result.now = search rules in
+    puts_word c.args.n c.args.after c.ranges.n.fits (cc) c.push.ensures.items

@@ -1,13 +1,11 @@
--- Its tests are those of `argued`, and the store is the one that `with_argument` states.
-use borrow.Author.Rules.{rules}
-use Rattle.listing_text.proofs.MachineLaws.{argued-empty, argued-more, argued-full}
+use Rattle.std.proofs.Common.{rules}
+use Rattle.listing_text.specs.Machine.{argued}
+use Rattle.listing_text.proofs.MachineLaws.{argued-more, argued-full}
 use Rattle.listing_text.proofs.line.end_argument.Goals as goal
 
-pub returns-then-i-lt-ROOM : goal.returns-then-i-lt-ROOM
-returns-then-i-lt-ROOM c = search (rules, argued-more)
+pub returns-in-Ok : goal.returns-in-Ok
+unfolding argued
+returns-in-Ok c = search (rules, argued-more)
 
-pub returns-else-i-lt-ROOM : goal.returns-else-i-lt-ROOM
-returns-else-i-lt-ROOM c = search (rules, argued-full)
-
-pub returns-else-line : goal.returns-else-line
-returns-else-line c = search (rules, argued-empty)
+pub returns-in-Err : goal.returns-in-Err
+returns-in-Err c = search (rules, argued-full)

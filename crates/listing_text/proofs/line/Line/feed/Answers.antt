@@ -1,7 +1,7 @@
 -- Its test is that of `fed`.
-use borrow.Author.Rules.{rules}
+use Rattle.std.proofs.Common.{rules}
 use Rattle.listing_text.proofs.MachineLaws.{fed-space, fed-other, feeds}
-use Rattle.listing_text.proofs.line.feed.Goals as goal
+use Rattle.listing_text.proofs.line.Line.feed.Goals as goal
 
 pub returns-then-byte-eq-SPACE : goal.returns-then-byte-eq-SPACE
 returns-then-byte-eq-SPACE c = search (rules, feeds, fed-space)

@@ -1,0 +1,218 @@
+// The commands of a listing: their names, and the calls of their arguments.
+ghost use Rattle.std.specs.Prelude.{◌≡◌, ◌<◌, ◌^◌, SomeIff};
+ghost use Rattle.std.specs.List.{find};
+ghost use Rattle.std.specs.Str.{bytes_eq};
+ghost use Rattle.listing_text.specs.Call.{set_up_of, asked};
+ghost use Rattle.listing_text.specs.Machine.{name_of, named, entry};
+ghost use Rattle.listing_text.specs.Arguments.{parsed_of, TakesLane, TakesCode, TakesKind, TakesProduct, TakesSizes};
+
+use calls::{Call, Op};
+use words::product::Product;
+
+// The yards of a listing's table.
+const ONE_YARD: u32 = 1;
+
+#[derive(Clone, Copy, Debug, PartialEq, Eq)]
+pub enum Command {
+    SetUp,
+    Add,
+    Replace,
+    Delete,
+    Begin,
+    End,
+    Start,
+    Step,
+    Pass,
+    Clock,
+    On,
+    Off,
+    HandBack,
+    Awaited,
+}
+
+// An argument of 32 bits.
+fn word(argument: u64) -> Option<u32>
+    ensures { SomeIff result (argument < 2 ^ 32) argument }
+{
+    u32::try_from(argument).ok()
+}
+
+// A lane alone.
+fn lane(arguments: &[u64]) -> Option<u32>
+    ensures { TakesLane arguments.now result }
+{
+    match arguments {
+        [lane] => word(*lane),
+        _ => None,
+    }
+}
+
+// A lane and a code.
+#[tactic(auto, using(crate::proofs::TakenLaws::other_count, crate::proofs::TakenLaws::too_wide, crate::proofs::TakenLaws::two_taken), unfolding(crate::specs::Call::taken))]
+fn lane_and_code(arguments: &[u64]) -> Option<(u32, u64)>
+    ensures { TakesCode arguments.now result }
+{
+    match arguments {
+        [lane, code] => Some((word(*lane)?, *code)),
+        _ => None,
+    }
+}
+
+// A lane and what a pass of it is to be.
+#[tactic(auto, using(crate::proofs::TakenLaws::other_count, crate::proofs::TakenLaws::too_wide, crate::proofs::TakenLaws::two_taken), unfolding(crate::specs::Call::taken))]
+fn lane_and_kind(arguments: &[u64]) -> Option<(u32, u32)>
+    ensures { TakesKind arguments.now result }
+{
+    match arguments {
+        [lane, kind] => Some((word(*lane)?, word(*kind)?)),
+        _ => None,
+    }
+}
+
+// A lane and what is entered.
+#[tactic(auto, using(crate::proofs::TakenLaws::other_count, crate::proofs::TakenLaws::too_wide, crate::proofs::TakenLaws::four_taken), unfolding(crate::specs::Call::taken))]
+fn lane_and_product(arguments: &[u64]) -> Option<(u32, Product)>
+    ensures { TakesProduct arguments.now result }
+{
+    match arguments {
+        [lane, code, deposit, material] => {
+            let lane = word(*lane)?;
+            let product = Product {
+                code: *code,
+                deposit: word(*deposit)?,
+                material: word(*material)?,
+            };
+            Some((lane, product))
+        }
+        _ => None,
+    }
+}
+
+// Four sizes.
+#[tactic(auto, using(crate::proofs::TakenLaws::other_count, crate::proofs::TakenLaws::too_wide, crate::proofs::TakenLaws::four_taken), unfolding(crate::specs::Call::taken))]
+fn sizes(arguments: &[u64]) -> Option<(u32, u32, u32, u32)>
+    ensures { TakesSizes arguments.now result }
+{
+    match arguments {
+        [yards, cabinets, places, slots] => {
+            Some((
+                word(*yards)?,
+                word(*cabinets)?,
+                word(*places)?,
+                word(*slots)?,
+            ))
+        }
+        _ => None,
+    }
+}
+
+// What `setup` asks for: a listing has one yard.
+fn set_up_of(yards: u32, cabinets: u32, places: u32, slots: u32) -> Option<Call>
+    ensures { parsed_of result ≡ set_up_of yards cabinets places slots }
+{
+    if yards == ONE_YARD {
+        Some(Call::SetUp(yards, cabinets, places, slots))
+    } else {
+        None
+    }
+}
+
+// The first of the commands that has the name.
+fn first_named(commands: &[Command], name: &[u8]) -> Option<Command>
+    ensures { result ≡ find (λ c. bytes_eq name.now (name_of c)) commands.now }
+{
+    commands
+        .iter()
+        .find(|command| name == command.name())
+        .copied()
+}
+
+impl Command {
+    const ALL: [Command; 14] = [
+        Command::SetUp,
+        Command::Add,
+        Command::Replace,
+        Command::Delete,
+        Command::Begin,
+        Command::End,
+        Command::Start,
+        Command::Step,
+        Command::Pass,
+        Command::Clock,
+        Command::On,
+        Command::Off,
+        Command::HandBack,
+        Command::Awaited,
+    ];
+
+    fn name(self) -> &'static [u8]
+        ensures { result.now ≡ name_of self }
+    {
+        match self {
+            Command::SetUp => b"setup",
+            Command::Add => b"add",
+            Command::Replace => b"rep",
+            Command::Delete => b"del",
+            Command::Begin => b"begin",
+            Command::End => b"end",
+            Command::Start => b"start",
+            Command::Step => b"step",
+            Command::Pass => b"pass",
+            Command::Clock => b"clock",
+            Command::On => b"on",
+            Command::Off => b"off",
+            Command::HandBack => b"back",
+            Command::Awaited => b"awaited",
+        }
+    }
+
+    // The command of a name.
+    pub(crate) fn named(name: &[u8]) -> Option<Command>
+        ensures { result ≡ named name.now }
+    {
+        first_named(&Command::ALL, name)
+    }
+
+    // The call that the command asks for with its arguments.
+    pub(crate) fn call(self, arguments: &[u64]) -> Option<Call>
+        ensures { parsed_of result ≡ asked (entry self) arguments.now }
+    {
+        match self {
+            Command::SetUp => {
+                let (yards, cabinets, places, slots) = sizes(arguments)?;
+                set_up_of(yards, cabinets, places, slots)
+            }
+            Command::Add => {
+                let (lane, product) = lane_and_product(arguments)?;
+                Some(Call::OnState(Op::Add(lane, product)))
+            }
+            Command::Replace => {
+                let (lane, product) = lane_and_product(arguments)?;
+                Some(Call::OnState(Op::Replace(lane, product)))
+            }
+            Command::Delete => {
+                let (lane, code) = lane_and_code(arguments)?;
+                Some(Call::OnState(Op::Delete(lane, code)))
+            }
+            Command::Begin => Some(Call::OnState(Op::Begin(lane(arguments)?))),
+            Command::End => Some(Call::OnState(Op::End(lane(arguments)?))),
+            Command::Start => {
+                let (lane, code) = lane_and_code(arguments)?;
+                Some(Call::OnState(Op::Start(lane, code)))
+            }
+            Command::Step => Some(Call::OnState(Op::Step(lane(arguments)?))),
+            Command::Pass => {
+                let (lane, kind) = lane_and_kind(arguments)?;
+                Some(Call::OnState(Op::Pass(lane, kind)))
+            }
+            Command::Clock => Some(Call::OnState(Op::Clock(lane(arguments)?))),
+            Command::On => Some(Call::OnState(Op::On(lane(arguments)?))),
+            Command::Off => Some(Call::OnState(Op::Off(lane(arguments)?))),
+            Command::HandBack => Some(Call::OnState(Op::HandBack(lane(arguments)?))),
+            Command::Awaited => match arguments {
+                [] => Some(Call::OnState(Op::Awaited)),
+                _ => None,
+            },
+        }
+    }
+}
