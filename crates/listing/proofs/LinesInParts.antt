@@ -1,11 +1,9 @@
 -- The lines of a text that is read in parts, and the first line of a block.
-use Prim.Native.Nat.{ℕ, suc, ◌+◌, ◌-◌, ◌≤◌}
-use mathlib.Core.Bool.{Bool, true, false}
+use Prim.Native.Nat.{ℕ}
+use mathlib.Core.Bool.{Bool, true, false, ◌||◌}
 use mathlib.Core.List.{List, [], ◌∷◌, ◌++◌, append-nil, append_assoc}
 use mathlib.Core.Path.{◌≡◌, refl, sym, ap, ◌∙◌}
 use native.Mathlib.Omega.{arith}
-use lib.ListN.{length, take, drop}
-use lib.Seq.{slice, take-add, take-length, drop_at, drop-append-le, length-take-le}
 use lib.Dec.{eqb}
 use Rattle.model.specs.Lists.{member, concat}
 use Rattle.listing_text.specs.Number.{newline}
@@ -53,67 +51,50 @@ after_all-append m (k ∷ ks) ls = after_all-append (after m (parsed k)) ks ls
 
 -- ---- the first line of a text
 
--- with its newline it is one line
-pub line-ended : (p s : List ℕ) → member newline s ≡ true → ended p (take (suc (length (first_line s))) s) ≡ (p ++ first_line s) ∷ []
-unfolding ended member first_line
-line-ended p [] h = absurd (let w : ◌≡◌ {A = ℕ} 0 1 = cc in omega arith)
-line-ended p (b ∷ bs) h = go (eqb newline b) refl (line-ended (p ++ b ∷ []) bs)
+-- with a newline it is one line
+pub line-ended : (p s : List ℕ) → ended p (first_line s ++ newline ∷ []) ≡ (p ++ first_line s) ∷ []
+unfolding ended first_line
+line-ended p [] = ap (λ (l : List ℕ). l ∷ []) (sym (append-nil p))
+line-ended p (b ∷ bs) = go (eqb newline b) refl (line-ended (p ++ b ∷ []) bs)
   where
-    go : (t : Bool) → eqb newline b ≡ t
-        → (member newline bs ≡ true → ended (p ++ b ∷ []) (take (suc (length (first_line bs))) bs) ≡ (p ++ b ∷ [] ++ first_line bs) ∷ [])
-        → ended p (take (suc (length (first_line (b ∷ bs)))) (b ∷ bs)) ≡ (p ++ first_line (b ∷ bs)) ∷ []
+    go : (t : Bool) → eqb newline b ≡ t → ended (p ++ b ∷ []) (first_line bs ++ newline ∷ []) ≡ (p ++ b ∷ [] ++ first_line bs) ∷ []
+        → ended p (first_line (b ∷ bs) ++ newline ∷ []) ≡ (p ++ first_line (b ∷ bs)) ∷ []
     go true e k = rw e (ap (λ (l : List ℕ). l ∷ []) (sym (append-nil p)))
-    go false e k = rw e (k (rw e at h) ∙ ap (λ (l : List ℕ). l ∷ []) (append_assoc p (b ∷ []) (first_line bs)))
+    go false e k = rw (e, e) (k ∙ ap (λ (l : List ℕ). l ∷ []) (append_assoc p (b ∷ []) (first_line bs)))
 
-pub line-unended : (p s : List ℕ) → member newline s ≡ true → unended p (take (suc (length (first_line s))) s) ≡ []
-unfolding unended member first_line
-line-unended p [] h = absurd (let w : ◌≡◌ {A = ℕ} 0 1 = cc in omega arith)
-line-unended p (b ∷ bs) h = go (eqb newline b) refl (line-unended (p ++ b ∷ []) bs)
+pub line-unended : (p s : List ℕ) → unended p (first_line s ++ newline ∷ []) ≡ []
+unfolding unended first_line
+line-unended p [] = refl
+line-unended p (b ∷ bs) = go (eqb newline b) refl (line-unended (p ++ b ∷ []) bs)
   where
-    go : (t : Bool) → eqb newline b ≡ t → (member newline bs ≡ true → unended (p ++ b ∷ []) (take (suc (length (first_line bs))) bs) ≡ [])
-        → unended p (take (suc (length (first_line (b ∷ bs)))) (b ∷ bs)) ≡ []
-    go true e k = rw e
-    go false e k = rw e (k (rw e at h))
+    go : (t : Bool) → eqb newline b ≡ t → unended (p ++ b ∷ []) (first_line bs ++ newline ∷ []) ≡ [] → unended p (first_line (b ∷ bs) ++ newline ∷ []) ≡ []
+    go true e k = rw e refl
+    go false e k = rw (e, e) k
 
--- where there is no newline it is no line yet
-pub part-ended : (p s : List ℕ) → member newline s ≡ false → ended p (take (length (first_line s)) s) ≡ []
-unfolding ended member first_line
+-- where there is no newline it is all of the text, and no line yet
+
+other : (b : ℕ) (bs : List ℕ) → member newline (b ∷ bs) ≡ false → (eqb newline b ≡ false) × (member newline bs ≡ false)
+unfolding member
+other b bs h = go (eqb newline b) (member newline bs) h
+  where
+    go : (t u : Bool) → t || u ≡ false → (t ≡ false) × (u ≡ false)
+    go false u e = (refl, e)
+    go true u e = absurd (let w : ◌≡◌ {A = ℕ} 0 1 = cc in omega arith)
+
+pub first-whole : (s : List ℕ) → member newline s ≡ false → first_line s ≡ s
+unfolding first_line
+first-whole [] h = refl
+first-whole (b ∷ bs) h = let k = other b bs h in rw k.0 (ap (λ (l : List ℕ). b ∷ l) (first-whole bs k.1))
+
+pub part-ended : (p s : List ℕ) → member newline s ≡ false → ended p s ≡ []
+unfolding ended
 part-ended p [] h = refl
-part-ended p (b ∷ bs) h = go (eqb newline b) refl (part-ended (p ++ b ∷ []) bs)
-  where
-    go : (t : Bool) → eqb newline b ≡ t → (member newline bs ≡ false → ended (p ++ b ∷ []) (take (length (first_line bs)) bs) ≡ [])
-        → ended p (take (length (first_line (b ∷ bs))) (b ∷ bs)) ≡ []
-    go true e k = absurd (let w : ◌≡◌ {A = Bool} true false = rw e at h in let w2 : ◌≡◌ {A = ℕ} 0 1 = cc in omega arith)
-    go false e k = rw (e, e) (k (rw e at h))
+part-ended p (b ∷ bs) h = let k = other b bs h in rw k.0 (part-ended (p ++ b ∷ []) bs k.1)
 
-pub part-unended : (p s : List ℕ) → member newline s ≡ false → unended p (take (length (first_line s)) s) ≡ p ++ first_line s
-unfolding unended member first_line
+pub part-unended : (p s : List ℕ) → member newline s ≡ false → unended p s ≡ p ++ s
+unfolding unended
 part-unended p [] h = sym (append-nil p)
-part-unended p (b ∷ bs) h = go (eqb newline b) refl (part-unended (p ++ b ∷ []) bs)
-  where
-    go : (t : Bool) → eqb newline b ≡ t → (member newline bs ≡ false → unended (p ++ b ∷ []) (take (length (first_line bs)) bs) ≡ p ++ b ∷ [] ++ first_line bs)
-        → unended p (take (length (first_line (b ∷ bs))) (b ∷ bs)) ≡ p ++ first_line (b ∷ bs)
-    go true e k = absurd (let w : ◌≡◌ {A = Bool} true false = rw e at h in let w2 : ◌≡◌ {A = ℕ} 0 1 = cc in omega arith)
-    go false e k = rw (e, e) (k (rw e at h) ∙ append_assoc p (b ∷ []) (first_line bs))
-
--- ---- parts of a block
-
--- a part is the bytes that follow its start
-pub slice-take : (a k : ℕ) (block : List ℕ) → a ≤ length block → slice a (a + k) block ≡ take k (drop a block)
-slice-take a k block h = ap (drop a) (take-add a k block) ∙ drop_at (take a block) (take k (drop a block)) a (length-take-le a block h)
-
-pub slice_all : (block : List ℕ) → slice 0 (length block) block ≡ block
-slice_all block = take-length block
-
-pub slice-slice : (a b c : ℕ) (block : List ℕ) → a ≤ b → b ≤ c → c ≤ length block → slice a c block ≡ slice a b block ++ slice b c block
-slice-slice a b c block h k l =
-    let e : b + (c - b) ≡ c = omega arith in
-    let n : length (take b block) ≡ b = length-take-le b block (omega arith) in
-    ap (λ (i : ℕ). slice a i block) (sym e)
-    ∙ ap (drop a) (take-add b (c - b) block)
-    ∙ drop-append-le a (take b block) (take (c - b) (drop b block)) (omega arith)
-    ∙ ap (λ (s : List ℕ). slice a b block ++ s) (sym (slice-take b (c - b) block (omega arith)))
-    ∙ ap (λ (i : ℕ). slice a b block ++ slice b i block) e
+part-unended p (b ∷ bs) h = let k = other b bs h in rw k.0 (part-unended (p ++ b ∷ []) bs k.1 ∙ append_assoc p (b ∷ []) bs)
 
 -- ---- the output of an input that is read in blocks
 

@@ -1,106 +1,83 @@
 // The answers to the lines of a block, in a buffer: all that the program does between a read and a write.
-ghost use Rattle.std.specs.Prelude.{◌+◌, ◌≤◌, ◌<◌, [], length};
+ghost use Rattle.std.specs.Prelude.{◌+◌, ◌≤◌, ◌<◌, length};
+ghost use Rattle.arrayvec.specs.ArrayVec.{array_vec_len};
 ghost use Rattle.listing_text.specs.Call.{call};
-ghost use Rattle.listing_text.specs.LineReading.{parsed_of};
 ghost use Rattle.listing_text.specs.Answer.{line_length};
 ghost use Rattle.calls.specs.CallOf.{call_of};
-ghost use Rattle.listing.specs.ProgramContract.{Prints, Holds, AnswersLine, GoesOn, GoesThrough};
+ghost use Rattle.listing.specs.ProgramContract.{Prints, AnswersLine, GoesOn, GoesThrough};
 
+use arrayvec::ArrayVec;
 use calls::Call;
-use listing_text::{Asked, Line};
+use listing_text::Line;
 
 // The most bytes that a line of the output has.
 pub const LONGEST: usize = 55;
 
-// The line that is being read, and whether it has a byte yet.
-#[derive(Clone, Copy)]
-pub struct Unended {
-    pub line: Line,
-    pub begun: bool,
-}
-
-// How far a block has been answered: the line that has not ended, where to go on, and the end of the text in the buffer.
-#[derive(Clone, Copy)]
-pub struct Place {
-    pub unended: Unended,
-    pub next: usize,
-    pub end: usize,
+// How far a block has been answered: the line that has begun and not ended, if there is one, and the bytes that follow.
+#[derive(Drop)]
+pub struct Place<'a> {
+    pub unended: Option<Line>,
+    pub rest: &'a [u8],
 }
 
 // Makes the call and prints its five words.
-fn put_call(m: &mut [u32], k: Call, out: &mut [u8], at: usize) -> usize
-    requires { at + line_length ≤ length out.old }
-    ensures { Prints m.old (call (call_of k)) out.old at m.new out.new result }
+fn put_call<const N: usize>(m: &mut [u32], k: Call, out: &mut ArrayVec<u8, N>)
+    requires { array_vec_len out.old + line_length ≤ N }
+    ensures { Prints m.old (call (call_of k)) out.old.items m.new out.new.items }
 {
     let a = table::make_call(m, k);
-    listing_text::put_answer(out, at, [a.status, a.a, a.b, a.c, a.d])
-}
-
-fn put_asked(m: &mut [u32], asked: Asked, out: &mut [u8], at: usize) -> usize
-    requires { at + line_length ≤ length out.old }
-    ensures { Prints m.old (parsed_of asked) out.old at m.new out.new result }
-{
-    match asked {
-        Asked::Bad => listing_text::put_bad(out, at),
-        Asked::Call(k) => put_call(m, k, out, at),
-    }
+    listing_text::put_answer(out, [a.status, a.a, a.b, a.c, a.d]);
 }
 
 // The line has ended: what it asks for is done and answered.
-pub fn answer_line(m: &mut [u32], line: Line, out: &mut [u8], at: usize) -> usize
-    requires { at + line_length ≤ length out.old }
-    ensures { AnswersLine line m.old out.old at m.new out.new result }
+pub fn answer_line<const N: usize>(m: &mut [u32], line: Line, out: &mut ArrayVec<u8, N>)
+    requires { array_vec_len out.old + line_length ≤ N }
+    ensures { AnswersLine line m.old out.old.items m.new out.new.items }
 {
-    let asked = listing_text::finish(line);
-    put_asked(m, asked, out, at)
-}
-
-// Nothing read yet.
-pub fn nothing() -> Unended
-    ensures { Holds result [] }
-{
-    Unended {
-        line: listing_text::start(),
-        begun: false,
+    match line.finish() {
+        Some(k) => put_call(m, k, out),
+        None => listing_text::put_bad(out),
     }
 }
 
 // Goes on to the end of the line, which is answered, or to the end of the block.
-fn answer_part(m: &mut [u32], block: &[u8], out: &mut [u8], place: Place) -> Place
-    requires next_in_bounds { place.next < length block.now }
-    requires line_length_in_bounds { place.end + line_length ≤ length out.old }
-    ensures { GoesOn m.old block.now out.old place m.new out.new result }
+fn answer_part<'a, const N: usize>(
+    m: &mut [u32],
+    place: Place<'a>,
+    out: &mut ArrayVec<u8, N>,
+) -> Place<'a>
+    requires bytes_left { 0 < length place.rest.now }
+    requires line_fits { array_vec_len out.old + line_length ≤ N }
+    ensures { GoesOn m.old out.old.items place.entry m.new out.new.items result }
 {
-    let fed = listing_text::feed_until_newline(place.unended.line, block, place.next);
-    let line = fed.line;
-    if fed.ended {
-        let end = answer_line(m, line, out, place.end);
-        Place {
-            unended: nothing(),
-            next: fed.next,
-            end: end,
+    let line = place.unended.unwrap_or(Line::new());
+    let fed = line.feed_until_newline(place.rest);
+    match fed.rest {
+        Some(rest) => {
+            answer_line(m, fed.line, out);
+            Place {
+                unended: None,
+                rest: rest,
+            }
         }
-    } else {
-        Place {
-            unended: Unended {
-                line: line,
-                begun: true,
-            },
-            next: fed.next,
-            end: place.end,
-        }
+        None => Place {
+            unended: Some(fed.line),
+            rest: &[],
+        },
     }
 }
 
-// Answers the block from a place on, until it ends or the buffer has no room for a further line.
-pub fn answer_block(m: &mut [u32], block: &[u8], out: &mut [u8], place: Place) -> Place
-    requires next_in_bounds { place.next ≤ length block.now }
-    requires end_in_bounds { place.end ≤ length out.old }
-    ensures { GoesThrough m.old block.now out.old place m.new out.new result }
+// Answers a block from a place on, until it ends or the buffer has no room for a further line.
+pub fn answer_block<'a, const N: usize>(
+    m: &mut [u32],
+    place: Place<'a>,
+    out: &mut ArrayVec<u8, N>,
+) -> Place<'a>
+    ensures { GoesThrough N m.old out.old.items place.entry m.new out.new.items result }
 {
     let mut at = place;
-    while at.next < block.len() && out.len() - at.end >= LONGEST {
-        at = answer_part(m, block, out, at);
+    while !at.rest.is_empty() && out.remaining_capacity() >= LONGEST {
+        at = answer_part(m, at, out);
     }
     at
 }

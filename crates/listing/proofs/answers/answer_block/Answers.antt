@@ -1,9 +1,9 @@
-use borrow.Author.Rules.{rules}
+use Rattle.std.proofs.Common.{rules}
 use Rattle.listing.proofs.PlaceLaws.{goes_none, goes_then}
 use Rattle.listing.proofs.answers.answer_block.Goals as goal
 
-pub loop-at-init : goal.loop-at-init
-loop-at-init c = search (rules, goes_none)
+pub loop-out-init : goal.loop-out-init
+loop-out-init g c = search (rules, goes_none)
 
-pub loop-at-preserved : goal.loop-at-preserved
-loop-at-preserved c = search (rules, goes_then)
+pub loop-out-preserved : goal.loop-out-preserved
+loop-out-preserved g c = search (rules, goes_then)

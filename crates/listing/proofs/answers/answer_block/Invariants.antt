@@ -1,12 +1,10 @@
--- The loop's invariant: the block is answered from the first place to this one. The measure is what is left of the block.
-use Prim.Native.Nat.{◌-◌}
-use mathlib.Core.Path.{◌≡◌}
+-- The loop's invariant: the block is answered from the first place to this one. The measure is what is left of it.
 use lib.ListN.{length}
 use Rattle.listing.specs.ProgramContract.{Goes}
 use Rattle.listing.proofs.answers.answer_block.Given as goal
 
-abbrev pub invariant-loop-at : goal.invariant-loop-at
-invariant-loop-at l = Goes l.initial.m l.block l.initial.out l.initial.at l.m l.out l.at × (length l.m ≡ length l.initial.m)
+abbrev pub invariant-loop-out : goal.invariant-loop-out
+invariant-loop-out g l = Goes l.initial.m l.initial.out.items l.initial.at l.m l.out.items l.at
 
-abbrev pub decreases-loop-at : goal.decreases-loop-at
-decreases-loop-at l = length l.block - l.at.next
+abbrev pub decreases-loop-out : goal.decreases-loop-out
+decreases-loop-out g l = length l.at.rest.now

@@ -1,11 +1,11 @@
--- The loop's invariant: the block is answered up to the place, and the answers are written. The measure is what is left of the block.
-use Rattle.std.proofs.Common.{length, ◌-◌}
+-- The loop's invariant: the block is answered up to the place, and the answers are written. The measure is what is left of it.
+use Rattle.std.proofs.Common.{length}
 use Rattle.listing.proofs.ServeLaws.{Serving}
 use Rattle.listing.proofs.serve.serve_block.Given as goal
 
-abbrev pub invariant-loop-place : goal.invariant-loop-place
-invariant-loop-place g l =
+abbrev pub invariant-loop-out : goal.invariant-loop-out
+invariant-loop-out g l =
     Serving l.initial.m l.block l.initial.place.unended (g.W.Write.contents l.initial.to) l.m (g.W.Write.contents l.to) l.place
 
-abbrev pub decreases-loop-place : goal.decreases-loop-place
-decreases-loop-place g l = length l.block - l.place.next
+abbrev pub decreases-loop-out : goal.decreases-loop-out
+decreases-loop-out g l = length l.place.rest.now
