@@ -72,6 +72,11 @@ module _ (ls : List ℕ) (k : Takes ls) (vs : List ℕ) where
   pub too_wide : (i : ℕ) → length vs ≡ length ls → i < length ls → get_or ls i 0 ≤ get_or vs i 0 → bad ≡ taken ls k vs
   too_wide i e h a = sym (taken-unfit ls k vs (fit-above ls vs i e h a))
 
+pub none_taken : (k : Takes []) (vs : List ℕ) → length vs ≡ 0 → k ≡ taken [] k vs
+unfolding taken
+none_taken k [] e = refl
+none_taken k (a ∷ vs) e = absurd (omega arith)
+
 pub one-taken : {l : ℕ} (k : Takes (l ∷ [])) (vs : List ℕ) → length vs ≡ 1 → get_or vs 0 0 < l → k (get_or vs 0 0) ≡ taken (l ∷ []) k vs
 unfolding taken
 one-taken {l} k [] e h = absurd (omega arith)

@@ -7,7 +7,7 @@ use crate::{NEWLINE, SPACE};
 use arrayvec::ArrayVec;
 use itoa::Buffer;
 
-// A number and the byte that follows it.
+// A number and the byte that follows it. There is room, so all digits are put.
 fn put_word<const N: usize>(out: &mut ArrayVec<u8, N>, n: u32, after: u8)
     requires { array_vec_len out.old + word_length ≤ N }
     ensures { Puts word_length out.old.items (word_text n after) out.new.items }
@@ -22,6 +22,7 @@ pub fn put_answer<const N: usize>(out: &mut ArrayVec<u8, N>, answer: [u32; 5])
     requires { array_vec_len out.old + line_length ≤ N }
     ensures { Puts line_length out.old.items (line_text (answer_of answer)) out.new.items }
 {
+    // Stays: (d) a loop would take the byte that follows each number from a second array.
     let [status, a, b, c, d] = answer;
     put_word(out, status, SPACE);
     put_word(out, a, SPACE);

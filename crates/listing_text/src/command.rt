@@ -1,8 +1,10 @@
 // The commands of a listing: their names, and the calls of their arguments.
-ghost use Rattle.std.specs.Prelude.{◌≡◌, ◌<◌, ◌^◌, SomeIff};
+ghost use Rattle.std.specs.Prelude.{◌≡◌, ◌<◌, ◌^◌, SomeIff, [], ◌∷◌};
 ghost use Rattle.std.specs.List.{find};
 ghost use Rattle.std.specs.Str.{bytes_eq};
-ghost use Rattle.listing_text.specs.Call.{set_up_of, asked};
+ghost use Rattle.model.specs.Calls.{on_state};
+ghost use Rattle.calls.specs.CallOf.{op_of};
+ghost use Rattle.listing_text.specs.Call.{call, word, set_up_of, taken, asked};
 ghost use Rattle.listing_text.specs.Machine.{name_of, named, entry};
 ghost use Rattle.listing_text.specs.Arguments.{parsed_of, TakesLane, TakesCode, TakesKind, TakesProduct, TakesSizes};
 
@@ -117,6 +119,25 @@ fn set_up_of(yards: u32, cabinets: u32, places: u32, slots: u32) -> Option<Call>
     }
 }
 
+// The set-up of the sizes that the arguments are.
+fn set_up(arguments: &[u64]) -> Option<Call>
+    ensures { parsed_of result ≡ taken (word ∷ word ∷ word ∷ word ∷ []) set_up_of arguments.now }
+{
+    let (yards, cabinets, places, slots) = sizes(arguments)?;
+    set_up_of(yards, cabinets, places, slots)
+}
+
+// The call of a command that takes no argument.
+fn alone(arguments: &[u64], op: Op) -> Option<Call>
+    ensures { parsed_of result ≡ taken [] (call (on_state (op_of op))) arguments.now }
+{
+    if arguments.is_empty() {
+        Some(Call::OnState(op))
+    } else {
+        None
+    }
+}
+
 // The first of the commands that has the name.
 fn first_named(commands: &[Command], name: &[u8]) -> Option<Command>
     ensures { result ≡ find (λ c. bytes_eq name.now (name_of c)) commands.now }
@@ -178,10 +199,7 @@ impl Command {
         ensures { parsed_of result ≡ asked (entry self) arguments.now }
     {
         match self {
-            Command::SetUp => {
-                let (yards, cabinets, places, slots) = sizes(arguments)?;
-                set_up_of(yards, cabinets, places, slots)
-            }
+            Command::SetUp => set_up(arguments),
             Command::Add => {
                 let (lane, product) = lane_and_product(arguments)?;
                 Some(Call::OnState(Op::Add(lane, product)))
@@ -209,10 +227,7 @@ impl Command {
             Command::On => Some(Call::OnState(Op::On(lane(arguments)?))),
             Command::Off => Some(Call::OnState(Op::Off(lane(arguments)?))),
             Command::HandBack => Some(Call::OnState(Op::HandBack(lane(arguments)?))),
-            Command::Awaited => match arguments {
-                [] => Some(Call::OnState(Op::Awaited)),
-                _ => None,
-            },
+            Command::Awaited => alone(arguments, Op::Awaited),
         }
     }
 }

@@ -4,18 +4,13 @@ use Rattle.model.specs.Lists.{same}
 use Rattle.model.specs.Digits.{bytes}
 use Rattle.model.specs.Rules.{add, replace, delete, start, pass, begin, end, step, clock, on, off, hand_back}
 use Rattle.model.specs.Calls.{on_state}
-use Rattle.listing_text.specs.Call.{call, set_up_of, lookup, commands, taken, asked}
+use Rattle.listing_text.specs.Call.{call, lookup, commands, asked}
 use Rattle.listing_text.specs.Machine.{entry}
-use Rattle.listing_text.proofs.TakenLaws.{other_count}
 use Rattle.listing_text.proofs.command.Command.call.Goals as goal
 
-pub returns-in_err-yards-in-SetUp : goal.returns-in_err-yards-in-SetUp
+pub returns-in-SetUp : goal.returns-in-SetUp
 unfolding bytes same commands lookup entry asked
-returns-in_err-yards-in-SetUp c = rw c.in-SetUp.is (search (rules, c.sizes.ensures set_up_of))
-
-pub returns-in_ok-yards-in-SetUp : goal.returns-in_ok-yards-in-SetUp
-unfolding bytes same commands lookup entry asked
-returns-in_ok-yards-in-SetUp c = rw c.in-SetUp.is (search (rules, c.sizes.ensures set_up_of))
+returns-in-SetUp c = rw c.in-SetUp.is c.set_up.ensures
 
 pub returns-in_err-lane-in-Add : goal.returns-in_err-lane-in-Add
 unfolding bytes same commands lookup entry asked
@@ -113,10 +108,6 @@ pub returns-in_ok-lane-in-HandBack : goal.returns-in_ok-lane-in-HandBack
 unfolding bytes same commands lookup entry asked
 returns-in_ok-lane-in-HandBack c = rw c.in-HandBack.is (search (rules, c.lane-in-HandBack.ensures (λ i. call (on_state (hand_back i)))))
 
-pub returns-in-empty : goal.returns-in-empty
-unfolding bytes same commands lookup entry asked taken
-returns-in-empty c = rw c.in-Awaited.is (search rules)
-
-pub returns-in_default : goal.returns-in_default
+pub returns-in-Awaited : goal.returns-in-Awaited
 unfolding bytes same commands lookup entry asked
-returns-in_default c = rw c.in-Awaited.is (search (rules, other_count))
+returns-in-Awaited c = rw c.in-Awaited.is c.alone.ensures
