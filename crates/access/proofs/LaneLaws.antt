@@ -1,19 +1,15 @@
 -- A lane of a legal memory: what the code's tests of its number say, and where it stands in its cabinet.
 use Prim.Native.Nat.{ℕ, suc, ◌+◌, ◌*◌, ◌/◌, ◌%◌, ◌≤◌, ◌<◌}
 use native.Mathlib.Nat.{div-add-mod', mod-lt, div-lt_iff_lt-mul, mul-le-mul_right, mul_assoc, mul-pos}
-use mathlib.Core.Path.{◌≡◌, refl, ap, ap₂, sym, subst, ◌∙◌}
-use mathlib.Core.Bool.{Bool, true, false, cond}
-use mathlib.Core.List.{List, [], ◌∷◌}
+use mathlib.Core.Path.{◌≡◌, ap, ap₂, sym, subst, ◌∙◌}
+use mathlib.Core.List.{List}
 use native.Mathlib.Omega.{arith}
-use borrow.Author.Tests.{leb-false}
 use Rattle.model.specs.State.{Sizes, cabinet_count, lane_count}
-use Rattle.model.specs.Rules.{Cause, first_cause, no_such_lane, of_lane}
 use Rattle.model.specs.Memory.{at, sizes, state}
 use Rattle.model.specs.Layout.{heads_at, lane_address}
 use Rattle.model.specs.Lists.{first}
 use Rattle.model.specs.Table.{chain_number, chain_of}
 use Rattle.laws.specs.Subtractions.{Split as Subtracted, split, subtracted, subtracted-few, subtracted-divides, group-divides, rest-divides, rest-left}
-use Rattle.representation.proofs.Causes.Accepted.{lane-accepted}
 use Rattle.representation.specs.Sound.{Sound}
 use Rattle.words.specs.declared.sizes.NamedSizes as words
 use Rattle.words.specs.Lent.{sizes_of, named, sizes_in, Few, Lent}
@@ -75,19 +71,6 @@ module _ (m : List ℕ) (l : Lane) (k : Named m l) where
   pub lane-known : l.number < lane_count (state m).sizes → LaneIn m l
   unfolding state
   lane-known h = record { named = k; known = h; inside = omega (arith, k.address, long m k.sound) }
-
-  -- a lane that no cause of a lane refuses
-  pub lane_in : 0 ≡ first_cause (of_lane (state m) l.number []) → LaneIn m l
-  lane_in e = lane-known (lane-accepted (state m) l.number (sym e)).known
-
-  -- a lane whose call no cause refuses: the first cause of each is that there is no such lane
-  pub lane_first : (cs : List Cause) → 0 ≡ first_cause (no_such_lane (state m) l.number ∷ cs) → LaneIn m l
-  unfolding first_cause
-  lane_first cs e = go (no_such_lane (state m) l.number).applies refl e
-    where
-      go : (b : Bool) → (no_such_lane (state m) l.number).applies ≡ b → 0 ≡ cond b (no_such_lane (state m) l.number).number (first_cause cs) → LaneIn m l
-      go true q f = absurd (omega arith)
-      go false q f = lane-known (leb-false (lane_count (state m).sizes) l.number q)
 
 -- a lane of the memory is one of every other of the same sizes
 pub lane-again : (m n : List ℕ) (l : Lane) → LaneIn m l → Sound n → sizes n ≡ sizes m → LaneIn n l

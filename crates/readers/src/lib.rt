@@ -218,7 +218,7 @@ pub fn step(m: &mut [u32], lane: Lane) -> Result<[u32; 4], Cause>
 
 // ---- pass
 
-// The cause that refuses it.
+// The kind of this number, or the cause that refuses it.
 #[tactic(auto, using(access::proofs::Refusals::refusals), unfolding(model::specs::Rules::causes, model::specs::Rules::first_cause))]
 fn check_pass(m: &[u32], lane: Lane, kind: u32) -> Result<Kind, Cause>
     requires { Named m.now lane }
