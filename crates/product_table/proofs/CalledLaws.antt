@@ -18,18 +18,17 @@ module _ (a : List ℕ) where
   unfolding answering
   too_short h r m n = rw (lt-ltb (length a) answer_length h)
 
-  -- the work is done, and its answer is written
-  done : answer_length ≤ length a → (r : Answer) (w : Reply) → five r ≡ w → (m n o b : List ℕ) → n ≡ o → b ≡ answer_words (five r) ++ drop answer_length a
-      → outcome r.status n b ≡ answering w m o a
-  unfolding answering
-  done h r w d m n o b p e = rw (le-ltb (length a) answer_length h) (cc (d, p, e))
+  -- the work is done, and its five words and its status are handed on
+  module _ (h : answer_length ≤ length a) (r : Answer) (ws : List ℕ) (s : ℕ) (ew : ws ≡ answer_words (five r)) (es : s ≡ r.status) where
+    done : (w : Reply) → five r ≡ w → (m n o : List ℕ) → n ≡ o → outcome s n (ws ++ drop answer_length a) ≡ answering w m o a
+    unfolding answering
+    done w d m n o p = rw (le-ltb (length a) answer_length h) (cc (d, p, ew, es))
 
-  module _ (h : answer_length ≤ length a) (r : Answer) (b : List ℕ) (e : b ≡ answer_words (five r) ++ drop answer_length a) where
-    pub answered : (k : Call) (m n : List ℕ) → Does k m r n → Called k m a n b r.status
-    answered k m n d = done h r _ d.answer m n _ b d.memory e
+    pub answered : (k : Call) (m n : List ℕ) → Does k m r n → Called k m a n (ws ++ drop answer_length a) s
+    answered k m n d = done _ d.answer m n _ d.memory
 
-    pub answered-read : (text : List ℕ) → five r ≡ read_reply text → LabelRead text a b r.status
-    answered-read text d = done h r _ d text text text b refl e
+    pub answered-read : (text : List ℕ) → five r ≡ read_reply text → LabelRead text a (ws ++ drop answer_length a) s
+    answered-read text d = done _ d text text text refl
 
-    pub answered-written : (c : ℕ) (text after : List ℕ) → Writes text c r after → LabelWritten c text a after b r.status
-    answered-written c text after d = done h r _ d.answer text after _ b d.text e
+    pub answered-written : (c : ℕ) (text after : List ℕ) → Writes text c r after → LabelWritten c text a after (ws ++ drop answer_length a) s
+    answered-written c text after d = done _ d.answer text after _ d.text

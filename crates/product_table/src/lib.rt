@@ -1,14 +1,15 @@
 // The functions for C, as include/product_table.h declares them; the crate `product_table_c` exports them.
 #![tactic(auto)]
 
-ghost use Rattle.std.specs.Prelude.{◌≡◌, ◌++◌, ◌≤◌, length, drop};
+ghost use Rattle.std.specs.Prelude.{◌≡◌};
 ghost use Rattle.model.specs.Rules.{add, replace, delete, begin, end, start, step, pass, clock, on, off, hand_back, awaited};
 ghost use Rattle.model.specs.Calls.{set_up, on_state, sized};
 ghost use Rattle.access.specs.Contract.{five};
 ghost use Rattle.calls.specs.CallOf.{call_of};
-ghost use Rattle.product_table.specs.Called.{answer_length, answer_words, Called, LabelRead, LabelWritten};
+ghost use Rattle.product_table.specs.Called.{answer_words, Called, LabelRead, LabelWritten};
 
 use calls::{Call, Op};
+use words::product::Product;
 
 // How many words an answer has.
 const ANSWER_LENGTH: usize = 5;
@@ -16,28 +17,24 @@ const ANSWER_LENGTH: usize = 5;
 // The status of a call that was lent fewer.
 const SHORT_ANSWER: u32 = 4294967295;
 
-// The five words into the first five; the others stay.
-fn write_answer(answer: &mut [u32], r: access::Answer)
-    requires { answer_length ≤ length answer.old }
-    ensures { answer.new ≡ answer_words (five r) ++ drop answer_length answer.old }
+// Writes the five words of an answer, and answers its status.
+fn write_answer(room: &mut [u32; ANSWER_LENGTH], r: access::Answer) -> u32
+    ensures room { room.new ≡ answer_words (five r) }
+    ensures status { result ≡ r.status }
 {
-    answer[0] = r.status;
-    answer[1] = r.a;
-    answer[2] = r.b;
-    answer[3] = r.c;
-    answer[4] = r.d;
+    *room = r.into();
+    r.status
 }
 
 // Any call: with fewer than five words for the answer nothing is done.
 fn answer_call(memory: &mut [u32], answer: &mut [u32], k: Call) -> u32
     ensures { Called (call_of k) memory.old answer.old memory.new answer.new result }
 {
-    if answer.len() < ANSWER_LENGTH {
+    let Some(room) = answer.first_chunk_mut() else {
         return SHORT_ANSWER;
-    }
+    };
     let r = table::make_call(memory, k);
-    write_answer(answer, r);
-    r.status
+    write_answer(room, r)
 }
 
 // An empty table in lent memory.
@@ -65,11 +62,12 @@ pub fn pt_add(
 ) -> u32
     ensures { Called (on_state (add lane code deposit material)) memory.old answer.old memory.new answer.new result }
 {
-    answer_call(
-        memory,
-        answer,
-        Call::OnState(Op::Add(lane, code, deposit, material)),
-    )
+    let product = Product {
+        code,
+        deposit,
+        material,
+    };
+    answer_call(memory, answer, Call::OnState(Op::Add(lane, product)))
 }
 
 // A new record in the place of a code's old one.
@@ -83,11 +81,12 @@ pub fn pt_replace(
 ) -> u32
     ensures { Called (on_state (replace lane code deposit material)) memory.old answer.old memory.new answer.new result }
 {
-    answer_call(
-        memory,
-        answer,
-        Call::OnState(Op::Replace(lane, code, deposit, material)),
-    )
+    let product = Product {
+        code,
+        deposit,
+        material,
+    };
+    answer_call(memory, answer, Call::OnState(Op::Replace(lane, product)))
 }
 
 // Removes the record of a code.
@@ -173,22 +172,18 @@ pub fn pt_awaited(memory: &mut [u32], answer: &mut [u32]) -> u32
 pub fn pt_label_read(text: &[u8], answer: &mut [u32]) -> u32
     ensures { LabelRead text.now answer.old answer.new result }
 {
-    if answer.len() < ANSWER_LENGTH {
+    let Some(room) = answer.first_chunk_mut() else {
         return SHORT_ANSWER;
-    }
-    let r = labels::read(text);
-    write_answer(answer, r);
-    r.status
+    };
+    write_answer(room, labels::read(text).into())
 }
 
 // The shortest label of a code.
 pub fn pt_label_write(text: &mut [u8], answer: &mut [u32], code: u64) -> u32
     ensures { LabelWritten code text.old answer.old text.new answer.new result }
 {
-    if answer.len() < ANSWER_LENGTH {
+    let Some(room) = answer.first_chunk_mut() else {
         return SHORT_ANSWER;
-    }
-    let r = labels::write(text, code);
-    write_answer(answer, r);
-    r.status
+    };
+    write_answer(room, labels::write(text, code).into())
 }

@@ -1,2 +1,0 @@
--- A call of the code is the model's.
-pub mod CallLaws
