@@ -36,6 +36,7 @@ fn lowest_in(m: &[u32], first: usize, group: u32, wide: u32) -> u32
 
 // The lowest pending lane, none where no period runs: the yard of the lowest set bit of the yard mask, its cabinet by the lowest
 // one of its cabinet mask, and that one's lane by the lowest one of its lane mask.
+// Stays: none is a word of the answer; an Option would be made that word at once by the one caller.
 fn lowest_pending(m: &[u32], z: words::Sizes) -> u32
     requires { TableIn m.now z }
     ensures { result ≡ lists_first (pending_from 0 (state m.now).engine.lanes) }

@@ -1,4 +1,5 @@
 // The functions for C, as include/product_table.h declares them; the crate `product_table_c` exports them.
+// Stays: a function for each call, numbers apart from one another and a number for the status, as the C interface has them.
 #![tactic(auto)]
 
 ghost use Rattle.std.specs.Prelude.{◌≡◌};

@@ -1,5 +1,6 @@
 // The functions for C, as include/product_table.h declares them: each is the one of that name of the crate `product_table`, and
 // says what that one says. A slice is a pointer and a length.
+// Stays: a function for each call, as the C interface has them.
 #![tactic(auto)]
 
 ghost use Rattle.model.specs.Rules.{add, replace, delete, begin, end, start, step, pass, clock, on, off, hand_back, awaited};

@@ -87,6 +87,7 @@ fn write_lanes(m: &mut [u32], z: words::Sizes)
 }
 
 // The queue link of slot i of the free queue.
+// Stays: none is the word that is written; an Option would be made that word at once by the one caller.
 fn link_after(slots: u32, i: u32) -> u32
     requires { i + 1 ≤ slots }
     ensures { result ≡ link_after slots i }
