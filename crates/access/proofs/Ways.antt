@@ -64,10 +64,6 @@ passed m k e = accepts (state m) k (sym e)
 
 -- ---- what a legal memory has
 
--- by the legality check b
-pub sound : (m : List ℕ) (b : Bool) → b ≡ legal m → not b ≡ false → Words m → Sound m
-sound m b e t w = record { lawful = sym e ∙ not-false b t; words = w }
-
 module _ (m : List ℕ) (v : Sound m) where
   pub shown : Shows m (state m)
   shown = shows-state m v.lawful v.words

@@ -60,10 +60,6 @@ length-bits w = length-map-from (λ (k : ℕ). flag k w) 0 width
 pub lowest-few : (w p : ℕ) → p ≡ first_true (bits w) → p ≤ width
 lowest-few w p e = omega (arith, e, first_true-le (bits w), length-bits w)
 
--- by the group and the lowest bit of its mask, as they were read
-pub lowest-is : (m : List ℕ) (a g w i p n : ℕ) → i ≡ g → p ≡ first_true (bits (at m (a + i))) → n ≡ g * w + p → n ≡ lowest_in m a g w
-lowest-is m a g w i p n ei ep en = en ∙ ap (λ (x : ℕ). g * w + x) (ep ∙ ap (λ (j : ℕ). first_true (bits (at m (a + j)))) ei)
-
 -- the lowest set bit of a mask that is not 0 is a flag of it, which stands
 module _ (w : ℕ) (f : ℕ → Bool) (g : ℕ) (fits : w ≤ width) (h : standing w f g ≡ true) where
   abbrev flags : List Bool

@@ -32,9 +32,6 @@ pub record Adding (code rest weight sum left : ℕ) : Type 0 where
   pub few : sum + most_added * left ≤ most_added * code_digits
   pub whole : sum + weighed_back weight (both_weights - weight) left rest ≡ whole_sum (digits code_digits code)
 
-pub adding-start : (code : ℕ) → Adding code code second_weight 0 code_digits
-adding-start code = record { weights = inl (refl, refl); few = omega arith; whole = omega arith }
-
 module _ (code rest weight sum left : ℕ) (k : Adding code rest weight sum left) where
   pub adding-few : weight * (rest % ten) ≤ most_added
   adding-few = go k.weights
@@ -42,13 +39,6 @@ module _ (code rest weight sum left : ℕ) (k : Adding code rest weight sum left
       go : Weights weight (both_weights - weight) → weight * (rest % ten) ≤ most_added
       go (inl (e, _)) = rw e (omega arith)
       go (inr (e, _)) = rw e (omega arith)
-
-  pub adding-weight : weight ≤ both_weights
-  adding-weight = go k.weights
-    where
-      go : Weights weight (both_weights - weight) → weight ≤ both_weights
-      go (inl (e, _)) = omega arith
-      go (inr (e, _)) = omega arith
 
   pub adding-on : (n : ℕ) → left ≡ suc n → Adding code (rest / ten) (both_weights - weight) (sum + weight * (rest % ten)) n
   adding-on n h = record {

@@ -41,9 +41,6 @@ module _ (R : ℕ) (f : ℕ → ℕ) (n : ℕ) (k : List ℕ) where
     pub behind : (l : List ℕ) → Keeps k l → Path R l p d n → In R f l n
     pub ahead : (t : ℕ) → In R f k t → f t ≡ f n → Path R k p d t
 
-  pub way-start : Way (root R (f n)) (f n / R)
-  way-start = record { behind = λ l h r. r; ahead = λ t r e. subst (λ (c : ℕ). Path R k (root R c) (c / R) t) e r }
-
   past : {p d t v : ℕ} → get_or k p 0 ≡ suc v → (t ≡ v → ⊥) → Path R k p d t → Path R k (R + branches * v + d % branches) (d / branches) t
   past e h (here g) = absurd (h (omega arith))
   past {d = d} {t = t} {v = v} e h (down {v = w} g r) =
@@ -118,14 +115,6 @@ module _ (R c : ℕ) (f : ℕ → ℕ) where
     pub shape : Shape R n k
     pub found : (t : ℕ) → t < n → In R f k t
     pub apart : (i j : ℕ) → i < n → j < n → f i ≡ f j → i ≡ j
-
-  pub sofar-start : (k : List ℕ) → length k ≡ c → Empty k → Sofar 0 k
-  sofar-start k l z = record {
-    size = l;
-    shape = record { within = λ q. omega (arith, z q); order = λ q v g. absurd (omega (arith, z q)) };
-    found = λ t b. absurd (omega arith);
-    apart = λ i j b c q. absurd (omega arith);
-  }
 
   module _ (n : ℕ) (k : List ℕ) (s : Sofar n k) (r : Bool) (l : List ℕ) (w : Entered R f n k r l) where
     pub sofar-on : r ≡ true → Sofar (n + 1) l

@@ -23,11 +23,6 @@ cabinet_at-lane z c p = omega arith
 pub row_within : (c n k : ℕ) → c < n → c * k + k ≤ n * k
 row_within c n k h = let e = mul-le-mul_right {m = suc c} {n = n} k (omega arith) in omega (arith, e, suc-mul c k)
 
--- by the addresses that were worked out
-pub stood : (z : Sizes) (y b p a i : ℕ) → b < z.cabinets → a ≡ cabinet_at z (y * z.cabinets + b) → i ≡ p
-    → record { yard = y; bay = b; cabinet = y * z.cabinets + b; place = p; start = a; address = a + place_at i } ≡ stand z (y * z.cabinets + b) p
-stood z y b p a i h ea ei = rw (ea, ei, digits_div y h, digits_mod y h)
-
 -- a lane of a table that is lent
 pub lane-lent : (m : List ℕ) (z : Sizes) (c p : ℕ) → Lent m z → 1 ≤ z.cabinets → c < cabinet_count z → p < z.places → LaneLent m z (stand z c p)
 lane-lent m z c p l some hc hp = record {

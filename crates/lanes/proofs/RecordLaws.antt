@@ -28,13 +28,6 @@ pub record_at-words : (m : List ℕ) (a : ℕ) → record_at m a ≡ record_at (
 unfolding record_at from
 record_at-words m a = simp (unary_clauses, plus-after snapshot_at, plus-after generation_at, plus-after queues_at, plus-after lookup_at)
 
--- a record is read part by part
-pub record_at-parts : (m : List ℕ) (a : ℕ) (q s : List ℕ) (n c d : Queue) (l : Lookup) → q ≡ read_counts m (a + quiescent_at) → s ≡ read_counts m (a + snapshot_at)
-    → n ≡ queue_at m (a + queues_at) → c ≡ queue_at m (a + queues_at + current_offset) → d ≡ queue_at m (a + queues_at + done_offset) → l ≡ lookup_words_at m (a + lookup_at)
-    → record_with m a q s n c d l ≡ record_at m a
-unfolding record_at
-record_at-parts m a q s n c d l eq es en ec ed el = rw (eq, es, en, ec, ed, el)
-
 -- and written part by part
 pub record_stored-parts : (m : List ℕ) (a : ℕ) (r : LaneRecord) (x y n c d l : List ℕ) → x ≡ sets (set m a r.flags) (a + quiescent_at)
     (count_words (at r.quiescent))

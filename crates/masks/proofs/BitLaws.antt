@@ -54,15 +54,6 @@ module _ (w : ℕ) (hw : w < 2 ^ width) where
       none : some (bits w) ≡ false → count_trailing_zeros width (mask (bits w)) ≡ first_true (bits w)
       none h = trailing-none width (bits w) h ∙ sym (first_true-none (bits w) h ∙ length-bits w)
 
--- a bit of a word, as a test of `(w >> p) & 1`
-pub shr-flag : (w p : ℕ) → eqb (bit_and (w / 2 ^ p) 1) 1 ≡ flag p w
-unfolding bit
-shr-flag w p = ap (λ (x : ℕ). eqb x 1) (shr_and_one w p) ∙ go (flag p w)
-  where
-    go : (b : Bool) → eqb (bit b) 1 ≡ b
-    go true = refl
-    go false = refl
-
 -- ---- masks of any width up to 32
 
 module _ (bs : List Bool) (fits : length bs ≤ width) where
