@@ -34,9 +34,9 @@ use Rattle.access.specs.TableSizes.{TableIn}
 use Rattle.access.proofs.Ways.{refuses, performs, passed, shown, well_formed}
 use Rattle.access.proofs.Refusals.{entry-stops}
 use Rattle.access.proofs.TableReads.{table-of-lane}
-use Rattle.updates.specs.UpdateStores.{QueueIn, NoneIn, Leaves, FilledAt, Filled}
+use Rattle.updates.specs.UpdateStores.{NoneIn, Leaves, FilledAt, Filled}
 use Rattle.updates.proofs.Causes.{after-entry}
-use Rattle.updates.proofs.Shown.{none-found, some-found, found-words, found-slot, queue-first, queue-in, queue-none, queue-some, none-taken, some-taken}
+use Rattle.updates.proofs.Shown.{none-found, some-found, found-words, found-slot, queue-first, queue-none, queue-some, none-taken, some-taken}
 use Rattle.updates.proofs.Deletes.{leaves}
 
 -- ---- the free slot
@@ -58,9 +58,6 @@ slot-filled m n k z p o t e =
 module _ (m : List ℕ) (l : Lane) (k : Named m l) where
   table : TableIn m l.sizes
   table = table-of-lane m l k
-
-  pub free-in : QueueIn m (sizes_of l.sizes) free_at
-  free-in = queue-in m l.sizes table free tt free_at refl
 
   module _ (p : Product) (o : Option ℕ) (n : List ℕ) (u : Filled m (sizes_of l.sizes) p o n) where
     none-free : o ≡ None → (is_empty (state m).table.free ≡ true) × (n ≡ m)
@@ -129,9 +126,6 @@ module _ (m : List ℕ) (l : Lane) (k : Named m l) (p : Product) where
 
             known : AddAccepted (state m) l.number p.code p.deposit p.material
             known = passed m adds none_applies
-
-            pub add-inside : i < l.sizes.slots
-            add-inside = f.inside
 
             pub add-done : (head : ℕ) → head ≡ heads_at + chain_number p.code → (j : List ℕ) → j ≡ linked_at_head n (sizes_of l.sizes) head i
                 → Does (on_state adds) m (answer_of (Ok (i ∷ 0 ∷ 0 ∷ 0 ∷ []))) j
