@@ -1,6 +1,7 @@
 -- Which call of the model a call of the code is: the one of the same name, with the same numbers.
 use Rattle.model.specs.Rules.{Op, add, replace, delete, begin, end, start, step, pass, clock, on, off, hand_back, awaited}
-use Rattle.model.specs.Calls.{Call, set_up, sized, on_state}
+use Rattle.model.specs.Calls.{Call, set_up, on_state}
+use Rattle.words.specs.Lent.{named}
 use Rattle.calls.specs.declared.Op as code-op
 use Rattle.calls.specs.declared.Op.TheVariants.{Add, Replace, Delete, Begin, End, Start, Step, Pass, Clock, On, Off, HandBack, Awaited}
 use Rattle.calls.specs.declared.Call as code
@@ -22,5 +23,5 @@ op_of (HandBack i) = hand_back i
 op_of Awaited = awaited
 
 abbrev pub call_of : code.Call → Call
-call_of (SetUp y c p n) = set_up (sized y c p n)
+call_of (SetUp z) = set_up (named z)
 call_of (OnState k) = on_state (op_of k)

@@ -1,6 +1,7 @@
 // The calls as the code hands them on, in the model's shape: set-up, or a call on a table's state.
 #![tactic(auto)]
 
+use words::NamedSizes;
 use words::product::Product;
 
 // A call on a state. The first number is the lane.
@@ -27,7 +28,6 @@ pub enum Op {
 
 #[derive(Clone, Copy)]
 pub enum Call {
-    // yards, cabinets of a yard, lanes of a cabinet, slots
-    SetUp(u32, u32, u32, u32),
+    SetUp(NamedSizes),
     OnState(Op),
 }

@@ -1,6 +1,7 @@
 -- What the functions of `command` ensure that read the arguments of a command.
 use Rattle.std.specs.Prelude.{ℕ, List, [], ◌∷◌, ◌≡◌, None, Some}
 use Rattle.std.specs.declared.option.Option.{Option}
+use Rattle.words.specs.declared.sizes.NamedSizes.{NamedSizes}
 use Rattle.words.specs.declared.product.Product.{Product}
 use Rattle.calls.specs.declared.Call as code-call
 use Rattle.calls.specs.CallOf.{call_of}
@@ -31,5 +32,5 @@ abbrev pub TakesProduct : List ℕ → Option (ℕ × Product) → Type 0
 TakesProduct vs r =
     (k : ℕ → ℕ → ℕ → ℕ → Parsed) → given (λ x. k x.0 x.1.code x.1.deposit x.1.material) r ≡ taken (word ∷ code ∷ word ∷ word ∷ []) k vs
 
-abbrev pub TakesSizes : List ℕ → Option (ℕ × ℕ × ℕ × ℕ) → Type 0
-TakesSizes vs r = (k : ℕ → ℕ → ℕ → ℕ → Parsed) → given (λ x. k x.0 x.1 x.2 x.3) r ≡ taken (word ∷ word ∷ word ∷ word ∷ []) k vs
+abbrev pub TakesSizes : List ℕ → Option NamedSizes → Type 0
+TakesSizes vs r = (k : ℕ → ℕ → ℕ → ℕ → Parsed) → given (λ z. k z.yards z.cabinets z.places z.slots) r ≡ taken (word ∷ word ∷ word ∷ word ∷ []) k vs

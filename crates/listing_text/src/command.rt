@@ -9,6 +9,7 @@ ghost use Rattle.listing_text.specs.Machine.{name_of, named, entry};
 ghost use Rattle.listing_text.specs.Arguments.{parsed_of, TakesLane, TakesCode, TakesKind, TakesProduct, TakesSizes};
 
 use calls::{Call, Op};
+use words::NamedSizes;
 use words::product::Product;
 
 // The yards of a listing's table.
@@ -92,28 +93,26 @@ fn lane_and_product(arguments: &[u64]) -> Option<(u32, Product)>
 
 // Four sizes.
 #[tactic(auto, using(crate::proofs::TakenLaws::other_count, crate::proofs::TakenLaws::too_wide, crate::proofs::TakenLaws::four_taken), unfolding(crate::specs::Call::taken))]
-fn sizes(arguments: &[u64]) -> Option<(u32, u32, u32, u32)>
+fn sizes(arguments: &[u64]) -> Option<NamedSizes>
     ensures { TakesSizes arguments.now result }
 {
     match arguments {
-        [yards, cabinets, places, slots] => {
-            Some((
-                word(*yards)?,
-                word(*cabinets)?,
-                word(*places)?,
-                word(*slots)?,
-            ))
-        }
+        [yards, cabinets, places, slots] => Some(NamedSizes {
+            yards: word(*yards)?,
+            cabinets: word(*cabinets)?,
+            places: word(*places)?,
+            slots: word(*slots)?,
+        }),
         _ => None,
     }
 }
 
 // What `setup` asks for: a listing has one yard.
-fn set_up_of(yards: u32, cabinets: u32, places: u32, slots: u32) -> Option<Call>
-    ensures { parsed_of result ≡ set_up_of yards cabinets places slots }
+fn set_up_of(sizes: NamedSizes) -> Option<Call>
+    ensures { parsed_of result ≡ set_up_of sizes.yards sizes.cabinets sizes.places sizes.slots }
 {
-    if yards == ONE_YARD {
-        Some(Call::SetUp(yards, cabinets, places, slots))
+    if sizes.yards == ONE_YARD {
+        Some(Call::SetUp(sizes))
     } else {
         None
     }
@@ -123,8 +122,8 @@ fn set_up_of(yards: u32, cabinets: u32, places: u32, slots: u32) -> Option<Call>
 fn set_up(arguments: &[u64]) -> Option<Call>
     ensures { parsed_of result ≡ taken (word ∷ word ∷ word ∷ word ∷ []) set_up_of arguments.now }
 {
-    let (yards, cabinets, places, slots) = sizes(arguments)?;
-    set_up_of(yards, cabinets, places, slots)
+    let sizes = sizes(arguments)?;
+    set_up_of(sizes)
 }
 
 // The call of a command that takes no argument.

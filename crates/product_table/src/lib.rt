@@ -10,6 +10,7 @@ ghost use Rattle.calls.specs.CallOf.{call_of};
 ghost use Rattle.product_table.specs.Called.{answer_words, Called, LabelRead, LabelWritten};
 
 use calls::{Call, Op};
+use words::NamedSizes;
 use words::product::Product;
 
 // How many words an answer has.
@@ -49,7 +50,13 @@ pub fn pt_setup(
 ) -> u32
     ensures { Called (set_up (sized yards cabinets lanes slots)) memory.old answer.old memory.new answer.new result }
 {
-    answer_call(memory, answer, Call::SetUp(yards, cabinets, lanes, slots))
+    let sizes = NamedSizes {
+        yards,
+        cabinets,
+        places: lanes,
+        slots,
+    };
+    answer_call(memory, answer, Call::SetUp(sizes))
 }
 
 // Enters a record for a code that has none.

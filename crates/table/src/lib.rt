@@ -11,7 +11,6 @@ ghost use Rattle.access.specs.Contract.{Does};
 use access::Lane;
 use access::causes::Cause;
 use calls::{Call, Op};
-use words::NamedSizes;
 
 // A call on a legal memory: each has its own function, and one of a lane is handed the lane, worked out here.
 fn perform(m: &mut [u32], k: Op) -> Result<[u32; 4], Cause>
@@ -50,15 +49,7 @@ pub fn make_call(m: &mut [u32], k: Call) -> access::Answer
     ensures { Does (call_of k) m.old result m.new }
 {
     let result = match k {
-        Call::SetUp(yards, cabinets, places, slots) => set_up::set_up(
-            m,
-            NamedSizes {
-                yards,
-                cabinets,
-                places,
-                slots,
-            },
-        ),
+        Call::SetUp(sizes) => set_up::set_up(m, sizes),
         Call::OnState(op) => make_op(m, op),
     };
     result.into()
