@@ -273,7 +273,7 @@ impl LaneRecord {
 }
 
 // The counts with that of a kind one up, wrapping from the largest 64-bit number to 0.
-fn count(quiescent: [u64; words::KINDS], kind: Kind) -> [u64; words::KINDS]
+pub fn count(quiescent: [u64; words::KINDS], kind: Kind) -> [u64; words::KINDS]
     ensures { result ≡ update quiescent (number_of kind) (up_to count_limit) }
 {
     let mut counts = quiescent;
