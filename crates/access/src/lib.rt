@@ -74,8 +74,8 @@ impl From<Answer> for [u32; 5] {
 // ---- lanes
 
 // A lane by its number: where its record would begin, and the sizes of the table. Worked out once a call and handed on.
-// Stays: that it is a lane of a memory (`Named`, `LaneIn`) is a fact of both, and the C interface lends the memory for one
-// call, so it is no ghost field here.
+// Stays: that it is a lane of a memory (`Named`, `LaneIn`) is a premise and no ghost field: the memory is stored to word by word, and
+// is legal again only at the end of a call. A struct that held it by `&mut` would owe more clauses (`words` `Sizes`).
 #[derive(Clone, Copy)]
 pub struct Lane {
     pub number: u32,

@@ -1,5 +1,6 @@
 // The call awaited on a legal memory: how many lanes are pending and the lowest of them, how many slots are free and how many stand
 // in the other queues, by the queues' lengths. It walks no queue and changes no word.
+// Stays: memory and sizes are two parameters, and `TableIn` ties them; `words` `Sizes` says why.
 #![tactic(auto)]
 
 ghost use Rattle.std.specs.Prelude.{◌≡◌, length};

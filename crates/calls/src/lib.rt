@@ -5,6 +5,7 @@ use words::NamedSizes;
 use words::product::Product;
 
 // A call on a state. The first number is the lane.
+// Stays: lane, code and kind are numbers as the C interface takes them, in range or not; each call tests its own.
 #[derive(Clone, Copy)]
 pub enum Op {
     // lane, what is entered

@@ -1,5 +1,6 @@
 // Hash chains in the lent words: the head of each chain, and each slot's chain link, which is the next slot of its
 // chain. Lookups take one step a call.
+// Stays: memory and sizes are two parameters, and `Lent` ties them; `words` `Sizes` says why.
 #![tactic(auto)]
 
 ghost use Rattle.std.specs.Prelude.{◌≡◌, ◌+◌, ◌<◌, length};

@@ -34,6 +34,8 @@ fn root<const CELLS: usize>(code: u64) -> usize
 
 // Number i is entered by its code, that of the slot aside[i]; false where one entered before has that
 // code.
+// Stays: the tree's nodes are indices in an array of fixed size, since nothing may be allocated.
+// Stays: how many cells there may be (`CellCount`) is a premise, since a const parameter carries no fact.
 fn enter<const CELLS: usize>(slots: Slots, aside: &[u16], i: usize, cells: &mut [u16]) -> bool
     requires { Listed slots aside.now × (i < length aside.now) × CellCount CELLS
         × (CELLS + branches * i < length cells.old) × Shape CELLS i cells.old }

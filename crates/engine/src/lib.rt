@@ -1,8 +1,8 @@
 // The grace-period engine over the lent words: grace periods, the release of a lane, the advance of an owner's queues,
 // the clock of a lane, and a lane that goes off. Every function takes the sizes of the table, and a lane by its place; its contract
 // says what it leaves of the memory, word by word. The laws of proofs/ say which change of the state that is.
-// Stays: `m, z, lane` are parameters: the memory is lent by the C interface for one call, and `queues`, `lanes` and
-// `mask_tree` take it and the sizes in the same way.
+// Stays: memory and sizes are two parameters beside a lane or an owner, and `LaneLent` and `OwnerLent` tie them; `words` `Sizes`
+// says why.
 #![tactic(auto)]
 
 ghost use Rattle.std.specs.Prelude.{◌≡◌, ◌+◌, ◌<◌, ◌^◌};

@@ -17,12 +17,14 @@ fn put_word<const N: usize>(out: &mut ArrayVec<u8, N>, n: u32, after: u8)
     out.push(after);
 }
 
+// Stays: that there is room is a premise, since a const parameter carries no fact, and a put that can fail would have to be handled.
+
 // The line of an answer, at most five numbers of ten digits with a byte after each.
 pub fn put_answer<const N: usize>(out: &mut ArrayVec<u8, N>, answer: [u32; 5])
     requires { array_vec_len out.old + line_length ≤ N }
     ensures { Puts line_length out.old.items (line_text (answer_of answer)) out.new.items }
 {
-    // Stays: (d) a loop would take the byte that follows each number from a second array.
+    // Stays: a loop would take the byte that follows each number from a second array.
     let [status, a, b, c, d] = answer;
     put_word(out, status, SPACE);
     put_word(out, a, SPACE);

@@ -1,4 +1,5 @@
 // The calls that drive grace periods, on a legal memory: clock and off.
+// Stays: memory and lane are two parameters, and `Named` ties them; `access` `Lane` says why.
 #![tactic(auto)]
 
 ghost use Rattle.std.specs.Prelude.{◌≡◌, ◌+◌, ◌<◌, ◌≤◌, OnOk, length, get_or};

@@ -1,5 +1,6 @@
 // Queues of slots in the lent words: first, last and length stand from `ends` on, and each slot's queue link is the
 // next slot of its queue. A queue is empty when its first is none. Lengths wrap, so that no word is refused.
+// Stays: memory and sizes are two parameters, and `Lent` ties them; `words` `Sizes` says why.
 #![tactic(auto)]
 
 ghost use Rattle.std.specs.Prelude.{not, ◌≡◌, ◌<◌, ltb, length};

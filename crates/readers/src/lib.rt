@@ -1,6 +1,7 @@
 // The calls of a reader on a legal memory: begin, end, start, step and pass, and on. Each answers four words, or the cause that
 // refuses it, and leaves the memory as the model's rules say, a refused one every word of it. The lane is worked out before the call,
 // and its address and the sizes are handed on.
+// Stays: memory and lane are two parameters, and `Named` ties them; `access` `Lane` says why.
 #![tactic(auto)]
 
 ghost use Rattle.std.specs.Prelude.{◌≡◌, IfOk, OnOk};

@@ -8,7 +8,7 @@ use distinct_codes::cells::Codes;
 use distinct_codes::slots::Slots;
 
 // Chain k, where left slots are unmarked: how many are left then.
-// Stays: (d) marks and left are two values, since the marks are lent and what is left is answered by value, of which `?` takes the new one.
+// Stays: marks and left are two values: the marks are lent, and what is left is answered by value, of which `?` takes the new one.
 fn walk_chain<const CELLS: usize, const SLOTS: usize>(
     slots: Slots,
     k: usize,

@@ -12,6 +12,7 @@ use distinct_codes::slots::Slots;
 pub const QUEUES: usize = 3;
 
 // how many slots are left unmarked, and the last of a queue's, or none
+// Stays: `last` is a word, none for no slot, since it is compared with the word of the queue's last.
 #[derive(Clone, Copy)]
 struct Walked {
     left: u32,
@@ -67,6 +68,7 @@ fn queue(slots: Slots, at: usize, queued: Queued, left: u32, marks: &mut [u8]) -
 }
 
 // n queues, their words from first on.
+// Stays: this loop and that over lanes are two: a closure for what is walked would take slots, left and marks into it, and is no shorter.
 pub fn queues(
     slots: Slots,
     first: usize,

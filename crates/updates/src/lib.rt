@@ -1,5 +1,6 @@
 // The calls of an updater on a legal memory: add, replace, delete and hand-back. Each answers four words, or the cause that refuses it,
 // and leaves the memory as the model's rules say, a refused one every word of it. The causes are tested in their order.
+// Stays: memory and lane are two parameters, and `Named` ties them; `access` `Lane` says why.
 #![tactic(auto)]
 
 ghost use Rattle.std.specs.Prelude.{◌≡◌, [], ◌<◌, OnOk};

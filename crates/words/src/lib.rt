@@ -234,6 +234,7 @@ impl Sizes {
 // ---- numbers
 
 // The 64-bit number with these words.
+// Stays: std has no conversion between a 64-bit number and two words; this and the two below say it in the model's words.
 pub fn whole(low: u32, high: u32) -> u64
     ensures { result ≡ whole_of low high }
 {
