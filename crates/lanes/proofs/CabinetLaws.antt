@@ -12,7 +12,7 @@ use Rattle.lanes.specs.declared.LaneRecord.{LaneRecord}
 use Rattle.lanes.specs.declared.Place.{Place}
 use Rattle.lanes.specs.Record.{record_at, record_words, record_stored, record_length}
 use Rattle.lanes.proofs.RecordLaws.{words_at, record_at-words}
-use Rattle.lanes.specs.RecordChanges.{Changed}
+use Rattle.lanes.specs.RecordChanges.{changed_at, Changed}
 use Rattle.lanes.specs.Cabinet.{place_at, cabinet_at, stand, LaneLent, online_at, online_mask}
 
 -- the lane of place p of cabinet c stands where the model has it
@@ -65,6 +65,10 @@ module _ (m : List ℕ) (a n : ℕ) where
     part-stored r l e =
         ap (λ (ys : List ℕ). take a m ++ (ys ++ drop n (drop a m))) e
         ∙ part-sets (record_words r) m a n (place_at p) (omega arith)
+
+    -- so what changes it in the part changes it in the whole
+    pub part-changed : (x : LaneRecord → LaneRecord) (l : List ℕ) → l ≡ changed_at part (place_at p) x → take a m ++ (l ++ drop n (drop a m)) ≡ changed_at m (a + place_at p) x
+    part-changed x l e = part-stored (x (record_at part (place_at p))) l e ∙ ap (λ (r : LaneRecord). record_stored m (a + place_at p) (x r)) part-record
 
   -- the lanes of the part that are on
   pub part-online : (k : ℕ) → lane_length * k ≤ n → mask (map (online_at part 0) (from 0 k)) ≡ mask (map (online_at m a) (from 0 k))
