@@ -1,4 +1,5 @@
 -- What a slot leaves that is met, of the slots that the code hands on. Clients cite `code_of`, `Listed`, `Room` and `Meets`.
+use Rattle.model.specs.Layout.{max_slots}
 use Rattle.std.specs.Prelude.{ℕ, ◌+◌, ◌≤◌, ◌<◌, Bool, true, false, ◌≡◌, List, get_or, length}
 use Rattle.distinct_codes.specs.declared.slots.Slots.{Slots}
 use Rattle.distinct_codes.specs.Cells.{CellCount, spread, code_at, clash, held, meet}
@@ -8,10 +9,10 @@ module _ (t : Slots) where
   abbrev pub code_of : ℕ → ℕ
   code_of = code_at t.memory.now t.base
 
-  -- a has numbers of slots, no more than there are
+  -- a has numbers of slots, no more than a table may have
   pub record Listed (a : List ℕ) : Type 0 where
     pub members : (j : ℕ) → j < length a → get_or a j 0 < t.count
-    pub few : length a ≤ t.count
+    pub few : length a ≤ max_slots
 
   -- a has numbers of slots, and so have the R cells k, in which 0 stands for none and each number is one more than its slot's
   pub record Room (R : ℕ) (k a : List ℕ) : Type 0 where

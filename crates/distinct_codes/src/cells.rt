@@ -31,6 +31,7 @@ fn spread<const CELLS: usize>(code: u64) -> usize
     (h % CELLS as u64) as usize
 }
 
+// Stays: a cell holds 0 or a slot's number and one more, since an Option of it takes twice the room in an array of 4,096.
 // What the slots met so far leave: the cells, and the slots put aside.
 #[derive(Drop)]
 pub struct Codes<const CELLS: usize, const SLOTS: usize> {

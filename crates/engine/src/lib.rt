@@ -1,6 +1,6 @@
 // The grace-period engine over the lent words: grace periods, the release of a lane, the advance of an owner's queues,
-// the clock of a lane, and a lane that goes off. Every function takes the sizes of the table, and a lane by its place; its contract
-// says what it leaves of the memory, word by word. The laws of proofs/ say which change of the state that is.
+// the clock of a lane, and a lane that goes off. A lane is handed on by its place, an owner by where its words stand; each contract
+// says what a function leaves of the memory, word by word. The laws of proofs/ say which change of the state that is.
 // Stays: memory and sizes are two parameters beside a lane or an owner, and `LaneLent` and `OwnerLent` tie them; `words` `Sizes`
 // says why.
 #![tactic(auto)]
@@ -32,7 +32,7 @@ impl OwnerWords {
     };
 
     // A lane.
-    fn of_lane(lane: lanes::Place) -> OwnerWords
+    pub fn of_lane(lane: lanes::Place) -> OwnerWords
         requires { lane.address + queues_at < 2 ^ 64 }
         ensures { result ≡ of_lane lane }
     {

@@ -1,5 +1,6 @@
 // The legality check's part that looks at no slot: the contents, the global words, the masks and the
 // lanes. It follows no link, for these sentences speak of words at known places.
+// Stays: memory and sizes are two parameters, and `Lent` ties them; `words` `Sizes` says why.
 #![tactic(auto)]
 
 pub mod contents;

@@ -1,8 +1,8 @@
 // The work on one cabinet's lanes. `cabinet` is the part of the lent words that holds that cabinet's
-// records alone, one after another, and a place is a lane's number in its cabinet. The last three functions hand that
-// part of the whole memory on.
+// records alone, one after another, and a place is a lane's number in its cabinet. `cabinet_online` and the methods of
+// `Place` hand that part of the whole memory on.
 // Stays: that a lane lies in the memory (`LaneLent`) is a premise, not a part of `Place`: it speaks of the memory, which a place does
-// not hold (words, `Sizes`).
+// not hold (words, `Sizes`); so is that a place's record lies in a cabinet's part.
 ghost use Rattle.std.specs.Prelude.{◌≡◌, ◌+◌, ◌*◌, ◌<◌, ◌≤◌, map, length};
 ghost use Rattle.model.specs.Lists.{from, mask};
 ghost use Rattle.model.specs.State.{cabinet_count};

@@ -28,6 +28,7 @@ pub struct Queue {
 }
 
 // A lookup: the two words of its code, and the slot at which it stands.
+// Stays: its words as they are, so that a record is written back as it was read; `readers` has the code as one number.
 #[derive(Clone, Copy)]
 pub struct Lookup {
     pub low: u32,

@@ -23,6 +23,7 @@ const FEW: usize = 64;
 
 const MANY: usize = words::MAX_SLOTS as usize;
 
+// Stays: where the lanes begin and how many there are is handed on as two numbers, worked out once; three functions take them.
 // The queues: the free one, the global ones and those of the lanes, whose words begin at lane.
 fn walk_queues(slots: Slots, lane: usize, lanes: usize, left: u32, marks: &mut [u8]) -> Option<u32>
     requires { Counted slots marks.old left × (masks_at ≤ length slots.memory.now) × (lane + lane_length * lanes ≤ length slots.memory.now) }

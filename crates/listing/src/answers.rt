@@ -21,12 +21,13 @@ pub struct Place<'a> {
 }
 
 // Makes the call and prints its five words.
+// Stays: that there is room for a line is a premise here and below, since a const parameter carries no fact.
 fn put_call<const N: usize>(m: &mut [u32], k: Call, out: &mut ArrayVec<u8, N>)
     requires { array_vec_len out.old + line_length ≤ N }
     ensures { Prints m.old (call (call_of k)) out.old.items m.new out.new.items }
 {
     let a = table::make_call(m, k);
-    listing_text::put_answer(out, [a.status, a.a, a.b, a.c, a.d]);
+    listing_text::put_answer(out, a.into());
 }
 
 // The line has ended: what it asks for is done and answered.

@@ -8,6 +8,7 @@ use arrayvec::ArrayVec;
 use itoa::Buffer;
 
 // A number and the byte that follows it. There is room, so all digits are put.
+// Stays: that there is room is a premise here and below, since a const parameter carries no fact.
 fn put_word<const N: usize>(out: &mut ArrayVec<u8, N>, n: u32, after: u8)
     requires { array_vec_len out.old + word_length ≤ N }
     ensures { Puts word_length out.old.items (word_text n after) out.new.items }
@@ -16,8 +17,6 @@ fn put_word<const N: usize>(out: &mut ArrayVec<u8, N>, n: u32, after: u8)
     let _ = out.try_extend_from_slice(digits.format(n).as_bytes());
     out.push(after);
 }
-
-// Stays: that there is room is a premise, since a const parameter carries no fact, and a put that can fail would have to be handled.
 
 // The line of an answer, at most five numbers of ten digits with a byte after each.
 pub fn put_answer<const N: usize>(out: &mut ArrayVec<u8, N>, answer: [u32; 5])

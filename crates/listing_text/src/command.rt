@@ -62,6 +62,7 @@ fn lane_and_code(arguments: &[u64]) -> Option<(u32, u64)>
 }
 
 // A lane and what a pass of it is to be.
+// Stays: two widths, two functions: one would take a width and hand back 64 bits, to be cut again.
 #[tactic(auto, using(crate::proofs::TakenLaws::other_count, crate::proofs::TakenLaws::too_wide, crate::proofs::TakenLaws::two_taken), unfolding(crate::specs::Call::taken))]
 fn lane_and_kind(arguments: &[u64]) -> Option<(u32, u32)>
     ensures { TakesKind arguments.now result }

@@ -1,6 +1,7 @@
 // Queues of slots in the lent words: first, last and length stand from `ends` on, and each slot's queue link is the
 // next slot of its queue. A queue is empty when its first is none. Lengths wrap, so that no word is refused.
-// Stays: memory and sizes are two parameters, and `Lent` ties them; `words` `Sizes` says why.
+// Stays: memory and sizes are two parameters, and `Lent` ties them; `words` `Sizes` says why. That a queue's words lie in the memory
+// (`Holds`) is of the memory too.
 #![tactic(auto)]
 
 ghost use Rattle.std.specs.Prelude.{not, ◌≡◌, ◌<◌, ltb, length};

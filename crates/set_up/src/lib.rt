@@ -19,6 +19,7 @@ use access::causes::Cause;
 const REST_LENGTH: usize = words::HEADS_AT - words::LARGEST_GENERATION_AT;
 
 // a fresh lane is on
+// Stays: a word as one constant; `Flag::Online.set(0)` would be a call for each lane.
 const FRESH_FLAGS: u32 = 1;
 
 const FRESH_GENERATION: u32 = 1;

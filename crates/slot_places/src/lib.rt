@@ -7,4 +7,5 @@ pub mod queue;
 pub mod slots;
 
 // the mark of a slot that was met
+// Stays: a mark is a byte, 0 or this, as the laws of walks count it; a `bool` is a byte too.
 const MET: u8 = 1;

@@ -20,6 +20,7 @@ struct Walked {
 }
 
 // The slots of the queue whose first stands at at.
+// Stays: slots, left and marks go together here and below: `chain` says why they are three.
 fn walk_queue(
     slots: Slots,
     at: usize,

@@ -13,6 +13,7 @@ pub struct NamedSizes {
 }
 
 // The sizes of a table: none is above the largest.
+// Stays: four fields again, since the one within the other would be reached through it at each use.
 #[derive(Clone, Copy)]
 pub struct Sizes {
     pub yards: u32,
