@@ -54,7 +54,7 @@ impl<const CELLS: usize, const SLOTS: usize> Codes<CELLS, SLOTS> {
 
     // Slot i holds its cell, or is put aside; false where its code is its cell's holder's.
     pub fn meet(&mut self, slots: Slots, i: usize) -> bool
-        requires { (i < slots.count) × (length self.old.aside.items < SLOTS) × Room slots CELLS self.old.cells self.old.aside.items }
+        requires { (i < slots.count) × (i < max_slots) × (length self.old.aside.items < SLOTS) × Room slots CELLS self.old.cells self.old.aside.items }
         ensures { Meets slots.entry CELLS i self.old.cells self.old.aside.items result self.new.cells self.new.aside.items }
     {
         let code = slots.code(i);

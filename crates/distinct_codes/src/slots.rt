@@ -1,17 +1,16 @@
 // The slots of a lent memory: where slot 0's words begin, and how many slots there are.
 ghost use Rattle.std.specs.Prelude.{◌≡◌, ◌+◌, ◌*◌, ◌<◌, ◌≤◌, length};
-ghost use Rattle.model.specs.Layout.{max_slots, slot_length};
+ghost use Rattle.model.specs.Layout.{slot_length};
 ghost use Rattle.model.specs.Memory.{at};
 ghost use Rattle.distinct_codes.specs.Cells.{code_at};
 
-// They lie in the memory, and are no more than a table may have.
+// They lie in the memory.
 #[derive(Clone, Copy)]
 pub struct Slots<'a> {
     pub memory: &'a [u32],
     pub base: usize,
     pub count: u32,
     ghost within: { base + slot_length * count ≤ length memory.now },
-    ghost few: { count ≤ max_slots },
 }
 
 impl<'a> Slots<'a> {

@@ -339,7 +339,7 @@ module _ (t : Slots) (lane n : ℕ) (y : Table t lane n) (R : ℕ) (c : CellCoun
   -- what the chains ask for
   pub chains-asks : Counted t s t.count × Ready t R k a t.count × (masks_at ≤ length m)
   chains-asks = (
-    record { marks = l.mark_room; left = unmarked-all t.count s l.marks },
+    record { few = y.few; marks = l.mark_room; left = unmarked-all t.count s l.marks },
     record {
       room = record {
         count = c;
@@ -388,7 +388,7 @@ module _ (t : Slots) (lane n : ℕ) (y : Table t lane n) (R : ℕ) (c : CellCoun
     queues-asks = (passed.2, omega (arith, t.within, y.slots), omega (arith, t.within, y.slots, y.lanes, y.lane_count))
 
     pub apart-asks : Listed t b
-    apart-asks = record { members = passed.3.room.members; few = omega (arith, passed.3.most) }
+    apart-asks = record { members = passed.3.room.members; few = omega (arith, passed.2.few, passed.3.most) }
 
     both : run (chain_part m ++ queued_part m) s ≡ run queue_side u
     unfolding going

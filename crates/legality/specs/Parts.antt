@@ -1,8 +1,8 @@
 -- Legality's sentences about the slots, as the check decides them, and the walks of the queues.
-use Rattle.std.specs.Prelude.{ℕ, ◌+◌, ◌≡◌, Bool, true, not, List, [], ◌∷◌, ◌++◌}
+use Rattle.std.specs.Prelude.{ℕ, ◌+◌, ◌≡◌, ◌≤◌, Bool, true, not, List, [], ◌∷◌, ◌++◌}
 use Rattle.model.specs.Lists.{all, every, from}
 use Rattle.model.specs.State.{lane_count}
-use Rattle.model.specs.Layout.{chain_count, heads_at, lane_length, queue_width, free_at, global_queues_at, deposit_at, material_at}
+use Rattle.model.specs.Layout.{chain_count, max_slots, heads_at, lane_length, queue_width, free_at, global_queues_at, deposit_at, material_at}
 use Rattle.model.specs.Layout.{chain_link_at, queue_link_at, lanes_body, slots_body, slot_address}
 use Rattle.model.specs.Rules.{wrong_product}
 use Rattle.model.specs.Memory.{at, wide, sizes, slot_word, state}
@@ -17,6 +17,7 @@ use Rattle.engine_legality.specs.WordSentences.{engine_legal}
 pub record Table (t : Slots) (lane n : ℕ) : Type 0 where
   pub slots : t.base ≡ slots_body (sizes t.memory.now)
   pub count : t.count ≡ (sizes t.memory.now).slots
+  pub few : t.count ≤ max_slots
   pub lanes : lane ≡ lanes_body (sizes t.memory.now)
   pub lane_count : n ≡ lane_count (sizes t.memory.now)
   pub engine : engine_legal t.memory.now ≡ true

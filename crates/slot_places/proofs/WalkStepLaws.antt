@@ -229,6 +229,7 @@ module _ (t : Slots) (field : ℕ) (fits : ℕ → Bool) where
             fuel = w.fuel - 1;
             more = omega (arith, w.more, going-left);
             counted = record {
+              few = w.counted.few;
               marks = omega (arith, w.counted.marks, length-set s cur met);
               left = omega (arith, going-left);
             };

@@ -1,6 +1,7 @@
 -- The walks of the slots that the code hands on: what it knows of the marks before, and what it has then.
 use Rattle.std.specs.Prelude.{ℕ, ◌+◌, ◌≤◌, ◌≡◌, List, length, Option, Some, None}
 use Rattle.model.specs.Lists.{last}
+use Rattle.model.specs.Layout.{max_slots}
 use Rattle.distinct_codes.specs.declared.slots.Slots.{Slots}
 use Rattle.distinct_codes.specs.Cells.{spread, Held, clash, held, meets}
 use Rattle.distinct_codes.specs.Met.{code_of, Room}
@@ -24,6 +25,7 @@ module _ (t : Slots) where
 
   -- there are marks for the slots, and r of them have none
   pub record Counted (s : List ℕ) (r : ℕ) : Type 0 where
+    pub few : t.count ≤ max_slots
     pub marks : t.count ≤ length s
     pub left : r ≡ unmarked t.count s
 

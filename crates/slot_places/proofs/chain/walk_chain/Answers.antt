@@ -14,10 +14,9 @@ returns-then-not-chained_fits g c =
     c.chained_fits.ensures (not-true _ c.if-not-chained_fits.true-raw)
 
 pub meet-requires : goal.meet-requires
-meet-requires g c = (
-  search rules,
-  chain-asks _ _ _ _ _ _ _ _ _ _ _ c.loop-cur.invariant.0 c.loop-cur-test.true c.if-marks-c-ne0.false _ c.requires.2,
-)
+meet-requires g c =
+    let asks = chain-asks _ _ _ _ _ _ _ _ _ _ _ c.loop-cur.invariant.0 c.loop-cur-test.true c.if-marks-c-ne0.false _ c.requires.2 in
+    (search rules, (asks.0, omega (arith, c.requires.0.few, c.loop-cur-test.true), asks.1, asks.2))
 
 pub returns-then-not-meet : goal.returns-then-not-meet
 returns-then-not-meet g c =
