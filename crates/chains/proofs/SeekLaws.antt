@@ -8,7 +8,7 @@ use native.Mathlib.Omega.{arith}
 use lib.ListN.{length, get_or}
 use lib.Dec.{leb, eqb}
 use borrow.Author.Tests.{le-leb, lt-leb, eq-eqb, ne_eqb}
-use Rattle.std.specs.Prelude.{Some, None}
+use Rattle.std.specs.Prelude.{Ok, Err}
 use Rattle.model.specs.Word.{none}
 use Rattle.model.specs.State.{Sizes, Product}
 use Rattle.model.specs.Table.{product_at, slot_in}
@@ -17,21 +17,21 @@ use Rattle.laws.specs.Tests.{same, other, decide, eqb-self}
 use Rattle.laws.specs.Removals.{before_in}
 use Rattle.laws.specs.Walks.{stop, on, step, walk-stop, walk-on}
 use Rattle.chains.specs.declared.Found.{Found}
-use Rattle.chains.specs.Chain.{link_address, code_words, found_at, seek, found}
+use Rattle.chains.specs.Chain.{link_address, code_words, found_at, seek, sought}
 use Rattle.chains.specs.Chained.{before_code}
 
 -- ---- what was found
 
-found-real : (f : Found) → f.slot ≢ none → found f ≡ Some f
+found-real : (f : Found) → f.slot ≢ none → sought f ≡ Ok f
 found-real f n = rw (ne_eqb f.slot none n)
 
 -- ---- the loop
 
 module _ (m : List ℕ) (z : Sizes) (code : ℕ) where
   -- no step is left at slot i, p before it; r is what the whole search finds
-  pub seek-end : (p i : ℕ) (r : Found) → seek m z code 0 p i ≡ r → None ≡ found r
+  pub seek-end : (p i : ℕ) (r : Found) → seek m z code 0 p i ≡ r → Err p ≡ sought r
   unfolding seek
-  seek-end p i r inv = ap found inv
+  seek-end p i r inv = ap sought inv
 
   -- n steps are left, and k after this one
   module _ (n k p i : ℕ) (r : Found) (e : n ≡ suc k) (inv : seek m z code n p i ≡ r) where
@@ -39,13 +39,13 @@ module _ (m : List ℕ) (z : Sizes) (code : ℕ) where
     unfolding seek
     here = rw e at inv
 
-    pub seek-none : z.slots ≤ i → None ≡ found r
-    seek-none o = let w : found_at none p ≡ r = rw (le-leb z.slots i o) at here in ap found w
+    pub seek-none : z.slots ≤ i → Err p ≡ sought r
+    seek-none o = let w : found_at none p ≡ r = rw (le-leb z.slots i o) at here in ap sought w
 
-    pub seek_found : z.slots ≤ none → i < z.slots → code_words m z i ≡ code → Some (found_at i p) ≡ found r
+    pub seek_found : z.slots ≤ none → i < z.slots → code_words m z i ≡ code → Ok (found_at i p) ≡ sought r
     seek_found few o q =
         let w : found_at i p ≡ r = rw (lt-leb z.slots i o, eq-eqb _ _ q) at here in
-        sym (found-real (found_at i p) (λ x. omega arith)) ∙ ap found w
+        sym (found-real (found_at i p) (λ x. omega arith)) ∙ ap sought w
 
     pub seek-on : i < z.slots → (code_words m z i ≡ code → ⊥) → seek m z code k i (at m (link_address z i)) ≡ r
     seek-on o q = rw (lt-leb z.slots i o, ne_eqb _ _ q) at here

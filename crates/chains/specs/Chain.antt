@@ -1,6 +1,6 @@
 -- What the code does to a chain, in words of the memory: its head stands at `head`, in a table of sizes z. No legality is needed. A word
 -- that is no slot's number ends a chain, as none does.
-use Rattle.std.specs.Prelude.{ℕ, zero, suc, ◌+◌, ◌<◌, cond, Option, Some, None, List, set, leb, ltb, eqb}
+use Rattle.std.specs.Prelude.{ℕ, zero, suc, ◌+◌, ◌<◌, cond, Option, Some, None, Result, Ok, Err, List, set, leb, ltb, eqb}
 use Rattle.model.specs.Word.{none}
 use Rattle.model.specs.State.{Sizes}
 use Rattle.model.specs.Layout.{code_at, deposit_at, material_at, chain_link_at, slot_address}
@@ -33,7 +33,11 @@ module _ (m : List ℕ) (z : Sizes) (code : ℕ) where
       (found_at none p)
       (cond (eqb (code_words m z i) code) (found_at i p) (seek n i (at m (link_address z i))))
 
--- what was found: none where its slot is none
+-- what was found, or the slot at which the search ended: where its slot is none
+abbrev pub sought : Found → Result Found ℕ
+sought f = cond (eqb f.slot none) (Err f.prev) (Ok f)
+
+-- what was found, if its slot is not none
 abbrev pub found : Found → Option Found
 found f = cond (eqb f.slot none) None (Some f)
 

@@ -9,7 +9,7 @@ ghost use Rattle.model.specs.Layout.{slot_address};
 ghost use Rattle.model.specs.Memory.{at};
 ghost use Rattle.model.specs.Rules.{outcome_answer};
 ghost use Rattle.words.specs.Lent.{sizes_of, Lent};
-ghost use Rattle.chains.specs.Chain.{SlotLent, link_address, code_words, seek, found, pointed, linked_at_head, put_in_place, unlinked, product_set, cleared};
+ghost use Rattle.chains.specs.Chain.{SlotLent, link_address, code_words, seek, sought, pointed, linked_at_head, put_in_place, unlinked, product_set, cleared};
 ghost use Rattle.chains.specs.Outcome.{outcome_of, outcome_at, step_words};
 
 use words::product::Product;
@@ -64,25 +64,26 @@ fn code_of(m: &[u32], z: words::Sizes, slot: u32) -> u64
     words::code_at(m, z.slot_address(slot) + words::CODE_AT)
 }
 
-// Follows the chain from its head to the slot that holds the code, None where none does. The links of a chain lead to
-// each slot once, so slots + 1 steps are enough; a chain that comes round ends there too.
-pub fn find(m: &[u32], z: words::Sizes, head: u32, code: u64) -> Option<Found>
+// Follows the chain from its head to the slot that holds the code. Where none does, the slot at which the search ended is
+// the error, none where it met no slot. The links of a chain lead to each slot once, so slots + 1 steps are enough; a
+// chain that comes round ends there too.
+pub fn find(m: &[u32], z: words::Sizes, head: u32, code: u64) -> Result<Found, u32>
     requires { Lent m.now (sizes_of z) }
-    ensures { result ≡ found (seek m.now (sizes_of z) code (z.slots + 1) none head) }
+    ensures { result ≡ sought (seek m.now (sizes_of z) code (z.slots + 1) none head) }
 {
     let mut prev = words::NONE;
     let mut slot = head;
     for _ in 0..=z.slots {
         if slot >= z.slots {
-            return None;
+            return Err(prev);
         }
         if code_of(m, z, slot) == code {
-            return Some(Found { slot, prev });
+            return Ok(Found { slot, prev });
         }
         prev = slot;
         slot = chain_link(m, z, prev);
     }
-    None
+    Err(prev)
 }
 
 // What pointed at a slot, the link of `prev` or the head where that is no slot, points to `next`.

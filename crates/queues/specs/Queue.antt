@@ -1,6 +1,6 @@
 -- What the code does to a queue, in words of the memory: its first, last and length stand from `ends` on, in a table of sizes z. No legality is
 -- needed. A word that is no slot's number ends a queue, as none does; a length wraps.
-use Rattle.std.specs.Prelude.{ℕ, ◌+◌, ◌≤◌, cond, Option, Some, None, ◌≡◌, List, length, set, ltb}
+use Rattle.std.specs.Prelude.{ℕ, ◌+◌, ◌≤◌, cond, Result, Ok, Err, ◌≡◌, List, length, set, ltb}
 use Rattle.model.specs.Word.{none, less}
 use Rattle.model.specs.State.{Sizes}
 use Rattle.model.specs.Layout.{last_offset, length_offset, queue_width, queue_link_at, slot_address}
@@ -60,7 +60,7 @@ module _ (m : List ℕ) (z : Sizes) (ends : ℕ) where
       let f = at m ends in
       cond (ltb f z.slots) (begun_at (set m (link_address z f) none) z ends (at m (link_address z f))) m
 
--- taking the first answered r, none of an empty queue, and left the memory n
-pub record Taken (m : List ℕ) (z : Sizes) (ends : ℕ) (r : Option ℕ) (n : List ℕ) : Type 0 where
-  pub slot : r ≡ cond (ltb (at m ends) z.slots) (Some (at m ends)) None
+-- taking the first answered r, an error of an empty queue, and left the memory n
+pub record Taken (m : List ℕ) (z : Sizes) (ends : ℕ) (r : Result ℕ ℕ) (n : List ℕ) : Type 0 where
+  pub slot : r ≡ cond (ltb (at m ends) z.slots) (Ok (at m ends)) (Err (at m ends))
   pub memory : n ≡ less_first m z ends

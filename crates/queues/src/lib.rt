@@ -119,20 +119,20 @@ impl QueueAt {
         }
     }
 
-    // Takes the first slot of the queue and answers its number, None where the queue is empty.
+    // Takes the first slot of the queue and answers its number. Where the queue is empty, the word in its place is the error.
     #[tactic(auto, unfolding(crate::specs::Queue::less_first))]
-    pub fn take_first(self, m: &mut [u32], z: words::Sizes) -> Option<u32>
+    pub fn take_first(self, m: &mut [u32], z: words::Sizes) -> Result<u32, u32>
         requires { (Lent m.old (sizes_of z)) × Holds m.old self }
         ensures { Taken m.old (sizes_of z) self.ends result m.new }
     {
         let first = m[self.ends];
         if first >= z.slots {
-            return None;
+            return Err(first);
         }
         let i = z.slot_address(first) + words::QUEUE_LINK_AT;
         let next = m[i];
         m[i] = words::NONE;
         self.begin_at(m, z, next);
-        Some(first)
+        Ok(first)
     }
 }

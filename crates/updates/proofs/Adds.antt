@@ -7,6 +7,7 @@ use native.Mathlib.Omega.{arith}
 use lib.ListN.{length}
 use Rattle.std.specs.Prelude.{Option, Some, None, Result, Ok, Err}
 use Rattle.std.specs.Option.{is_some}
+use Rattle.std.specs.Result.{result_ok}
 use Rattle.std.specs.Result.{IsErrAnd}
 use Rattle.model.specs.Lists.{is_empty}
 use Rattle.model.specs.State.{Sizes}
@@ -41,18 +42,19 @@ use Rattle.updates.proofs.Deletes.{leaves}
 
 -- ---- the free slot
 
-pub none-filled : (m n : List ℕ) (z : Sizes) (p : Product) (r : Option ℕ) → Taken m z free_at None n → r ≡ None → Filled m z p r n
-none-filled m n z p r t e = subst (λ (x : Option ℕ). Filled m z p x n) (sym e) (none-taken m z free_at n t)
+pub none-filled : (m n : List ℕ) (z : Sizes) (p : Product) (r : Option ℕ) (t : Result ℕ ℕ) → Taken m z free_at t n → result_ok t ≡ None → r ≡ None
+    → Filled m z p r n
+none-filled m n z p r t u q e = subst (λ (x : Option ℕ). Filled m z p x n) (sym e) (none-taken m z free_at n t u q)
 
 -- taken, and then written
-pub slot-filled : (m n k : List ℕ) (z : Sizes) (p : Product) (o : ℕ) → Taken m z free_at (Some o) n
+pub slot-filled : (m n k : List ℕ) (z : Sizes) (p : Product) (t : Result ℕ ℕ) (o : ℕ) → Taken m z free_at t n → result_ok t ≡ Some o
     → k ≡ product_set n (slot_address z o) p.code p.deposit p.material → Filled m z p (Some o) k
-slot-filled m n k z p o t e =
-    let first = some-taken m z free_at n o t in
+slot-filled m n k z p t o u q e =
+    let first = some-taken m z free_at n t o u q in
     record {
       slot = first.0;
       inside = first.1;
-      memory = e ∙ ap (λ (y : List ℕ). product_set y (slot_address z o) p.code p.deposit p.material) t.memory;
+      memory = e ∙ ap (λ (y : List ℕ). product_set y (slot_address z o) p.code p.deposit p.material) u.memory;
     }
 
 module _ (m : List ℕ) (l : Lane) (k : Named m l) where

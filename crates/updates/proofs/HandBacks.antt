@@ -6,6 +6,7 @@ use mathlib.Core.List.{List, [], ◌∷◌}
 use native.Mathlib.Omega.{arith}
 use lib.Dec.{ltb}
 use Rattle.std.specs.Prelude.{Option, Some, None, Result, Ok, Err}
+use Rattle.std.specs.Result.{result_ok}
 use Rattle.std.specs.Result.{IsErrAnd}
 use Rattle.model.specs.Lists.{is_empty, first}
 use Rattle.model.specs.State.{Sizes, lane_count, State}
@@ -91,19 +92,20 @@ module _ (m : List ℕ) (l : Lane) (k : LaneIn m l) where
 
 -- ---- what it takes
 
-pub none-reclaimed : (m n : List ℕ) (z : Sizes) (ends : ℕ) (r : Option ℕ) → Taken m z ends None n → r ≡ None → Reclaimed m z ends r n
-none-reclaimed m n z ends r t e = subst (λ (x : Option ℕ). Reclaimed m z ends x n) (sym e) (none-taken m z ends n t)
+pub none-reclaimed : (m n : List ℕ) (z : Sizes) (ends : ℕ) (r : Option ℕ) (t : Result ℕ ℕ) → Taken m z ends t n → result_ok t ≡ None → r ≡ None
+    → Reclaimed m z ends r n
+none-reclaimed m n z ends r t u q e = subst (λ (x : Option ℕ). Reclaimed m z ends x n) (sym e) (none-taken m z ends n t u q)
 
 -- taken, then cleared, and then appended
-pub slot-reclaimed : (m n k j : List ℕ) (z : Sizes) (ends o : ℕ) → Taken m z ends (Some o) n → k ≡ cleared n (slot_address z o)
-    → j ≡ appended k z free_at o → Reclaimed m z ends (Some o) j
-slot-reclaimed m n k j z ends o t e f =
-    let first = some-taken m z ends n o t in
+pub slot-reclaimed : (m n k j : List ℕ) (z : Sizes) (ends : ℕ) (t : Result ℕ ℕ) (o : ℕ) → Taken m z ends t n → result_ok t ≡ Some o
+    → k ≡ cleared n (slot_address z o) → j ≡ appended k z free_at o → Reclaimed m z ends (Some o) j
+slot-reclaimed m n k j z ends t o u q e f =
+    let first = some-taken m z ends n t o u q in
     record {
       slot = first.0;
       inside = first.1;
       memory =
-          f ∙ ap (λ (y : List ℕ). appended y z free_at o) e ∙ ap (λ (y : List ℕ). appended (cleared y (slot_address z o)) z free_at o) t.memory;
+          f ∙ ap (λ (y : List ℕ). appended y z free_at o) e ∙ ap (λ (y : List ℕ). appended (cleared y (slot_address z o)) z free_at o) u.memory;
     }
 
 module _ (m : List ℕ) (l : Lane) (k : Named m l) where

@@ -5,7 +5,8 @@ use mathlib.Core.Bool.{Bool, true, false, not, cond}
 use mathlib.Core.List.{List}
 use native.Mathlib.Omega.{arith}
 use lib.ListN.{length}
-use Rattle.std.specs.Prelude.{Option, Some, None}
+use Rattle.std.specs.Prelude.{Option, Some, None, Result, Ok, Err}
+use Rattle.std.specs.Result.{result_ok}
 use lib.Dec.{ltb, eqb}
 use borrow.Author.Tests.{lt-ltb, le-ltb, ltb-true, ltb-false}
 use Rattle.model.specs.Word.{none}
@@ -115,17 +116,19 @@ module _ (m : List ℕ) (z : Sizes) (k : TableIn m z) where
 -- ---- the first of a queue, taken or not
 
 module _ (m : List ℕ) (z : TableSizes) (ends : ℕ) (n : List ℕ) where
-  pub none-taken : Taken m z ends None n → NoneIn m z ends n
+  pub none-taken : (r : Result ℕ ℕ) → Taken m z ends r n → result_ok r ≡ None → NoneIn m z ends n
   unfolding less_first
-  none-taken t = go (ltb (at m ends) z.slots) refl
+  none-taken r t q = go (ltb (at m ends) z.slots) refl
     where
       go : (b : Bool) → ltb (at m ends) z.slots ≡ b → NoneIn m z ends n
-      go true e = absurd (let clash = rw e at t.slot in cc)
+      go true e = absurd (let clash : Some (at m ends) ≡ None = sym (ap result_ok (rw e at t.slot)) ∙ q in cc)
       go false e = record { empty = ltb-false (at m ends) z.slots e; memory = t.memory ∙ rw e }
 
-  pub some-taken : (o : ℕ) → Taken m z ends (Some o) n → (o ≡ at m ends) × (o < z.slots)
-  some-taken o t = go (ltb (at m ends) z.slots) refl
+  pub some-taken : (r : Result ℕ ℕ) (o : ℕ) → Taken m z ends r n → result_ok r ≡ Some o → (o ≡ at m ends) × (o < z.slots)
+  some-taken r o t q = go (ltb (at m ends) z.slots) refl
     where
       go : (b : Bool) → ltb (at m ends) z.slots ≡ b → (o ≡ at m ends) × (o < z.slots)
-      go true e = let same : o ≡ at m ends = (let s = rw e at t.slot in cc) in (same, omega (arith, ltb-true (at m ends) z.slots e))
-      go false e = absurd (let clash = rw e at t.slot in cc)
+      go true e =
+          let same : o ≡ at m ends = (let s : Some (at m ends) ≡ Some o = sym (ap result_ok (rw e at t.slot)) ∙ q in cc) in
+          (same, omega (arith, ltb-true (at m ends) z.slots e))
+      go false e = absurd (let clash : None ≡ Some o = sym (ap result_ok (rw e at t.slot)) ∙ q in cc)

@@ -41,7 +41,7 @@ fn search(m: &[u32], z: words::Sizes, code: u64) -> Option<Found>
     ensures { result ≡ found (search_words (sizes_of z) m.now code) }
 {
     let head = access::head_address(code);
-    chains::find(m, z, m[head], code)
+    chains::find(m, z, m[head], code).ok()
 }
 
 // ---- delete
@@ -97,7 +97,7 @@ fn fill(m: &mut [u32], z: words::Sizes, product: Product) -> Option<u32>
     requires { QueueIn m.old (sizes_of z) free_at }
     ensures { Filled m.old (sizes_of z) product result m.new }
 {
-    let slot = queues::FREE.take_first(m, z)?;
+    let slot = queues::FREE.take_first(m, z).ok()?;
     chains::write_product(m, z, slot, product);
     Some(slot)
 }
@@ -166,7 +166,7 @@ fn reclaim(m: &mut [u32], z: words::Sizes, queue: QueueAt) -> Option<u32>
     requires { QueueIn m.old (sizes_of z) queue.ends }
     ensures { Reclaimed m.old (sizes_of z) queue.ends result m.new }
 {
-    let slot = queue.take_first(m, z)?;
+    let slot = queue.take_first(m, z).ok()?;
     chains::clear_slot(m, z, slot);
     queues::FREE.append(m, z, slot);
     Some(slot)
