@@ -51,7 +51,11 @@ skipped (c ∷ cs) ds h = rw h.0 (skipped cs ds h.1)
 first-of-others : (cs ds : List Cause) (x : ℕ) → Numbered cs → x ≡ first_cause cs → (n : ℕ) → x ≤ 0 → n ≡ first_cause ds → n ≡ first_cause (cs ++ ds)
 first-of-others cs ds x k e n h q = let z : x ≡ 0 = omega arith in q ∙ sym (skipped cs ds (clear cs k (sym e ∙ z)))
 
--- so for an entry of the office
+-- so for a lane, and for an entry of the office
+pub lane-goes-by : (s : State) (i : ℕ) (cs : List Cause) (x : ℕ) → x ≡ first_cause (of_lane s i []) → (n : ℕ) → x ≤ 0 → n ≡ first_cause cs
+    → n ≡ first_cause (of_lane s i cs)
+lane-goes-by s i cs x e = first-of-others (of_lane s i []) cs x (omega arith) e
+
 pub entry-goes-by : (s : State) (i c d m : ℕ) (cs : List Cause) (x : ℕ) → x ≡ first_cause (of_entry s i c d m []) → (n : ℕ) → x ≤ 0 → n ≡ first_cause cs
     → n ≡ first_cause (of_entry s i c d m cs)
 entry-goes-by s i c d m cs x e = first-of-others (of_entry s i c d m []) cs x (omega arith) e

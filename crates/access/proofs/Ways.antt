@@ -1,5 +1,5 @@
 -- The three ways out of a call: the memory is not legal, a cause refuses it, or none does.
-use Prim.Native.Nat.{ℕ, zero, suc, ◌≤◌}
+use Prim.Native.Nat.{ℕ, zero, suc, ◌≤◌, ◌<◌}
 use mathlib.Core.Path.{◌≡◌, refl, sym, ap, ◌∙◌}
 use mathlib.Core.Bool.{Bool, true, false, not}
 use mathlib.Core.List.{List}
@@ -37,18 +37,18 @@ module _ (m : List ℕ) (k : Op) where
       record { answer = sym (reply-illegal m k h); memory = sym (left-illegal m k h) }
 
   module _ (v : Sound m) where
-    pub refuses : (e : Cause) (r : Result (List ℕ) Cause) → number_of e ≡ refusal (state m) k → IsErrAnd r (λ d. d ≡ e) → Does (on_state k) m (answer_of r) m
+    -- by any number above 0
+    pub refuses : (x : ℕ) (r : Answer) → x ≡ refusal (state m) k → 0 < x → five r ≡ refused x → Does (on_state k) m r m
     unfolding answer next
-    refuses e r q h = let p = err_from_is_err_and r h in rw (p.1, p.2) (go (number_of e) refl)
-      where
-        go : (x : ℕ) → number_of e ≡ x → Does (on_state k) m (answer_of (Err e)) m
-        go zero z = absurd (omega (arith, numbered e))
-        go (suc x) z =
-            let i : refusal (state m) k ≡ suc x = sym q ∙ z in
-            record {
-              answer = ap refused z ∙ sym (reply-legal m k v.lawful ∙ ap (λ (y : ℕ). answer_by (state m) y k) i);
-              memory = sym (left-legal m k v.lawful v.words ∙ ap (λ (y : ℕ). stored (next_of (state m) y k) m) i ∙ stored-state m v.lawful v.words);
-            }
+    refuses zero r e b f = absurd (omega arith)
+    refuses (suc x) r e b f = record {
+      answer = f ∙ sym (reply-legal m k v.lawful ∙ ap (λ (y : ℕ). answer_by (state m) y k) (sym e));
+      memory = sym (left-legal m k v.lawful v.words ∙ ap (λ (y : ℕ). stored (next_of (state m) y k) m) (sym e) ∙ stored-state m v.lawful v.words);
+    }
+
+    -- by the cause that the code answers
+    pub cause-refuses : (e : Cause) (r : Result (List ℕ) Cause) → number_of e ≡ refusal (state m) k → IsErrAnd r (λ d. d ≡ e) → Does (on_state k) m (answer_of r) m
+    cause-refuses e r q h = let p = err_from_is_err_and r h in rw (p.1, p.2) (refuses (number_of e) (answer_of (Err e)) q (omega (arith, numbered e)) refl)
 
     pub performs : 0 ≡ refusal (state m) k → (r : Answer) (n : List ℕ) → five r ≡ result (state m) k → n ≡ stored (performed (state m) k) m
         → Does (on_state k) m r n

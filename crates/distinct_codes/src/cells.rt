@@ -10,9 +10,13 @@ use crate::slots::Slots;
 use arrayvec::ArrayVec;
 
 // cells of a table of few slots, and of one of more: powers of two, so that no code is divided
-pub const FEW_CELLS: usize = 64;
+pub const FEW: u64 = 64;
 
-pub const MANY_CELLS: usize = 4096;
+pub const MANY: u64 = 4096;
+
+pub const FEW_CELLS: usize = FEW as usize;
+
+pub const MANY_CELLS: usize = MANY as usize;
 
 // the spreading function: factors of a code's words, and what is dropped of the sum
 const LOW_FACTOR: u64 = 1306944375;

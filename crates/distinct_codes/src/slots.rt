@@ -1,16 +1,16 @@
 // The slots of a lent memory: where slot 0's words begin, and how many slots there are.
-ghost use Rattle.std.specs.Prelude.{◌≡◌, ◌+◌, ◌*◌, ◌<◌, ◌≤◌, length};
+ghost use Rattle.std.specs.Prelude.{◌≡◌, ◌+◌, ◌-◌, ◌*◌, ◌<◌, ◌≤◌, length};
 ghost use Rattle.model.specs.Layout.{slot_length};
 ghost use Rattle.model.specs.Memory.{at};
 ghost use Rattle.distinct_codes.specs.Cells.{code_at};
 
-// They lie in the memory.
+// They lie in the memory; where there is none, their words may begin anywhere.
 #[derive(Clone, Copy)]
 pub struct Slots<'a> {
     pub memory: &'a [u32],
     pub base: usize,
     pub count: u32,
-    ghost within: { base + slot_length * count ≤ length memory.now },
+    ghost within: { slot_length * count ≤ length memory.now - base },
 }
 
 impl<'a> Slots<'a> {

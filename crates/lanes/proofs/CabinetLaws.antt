@@ -96,7 +96,7 @@ module _ (m : List ℕ) (z : Sizes) (l : Place) (lane : LaneLent m z l) (i j : �
     record_after = k.record_after;
     given = subst (λ (r : LaneRecord). gives r k.record_after) (lane-record-by _ refl) k.given;
     stored =
-        part-stored m l.start n j (omega (arith, lane.place)) k.record_after w k.stored
+        part-changed m l.start n j (omega (arith, lane.place)) (λ (r : LaneRecord). k.record_after) w k.stored
         ∙ ap (λ (a : ℕ). record_stored m a k.record_after) at-lane;
   }
 

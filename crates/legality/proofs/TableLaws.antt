@@ -349,7 +349,7 @@ module _ (t : Slots) (lane n : ℕ) (y : Table t lane n) (R : ℕ) (c : CellCoun
       };
       most = omega (arith, ap length l.aside);
     },
-    omega (arith, t.within, y.slots),
+    omega (arith, y.inside, y.slots),
   )
 
   spread-below : (x : ℕ) → spread R x < length k
@@ -385,7 +385,7 @@ module _ (t : Slots) (lane n : ℕ) (y : Table t lane n) (R : ℕ) (c : CellCoun
 
     -- what the queues ask for, and the codes put aside
     pub queues-asks : Counted t u x × (masks_at ≤ length m) × (lane + lane_length * n ≤ length m)
-    queues-asks = (passed.2, omega (arith, t.within, y.slots), omega (arith, t.within, y.slots, y.lanes, y.lane_count))
+    queues-asks = (passed.2, omega (arith, y.inside, y.slots), omega (arith, y.inside, y.slots, y.lanes, y.lane_count))
 
     pub apart-asks : Listed t b
     apart-asks = record { members = passed.3.room.members; few = omega (arith, passed.2.few, passed.3.most) }

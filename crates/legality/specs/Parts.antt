@@ -1,5 +1,5 @@
 -- Legality's sentences about the slots, as the check decides them, and the walks of the queues.
-use Rattle.std.specs.Prelude.{ℕ, ◌+◌, ◌≡◌, ◌≤◌, Bool, true, not, List, [], ◌∷◌, ◌++◌}
+use Rattle.std.specs.Prelude.{ℕ, ◌+◌, ◌≡◌, ◌≤◌, Bool, true, not, List, [], ◌∷◌, ◌++◌, length}
 use Rattle.model.specs.Lists.{all, every, from}
 use Rattle.model.specs.State.{lane_count}
 use Rattle.model.specs.Layout.{chain_count, max_slots, heads_at, lane_length, queue_width, free_at, global_queues_at, deposit_at, material_at}
@@ -18,6 +18,7 @@ pub record Table (t : Slots) (lane n : ℕ) : Type 0 where
   pub slots : t.base ≡ slots_body (sizes t.memory.now)
   pub count : t.count ≡ (sizes t.memory.now).slots
   pub few : t.count ≤ max_slots
+  pub inside : t.base ≤ length t.memory.now
   pub lanes : lane ≡ lanes_body (sizes t.memory.now)
   pub lane_count : n ≡ lane_count (sizes t.memory.now)
   pub engine : engine_legal t.memory.now ≡ true

@@ -27,9 +27,9 @@ use Rattle.engine.proofs.ClockLaws.{clock-stored, clock-answer, clock-shape}
 use Rattle.access.specs.declared.Answer.{Answer}
 use Rattle.access.specs.declared.Lane.{Lane}
 use Rattle.access.specs.Contract.{five, Does}
-use Rattle.access.specs.Lanes.{LaneIn, place_of, Placed}
-use Rattle.access.proofs.Ways.{performs, shown, well_formed, in_range}
-use Rattle.access.proofs.LaneLaws.{cabinet-known, place-lent, lane_of}
+use Rattle.access.specs.Lanes.{Named, LaneIn, place_of, Placed}
+use Rattle.access.proofs.Ways.{performs, passed, shown, well_formed, in_range}
+use Rattle.access.proofs.LaneLaws.{lane-known, cabinet-known, place-lent, lane_of}
 use Rattle.periods.specs.Ticks.{runs_in, done_words}
 use Rattle.periods.proofs.MovedLaws.{moved-shown}
 
@@ -55,26 +55,21 @@ module _ (m : List ℕ) (l : Lane) (k : LaneIn m l) where
   pub placed-lent : (p : Place) → Placed l p → LaneLent m (sizes_of l.sizes) p
   placed-lent p e = place-lent m l p k e.place
 
-  stands : (p : Place) → Placed l p → p ≡ place_of z i
-  stands p e = e.place ∙ ap (λ (x : Sizes). place_of x i) k.named.sizes
+  stands : (p : Place) → p ≡ place_of (sizes_of l.sizes) i → p ≡ place_of z i
+  stands p e = e ∙ ap (λ (x : Sizes). place_of x i) k.named.sizes
 
   -- ---- off
 
-  off-words : (p : Place) → Placed l p → off_words m (sizes_of l.sizes) p ≡ stored (performed (state m) (off i)) m
+  off-words : (p : Place) → p ≡ place_of (sizes_of l.sizes) i → off_words m (sizes_of l.sizes) p ≡ stored (performed (state m) (off i)) m
   unfolding state
   off-words p e =
       ap₂ (off_words m) k.named.sizes (stands p e)
       ∙ off-stored (state m) m (shown m v) (well_formed m v) _ _ (cabinet-known m l k) in_places
       ∙ ap (λ (j : ℕ). stored (performed (state m) (off j)) m) (lane_of z i)
 
-  pub off-done : 0 ≡ refusal (state m) (off i) → (p : Place) → Placed l p → (r : Answer) (n : List ℕ) → five r ≡ zeros → n ≡ off_words m (sizes_of l.sizes) p
-      → Does (on_state (off i)) m r n
-  unfolding result
-  off-done e p q r n f g = performs m (off i) v e r n f (g ∙ off-words p q)
-
   -- ---- clock
 
-  clock-words : (p : Place) → Placed l p → clock_words m (sizes_of l.sizes) p ≡ stored (performed (state m) (clock i)) m
+  clock-words : (p : Place) → p ≡ place_of (sizes_of l.sizes) i → clock_words m (sizes_of l.sizes) p ≡ stored (performed (state m) (clock i)) m
   unfolding state
   clock-words p e =
       ap₂ (clock_words m) k.named.sizes (stands p e)
@@ -99,12 +94,25 @@ module _ (m : List ℕ) (l : Lane) (k : LaneIn m l) where
         ap₂ (accepted (at n current_generation_at) (at n largest_generation_at)) (turned (eqb (at n yard_mask_at) 0) 1 0) clock-moved
         ∙ clock-answer (state m) m (shown m v) (well_formed m v) _ _ (cabinet-known m l k) in_places i (sym (lane_of z i)) n e
 
+-- ---- the calls that no cause refuses
+
+module _ (m : List ℕ) (l : Lane) (k : Named m l) where
+  pub off-done : 0 ≡ refusal (state m) (off l.number) → (p : Place) → p ≡ place_of (sizes_of l.sizes) l.number → (r : Answer) (n : List ℕ) → five r ≡ zeros
+      → n ≡ off_words m (sizes_of l.sizes) p → Does (on_state (off l.number)) m r n
+  unfolding result
+  off-done e p q r n f g =
+      let w : LaneIn m l = lane-known m l k (passed m (off l.number) e).lane.known in
+      performs m (off l.number) k.sound e r n f (g ∙ off-words m l w p q)
+
   -- done queues had b slots before the clock, a after it, and d more; t is 1 if a period runs
-  pub clock-done : 0 ≡ first_cause (of_lane (state m) i []) → (p : Place) → Placed l p → (n : List ℕ) → n ≡ clock_words m (sizes_of l.sizes) p
-      → (b a d t : ℕ) → b ≡ done_words m l.address → a ≡ done_words n l.address → d ≡ less a b → t ≡ cond (runs_in n) 1 0
-      → (r : Answer) → five r ≡ accepted (at n current_generation_at) (at n largest_generation_at) t d → Does (on_state (clock i)) m r n
+  pub clock-done : 0 ≡ first_cause (of_lane (state m) l.number []) → (p : Place) → p ≡ place_of (sizes_of l.sizes) l.number → (n : List ℕ)
+      → n ≡ clock_words m (sizes_of l.sizes) p → (b a d t : ℕ) → b ≡ done_words m l.address → a ≡ done_words n l.address → d ≡ less a b
+      → t ≡ cond (runs_in n) 1 0 → (r : Answer) → five r ≡ accepted (at n current_generation_at) (at n largest_generation_at) t d
+      → Does (on_state (clock l.number)) m r n
   clock-done e p q n g b a d t eb ea ed et r f =
-      let w : n ≡ stored (performed (state m) (clock i)) m = g ∙ clock-words p q in
-      performs m (clock i) v (clock-refusal (state m) i 0 e) r n
-      (f ∙ ap₂ (accepted (at n current_generation_at) (at n largest_generation_at)) et (ed ∙ ap₂ less ea eb) ∙ clock-answers n w)
-      w
+      let c = clock-refusal (state m) l.number 0 e in
+      let w : LaneIn m l = lane-known m l k (passed m (clock l.number) c).known in
+      let y : n ≡ stored (performed (state m) (clock l.number)) m = g ∙ clock-words m l w p q in
+      performs m (clock l.number) k.sound c r n
+      (f ∙ ap₂ (accepted (at n current_generation_at) (at n largest_generation_at)) et (ed ∙ ap₂ less ea eb) ∙ clock-answers m l w n y)
+      y

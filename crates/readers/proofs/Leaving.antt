@@ -23,9 +23,9 @@ use Rattle.access.specs.declared.Answer.{Answer}
 use Rattle.access.specs.declared.Lane as code
 use Rattle.access.specs.Contract.{five, Does}
 use Rattle.access.specs.Flags.{flag_put}
-use Rattle.access.specs.Lanes.{LaneIn}
-use Rattle.access.proofs.Ways.{performs, shown, well_formed, long}
-use Rattle.access.proofs.LaneLaws.{lane-again}
+use Rattle.access.specs.Lanes.{Named, LaneIn}
+use Rattle.access.proofs.Ways.{performs, passed, shown, well_formed, long}
+use Rattle.access.proofs.LaneLaws.{lane-known, lane-again}
 use Rattle.readers.specs.Lookups.{lookup_stored}
 use Rattle.readers.proofs.FlagCalls.{flag-stored, reads}
 use Rattle.readers.proofs.LookupLaws.{lookup-stored}
@@ -69,8 +69,10 @@ module _ (m : List ℕ) (l : code.Lane) (k : LaneIn m l) where
 
 -- ---- the call that no cause refuses
 
-module _ (m : List ℕ) (l : code.Lane) (k : LaneIn m l) where
+module _ (m : List ℕ) (l : code.Lane) (k : Named m l) where
   pub end-done : 0 ≡ refusal (state m) (end l.number) → (r : Answer) (n o : List ℕ) → five r ≡ zeros → n ≡ lookup_stored m l.address idle
       → o ≡ flag_put n l.address reading_bit false → Does (on_state (end l.number)) m r o
   unfolding result performed
-  end-done e r n o f g q = performs m (end l.number) k.named.sound e r o f (q ∙ left-stored m l k n g)
+  end-done e r n o f g q =
+      let w = lane-known m l k (passed m (end l.number) e).lane.known in
+      performs m (end l.number) k.sound e r o f (q ∙ left-stored m l w n g)

@@ -27,8 +27,9 @@ use Rattle.access.specs.declared.Answer.{Answer}
 use Rattle.access.specs.declared.Lane.{Lane}
 use Rattle.access.specs.Contract.{five, Does}
 use Rattle.access.specs.Flags.{flag_put}
-use Rattle.access.specs.Lanes.{LaneIn}
-use Rattle.access.proofs.Ways.{performs, shown, well_formed}
+use Rattle.access.specs.Lanes.{Named, LaneIn}
+use Rattle.access.proofs.Ways.{performs, passed, shown, well_formed}
+use Rattle.access.proofs.LaneLaws.{lane-known}
 use Rattle.access.proofs.FlagLaws.{word-shown, flags-shown, flags-lookup}
 use Rattle.readers.specs.declared.Lookup as code
 use Rattle.readers.specs.Lookups.{lookup_of, lookup_stored, Looking}
@@ -54,16 +55,17 @@ lookup-stored m l k h =
 
 -- ---- start
 
-pub start-done : (m : List ℕ) (l : Lane) (c : ℕ) → LaneIn m l → 0 ≡ refusal (state m) (start l.number c)
+pub start-done : (m : List ℕ) (l : Lane) (c : ℕ) → Named m l → 0 ≡ refusal (state m) (start l.number c)
     → (p : ℕ) (r : Answer) (n : List ℕ) → p ≡ first (chain_of (state m).table c) → five r ≡ zeros → n ≡ lookup_stored m l.address (running c p)
     → Does (on_state (start l.number c)) m r n
 unfolding result state
 start-done m l c k e p r n ep er en =
-    let v = k.named.sound in
+    let v = k.sound in
+    let w = lane-known m l k (passed m (start l.number c) e).lane.known in
     performs m (start l.number c) v e r n er
     (en ∙ ap (λ (x : ℕ). lookup_stored m l.address (running c x)) ep
-    ∙ lookup-stored m l (running c (first (chain_of (state m).table c))) k
-    ∙ start-stored (state m) m (shown m v) (well_formed m v) l.number c k.known)
+    ∙ lookup-stored m l (running c (first (chain_of (state m).table c))) w
+    ∙ start-stored (state m) m (shown m v) (well_formed m v) l.number c w.known)
 
 -- ---- a running lookup
 

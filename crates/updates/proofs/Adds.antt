@@ -32,7 +32,7 @@ use Rattle.access.specs.Causes.{number_of, answer_of}
 use Rattle.access.specs.Contract.{Does}
 use Rattle.access.specs.Lanes.{Named, LaneIn}
 use Rattle.access.specs.TableSizes.{TableIn}
-use Rattle.access.proofs.Ways.{refuses, performs, passed, shown, well_formed}
+use Rattle.access.proofs.Ways.{cause-refuses, performs, passed, shown, well_formed}
 use Rattle.access.proofs.Refusals.{entry-stops}
 use Rattle.access.proofs.TableReads.{table-of-lane}
 use Rattle.updates.specs.UpdateStores.{NoneIn, Leaves, FilledAt, Filled}
@@ -86,7 +86,7 @@ module _ (m : List ℕ) (l : Lane) (k : Named m l) (p : Product) where
   pub add-entry : (e : Cause) (r : Result (List ℕ) Cause) → number_of e ≡ first_cause (of_entry (state m) l.number p.code p.deposit p.material [])
       → IsErrAnd r (λ d. d ≡ e) → Does (on_state adds) m (answer_of r) m
   unfolding causes
-  add-entry e r q h = refuses m adds k.sound e r (entry-stops {T = List ℕ} (state m) l.number p.code p.deposit p.material _ e (Err e) q refl) h
+  add-entry e r q h = cause-refuses m adds k.sound e r (entry-stops {T = List ℕ} (state m) l.number p.code p.deposit p.material _ e (Err e) q refl) h
 
   -- none of them does
   module _ (entry : 0 ≡ first_cause (of_entry (state m) l.number p.code p.deposit p.material [])) (o : Option Found)
@@ -100,7 +100,7 @@ module _ (m : List ℕ) (l : Lane) (k : Named m l) (p : Product) where
           go None q = let clash = rw q at (sym eb ∙ t) in absurd cc
           go (Some f) q =
               let here = (some-found m l.sizes (table m l k) p.code o eo f q).1 in
-              refuses m adds k.sound CodePresent (Err CodePresent) (sym (after-entry (state m) l.number p.code p.deposit p.material entry add_others ∙ rw here)) refl
+              cause-refuses m adds k.sound CodePresent (Err CodePresent) (sym (after-entry (state m) l.number p.code p.deposit p.material entry add_others ∙ rw here)) refl
 
       module _ (t : b ≡ false) where
         absent : present (state m).table p.code ≡ false
@@ -116,7 +116,7 @@ module _ (m : List ℕ) (l : Lane) (k : Named m l) (p : Product) where
           add-none q r h =
               let none = none-free m l k p s n u q in
               subst (Does (on_state adds) m (answer_of r)) (sym none.1)
-              (refuses m adds k.sound NoFreeSlot r (sym (after-entry (state m) l.number p.code p.deposit p.material entry add_others ∙ rw (absent, none.0))) h)
+              (cause-refuses m adds k.sound NoFreeSlot r (sym (after-entry (state m) l.number p.code p.deposit p.material entry add_others ∙ rw (absent, none.0))) h)
 
           module _ (i : ℕ) (q : s ≡ Some i) where
             f : FilledAt m (sizes_of l.sizes) p i n
@@ -151,7 +151,7 @@ module _ (m : List ℕ) (l : Lane) (k : Named m l) (p : Product) where
   pub replace-entry : (e : Cause) (r : Result (List ℕ) Cause) → number_of e ≡ first_cause (of_entry (state m) l.number p.code p.deposit p.material [])
       → IsErrAnd r (λ d. d ≡ e) → Does (on_state replaces) m (answer_of r) m
   unfolding causes
-  replace-entry e r q h = refuses m replaces k.sound e r (entry-stops {T = List ℕ} (state m) l.number p.code p.deposit p.material _ e (Err e) q refl) h
+  replace-entry e r q h = cause-refuses m replaces k.sound e r (entry-stops {T = List ℕ} (state m) l.number p.code p.deposit p.material _ e (Err e) q refl) h
 
   module _ (entry : 0 ≡ first_cause (of_entry (state m) l.number p.code p.deposit p.material [])) (o : Option Found)
       (eo : o ≡ found (search_words (sizes_of l.sizes) m p.code))
@@ -160,7 +160,7 @@ module _ (m : List ℕ) (l : Lane) (k : Named m l) (p : Product) where
       unfolding causes first_cause
       replace-missing q r h =
           let absent = none-found m l.sizes (table m l k) p.code o eo q in
-          refuses m replaces k.sound CodeMissing r (sym (after-entry (state m) l.number p.code p.deposit p.material entry replace_others ∙ rw absent)) h
+          cause-refuses m replaces k.sound CodeMissing r (sym (after-entry (state m) l.number p.code p.deposit p.material entry replace_others ∙ rw absent)) h
 
       module _ (f : Found) (q : o ≡ Some f) (s : Option ℕ) (n : List ℕ) (u : Filled m (sizes_of l.sizes) p s n) where
         ef : f ≡ search_words (sizes_of l.sizes) m p.code
@@ -174,7 +174,7 @@ module _ (m : List ℕ) (l : Lane) (k : Named m l) (p : Product) where
         replace-none e r h =
             let none = none-free m l k p s n u e in
             subst (Does (on_state replaces) m (answer_of r)) (sym none.1)
-            (refuses m replaces k.sound NoFreeSlot r (sym (after-entry (state m) l.number p.code p.deposit p.material entry replace_others ∙ rw (here, none.0))) h)
+            (cause-refuses m replaces k.sound NoFreeSlot r (sym (after-entry (state m) l.number p.code p.deposit p.material entry replace_others ∙ rw (here, none.0))) h)
 
         module _ (i : ℕ) (e : s ≡ Some i) where
           g : FilledAt m (sizes_of l.sizes) p i n

@@ -1,6 +1,6 @@
 -- The causes of an update, tested one after another: where none of those of its lane or of an entry applies, the others decide.
 use mathlib.Core.Path.{◌≡◌, refl, sym, subst}
-use mathlib.Core.List.{List, [], ◌∷◌, ◌++◌}
+use mathlib.Core.List.{List, []}
 use native.Mathlib.Omega.{arith}
 use Prim.Native.Nat.{ℕ}
 use Rattle.std.specs.Prelude.{Option, Some, None, Result, Err}
@@ -8,19 +8,14 @@ use Rattle.std.specs.Option.{ok_or}
 use Rattle.std.specs.Result.{IsErrAnd}
 use Rattle.model.specs.State.{State}
 use Rattle.model.specs.Rules.{Cause, first_cause, of_lane, of_entry}
-use Rattle.representation.proofs.Causes.Passed.{Clear, clear}
 use Rattle.access.specs.declared.causes.Cause.{Cause as Refusal}
-
-skipped : (cs ds : List Cause) → Clear cs → first_cause (cs ++ ds) ≡ first_cause ds
-unfolding first_cause
-skipped [] ds h = refl
-skipped (c ∷ cs) ds h = rw h.0 (skipped cs ds h.1)
+use Rattle.access.proofs.Refusals.{lane-goes-by, entry-goes-by}
 
 pub after-lane : (s : State) (i : ℕ) → 0 ≡ first_cause (of_lane s i []) → (cs : List Cause) → first_cause (of_lane s i cs) ≡ first_cause cs
-after-lane s i e cs = skipped (of_lane s i []) cs (clear (of_lane s i []) (omega arith) (sym e))
+after-lane s i e cs = sym (lane-goes-by s i cs 0 e (first_cause cs) (omega arith) refl)
 
 pub after-entry : (s : State) (i c d t : ℕ) → 0 ≡ first_cause (of_entry s i c d t []) → (cs : List Cause) → first_cause (of_entry s i c d t cs) ≡ first_cause cs
-after-entry s i c d t e cs = skipped (of_entry s i c d t []) cs (clear (of_entry s i c d t []) (omega arith) (sym e))
+after-entry s i c d t e cs = sym (entry-goes-by s i c d t cs 0 e (first_cause cs) (omega arith) refl)
 
 -- ---- None, made a cause x by `ok_or`, which is handed on
 

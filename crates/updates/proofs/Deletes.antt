@@ -28,7 +28,7 @@ use Rattle.access.specs.declared.causes.Cause.TheVariants.{OutOfRange, CodeMissi
 use Rattle.access.specs.Causes.{number_of, answer_of}
 use Rattle.access.specs.Contract.{Does}
 use Rattle.access.specs.Lanes.{Named, LaneIn}
-use Rattle.access.proofs.Ways.{refuses, performs, passed, shown, well_formed}
+use Rattle.access.proofs.Ways.{cause-refuses, performs, passed, shown, well_formed}
 use Rattle.access.proofs.Refusals.{lane-stops}
 use Rattle.access.proofs.TableReads.{table-of-lane}
 use Rattle.updates.specs.UpdateStores.{Leaves}
@@ -59,20 +59,20 @@ module _ (m : List ℕ) (l : Lane) (k : Named m l) (c : ℕ) where
   pub delete-lane : (e : Cause) (r : Result (List ℕ) Cause) → number_of e ≡ first_cause (of_lane (state m) l.number []) → IsErrAnd r (λ d. d ≡ e)
       → Does (on_state op) m (answer_of r) m
   unfolding causes
-  delete-lane e r q h = refuses m op k.sound e r (lane-stops {T = List ℕ} (state m) l.number _ e (Err e) q refl) h
+  delete-lane e r q h = cause-refuses m op k.sound e r (lane-stops {T = List ℕ} (state m) l.number _ e (Err e) q refl) h
 
   -- none of them does
   module _ (lane : 0 ≡ first_cause (of_lane (state m) l.number [])) (b : Bool) (eb : b ≡ wrong_code c) where
     pub delete-far : b ≡ true → Does (on_state op) m (answer_of (Err OutOfRange)) m
     unfolding causes first_cause
-    delete-far t = refuses m op k.sound OutOfRange (Err OutOfRange) (sym (after-lane (state m) l.number lane others ∙ rw (sym eb ∙ t))) refl
+    delete-far t = cause-refuses m op k.sound OutOfRange (Err OutOfRange) (sym (after-lane (state m) l.number lane others ∙ rw (sym eb ∙ t))) refl
 
     module _ (t : b ≡ false) (o : Option Found) (eo : o ≡ found (search_words (sizes_of l.sizes) m c)) where
       pub delete-missing : o ≡ None → (r : Result (List ℕ) Cause) → IsErrAnd r (λ d. d ≡ CodeMissing) → Does (on_state op) m (answer_of r) m
       unfolding causes first_cause
       delete-missing q r h =
           let absent = none-found m l.sizes (table-of-lane m l k) c o eo q in
-          refuses m op k.sound CodeMissing r (sym (after-lane (state m) l.number lane others ∙ rw (sym eb ∙ t, absent))) h
+          cause-refuses m op k.sound CodeMissing r (sym (after-lane (state m) l.number lane others ∙ rw (sym eb ∙ t, absent))) h
 
       module _ (f : Found) (q : o ≡ Some f) where
         ef : f ≡ search_words (sizes_of l.sizes) m c

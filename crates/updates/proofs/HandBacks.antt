@@ -28,7 +28,7 @@ use Rattle.access.specs.Causes.{number_of, answer_of}
 use Rattle.access.specs.Contract.{Does}
 use Rattle.access.specs.Lanes.{Named, LaneIn}
 use Rattle.access.specs.TableSizes.{TableIn}
-use Rattle.access.proofs.Ways.{refuses, performs, passed, shown, well_formed}
+use Rattle.access.proofs.Ways.{cause-refuses, performs, passed, shown, well_formed}
 use Rattle.access.proofs.Refusals.{lane-stops}
 use Rattle.access.proofs.TableReads.{table-of-lane}
 use Rattle.updates.specs.UpdateStores.{QueueIn, NoneIn, handed_from, ReclaimedAt, Reclaimed}
@@ -119,7 +119,7 @@ module _ (m : List ℕ) (l : Lane) (k : Named m l) where
   pub hand-back-lane : (e : Cause) (r : Result (List ℕ) Cause) → number_of e ≡ first_cause (of_lane (state m) l.number []) → IsErrAnd r (λ d. d ≡ e)
       → Does (on_state op) m (answer_of r) m
   unfolding causes
-  hand-back-lane e r q h = refuses m op k.sound e r (lane-stops {T = List ℕ} (state m) l.number _ e (Err e) q refl) h
+  hand-back-lane e r q h = cause-refuses m op k.sound e r (lane-stops {T = List ℕ} (state m) l.number _ e (Err e) q refl) h
 
   -- none of them does
   module _ (clear : 0 ≡ first_cause (of_lane (state m) l.number [])) (within : LaneIn m l) (ends : ℕ)
@@ -141,7 +141,7 @@ module _ (m : List ℕ) (l : Lane) (k : Named m l) where
             let none : NoneIn m (sizes_of l.sizes) ends n = subst (λ (x : Option ℕ). Reclaimed m (sizes_of l.sizes) ends x n) e u in
             let empty = sym (handed-empty (state m) l.number) ∙ queue-none m l.sizes in_table q (named m l within) ends ee none.empty in
             subst (Does (on_state op) m (answer_of r)) (sym none.memory)
-            (refuses m op k.sound NothingDone r (sym (after-lane (state m) l.number clear others ∙ rw empty)) h)
+            (cause-refuses m op k.sound NothingDone r (sym (after-lane (state m) l.number clear others ∙ rw empty)) h)
 
         module _ (i : ℕ) (e : o ≡ Some i) where
           f : ReclaimedAt m (sizes_of l.sizes) ends i n

@@ -5,12 +5,12 @@ use borrow.Author.Rules.{rules}
 use Rattle.lanes.specs.declared.LaneRecord.{LaneRecord}
 use Rattle.lanes.specs.Record.{counted_record}
 use Rattle.lanes.specs.RecordChanges.{changed_at}
-use Rattle.access.proofs.Ways.{refuses}
+use Rattle.access.proofs.Ways.{cause-refuses}
 use Rattle.readers.proofs.Passes.{pass-place, pass-done}
 use Rattle.readers.proofs.pass.Goals as goal
 
 pub returns-in_err-kind : goal.returns-in_err-kind
-returns-in_err-kind c = refuses _ _ c.requires.sound _ _ c.in_err-kind.ensures.cause c.from_residual.ensures.1
+returns-in_err-kind c = cause-refuses _ _ c.requires.sound _ _ c.in_err-kind.ensures.cause c.from_residual.ensures.1
 
 pub change-requires : goal.change-requires
 change-requires c = (pass-place _ _ c.in_ok-kind.ensures.lane _ c.place.ensures, search rules)

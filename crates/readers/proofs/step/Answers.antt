@@ -1,13 +1,13 @@
 -- A refused step changes no word; else the lookup goes on (`step-going`) or is put to rest (`step-ended`).
 use mathlib.Core.Path.{sym, ap, ◌∙◌}
 use Rattle.chains.specs.Outcome.{outcome_of}
-use Rattle.access.proofs.Ways.{refuses}
+use Rattle.access.proofs.Ways.{cause-refuses}
 use Rattle.readers.proofs.StepLaws.{not-going, step-going, step-ended}
 use Rattle.readers.proofs.step.Goals.{in-Going, in_default}
 use Rattle.readers.proofs.step.Goals as goal
 
 pub returns-in_err-check_step : goal.returns-in_err-check_step
-returns-in_err-check_step c = refuses _ _ c.requires.sound _ _ c.in_err-check_step.ensures.cause c.from_residual.ensures.1
+returns-in_err-check_step c = cause-refuses _ _ c.requires.sound _ _ c.in_err-check_step.ensures.cause c.from_residual.ensures.1
 
 pub go_on-requires : goal.go_on-requires
 unfolding outcome_of
