@@ -14,7 +14,7 @@ use listing_text::Line;
 pub const LONGEST: usize = 55;
 
 // How far a block has been answered: the line that has begun and not ended, if there is one, and the bytes that follow.
-#[derive(Drop)]
+#[derive(Clone, Copy)]
 pub struct Place<'a> {
     pub unended: Option<Line>,
     pub rest: &'a [u8],
@@ -76,7 +76,8 @@ pub fn answer_block<'a, const N: usize>(
 ) -> Place<'a>
     ensures { GoesThrough N m.old out.old.items place.entry m.new out.new.items result }
 {
-    let mut at = place;
+    let Place { unended, rest } = place;
+    let mut at = Place { unended, rest };
     while !at.rest.is_empty() && out.remaining_capacity() >= LONGEST {
         at = answer_part(m, at, out);
     }

@@ -6,7 +6,7 @@ use mathlib.Core.Logic.{◌⊎◌, inl, inr}
 use mathlib.Core.Path.{◌≡◌, refl, sym, ap, ◌∙◌}
 use native.Mathlib.Decide.{dec_lt}
 use native.Mathlib.Omega.{arith}
-use lib.ListN.{length, length-append}
+use lib.ListN.{length, get_or, length-append}
 use lib.Dec.{leb, eqb}
 use borrow.Author.Tests.{lt-ltb, le-ltb, leb-true, eqb-true}
 use Rattle.std.specs.Prelude.{None, Some}
@@ -154,3 +154,17 @@ name-long (b ∷ w) p h k = go (dec_lt (length p) 7) (name-long w (p ++ b ∷ []
         → grown_all (naming p) (b ∷ w) ≡ Bad
     go (yes j) ih = rw (lt-ltb (length p) 7 j) (ih (simp length-append (omega arith)) (simp length-append (omega arith)))
     go (no j) ih = rw (le-ltb (length p) 7 (omega arith)) (grown_all-bad w)
+
+-- ---- a name by its bytes
+
+pub seven_bytes : {a b c d e f g : ℕ} (w : List ℕ) → length w ≡ 7 → get_or w 0 0 ≡ a → get_or w 1 0 ≡ b → get_or w 2 0 ≡ c → get_or w 3 0 ≡ d
+    → get_or w 4 0 ≡ e → get_or w 5 0 ≡ f → get_or w 6 0 ≡ g → w ≡ a ∷ b ∷ c ∷ d ∷ e ∷ f ∷ g ∷ []
+seven_bytes (a ∷ b ∷ c ∷ d ∷ e ∷ f ∷ g ∷ []) h p q r s t u v = cc
+seven_bytes (a ∷ b ∷ c ∷ d ∷ e ∷ f ∷ g ∷ x ∷ w) h p q r s t u v = absurd (omega arith)
+seven_bytes (a ∷ b ∷ c ∷ d ∷ e ∷ f ∷ []) h p q r s t u v = absurd (omega arith)
+seven_bytes (a ∷ b ∷ c ∷ d ∷ e ∷ []) h p q r s t u v = absurd (omega arith)
+seven_bytes (a ∷ b ∷ c ∷ d ∷ []) h p q r s t u v = absurd (omega arith)
+seven_bytes (a ∷ b ∷ c ∷ []) h p q r s t u v = absurd (omega arith)
+seven_bytes (a ∷ b ∷ []) h p q r s t u v = absurd (omega arith)
+seven_bytes (a ∷ []) h p q r s t u v = absurd (omega arith)
+seven_bytes [] h p q r s t u v = absurd (omega arith)

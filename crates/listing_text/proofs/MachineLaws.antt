@@ -9,7 +9,6 @@ use lib.Dec.{ltb}
 use borrow.Author.Tests.{lt-ltb, le-ltb, eq-eqb, ne_eqb}
 use Rattle.std.specs.Prelude.{None, Some, SomeIff}
 use Rattle.std.specs.declared.option.Option.{Option}
-use Rattle.arrayvec.specs.ArrayVec.{ArrayVec}
 use Rattle.model.specs.Digits.{is_digit}
 use Rattle.listing_text.specs.Call.{bad}
 use Rattle.listing_text.specs.Machine.{naming, started, arguing, so_far, with_digit, grown, argued, ended, fed, fed_all, requested}
@@ -41,25 +40,25 @@ module _ (v : Option ℕ) (b : ℕ) where
 
 -- ---- the end of an argument
 
-module _ (c : Command) (vs : ArrayVec ℕ) (n : ℕ) where
-  pub argued-more : (vs' : ArrayVec ℕ) → length vs.items < 4 → vs'.items ≡ vs.items ++ n ∷ [] → Arguing c vs' None ≡ argued c vs n
+module _ (c : Command) (vs : List ℕ) (n : ℕ) where
+  pub argued-more : (vs' : List ℕ) → length vs < 4 → vs' ≡ vs ++ n ∷ [] → Arguing c vs' None ≡ argued c vs n
   unfolding argued
-  argued-more vs' h e = rw (lt-ltb (length vs.items) 4 h) (ap (λ (xs : List ℕ). arguing c xs None) e)
+  argued-more vs' h e = rw (lt-ltb (length vs) 4 h) (ap (λ (xs : List ℕ). arguing c xs None) e)
 
-  pub argued-full : 4 ≤ length vs.items → Bad ≡ argued c vs n
+  pub argued-full : 4 ≤ length vs → Bad ≡ argued c vs n
   unfolding argued
-  argued-full h = rw (le-ltb (length vs.items) 4 h)
+  argued-full h = rw (le-ltb (length vs) 4 h)
 
 -- ---- a byte of a word, and the end of one
 
 module _ (b : ℕ) where
-  pub grown-letter : (w w' : ArrayVec ℕ) → length w.items < 7 → w'.items ≡ w.items ++ b ∷ [] → Naming w' ≡ grown (Naming w) b
+  pub grown-letter : (w w' : List ℕ) → length w < 7 → w' ≡ w ++ b ∷ [] → Naming w' ≡ grown (Naming w) b
   unfolding grown
-  grown-letter w w' h e = rw (lt-ltb (length w.items) 7 h) (ap naming e)
+  grown-letter w w' h e = rw (lt-ltb (length w) 7 h) (ap naming e)
 
-  pub grown-long : (w : ArrayVec ℕ) → 7 ≤ length w.items → Bad ≡ grown (Naming w) b
+  pub grown-long : (w : List ℕ) → 7 ≤ length w → Bad ≡ grown (Naming w) b
   unfolding grown
-  grown-long w h = rw (le-ltb (length w.items) 7 h)
+  grown-long w h = rw (le-ltb (length w) 7 h)
 
 module _ (l : Line) (b : ℕ) where
   pub fed-space : b ≡ 32 → fed l b ≡ ended l

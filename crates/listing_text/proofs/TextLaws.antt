@@ -7,20 +7,15 @@ use lib.ListN.{get_or, length-append}
 use Rattle.std.specs.Fmt as std
 use Rattle.model.specs.Digits.{bytes}
 use Rattle.listing_text.specs.Number.{space, newline, decimal}
-use Rattle.listing_text.specs.Answer.{word_length, line_length, bad_length, word_text, line_text, answer_of, bad_text, Puts}
-use Rattle.listing_text.proofs.NumberLaws.{decimal-same, decimal-length}
+use Rattle.listing_text.specs.Answer.{number_length, word_length, line_length, bad_length, word_text, line_text, answer_of, bad_text, Puts}
+use Rattle.listing_text.proofs.NumberLaws.{decimal_digit, decimal-same, decimal-length}
 
--- the digits of a number, and then a byte
-pub puts_word : {xs ys zs : List ℕ} (n after : ℕ) → n < 2 ^ 32 → ys ≡ xs ++ std.decimal n → zs ≡ ys ++ after ∷ []
-    → Puts word_length xs (word_text n after) zs
-puts_word {xs} n after h e f =
-    record {
-      text =
-          f
-          ∙ ap (λ (l : List ℕ). l ++ after ∷ []) (e ∙ ap (λ (l : List ℕ). xs ++ l) (decimal-same n (omega arith)))
-          ∙ append_assoc xs (decimal n) (after ∷ []);
-      short = simp length-append (omega (arith, decimal-length n h));
-    }
+-- the digits of a number: one, or those of the library
+pub puts_digit : {xs ys : List ℕ} (n : ℕ) → n < 10 → ys ≡ xs ++ (n + 48) ∷ [] → Puts number_length xs (decimal n) ys
+puts_digit {xs} n h e = rw (decimal_digit n h) (record { text = e; short = omega arith })
+
+pub puts_number : {xs ys : List ℕ} (n : ℕ) → n < 2 ^ 32 → ys ≡ xs ++ std.decimal n → Puts number_length xs (decimal n) ys
+puts_number {xs} n h e = record { text = e ∙ ap (λ (l : List ℕ). xs ++ l) (decimal-same n (omega arith)); short = decimal-length n h }
 
 -- a text after another
 puts_then : {j k : ℕ} {xs s ys t zs : List ℕ} → Puts j xs s ys → Puts k ys t zs → Puts (j + k) xs (s ++ t) zs
@@ -29,6 +24,12 @@ puts_then {j} {k} {xs} {s} {ys} {t} p q =
       text = q.text ∙ ap (λ (l : List ℕ). l ++ t) p.text ∙ append_assoc xs s t;
       short = simp length-append (omega (arith, p.short, q.short));
     }
+
+-- a number, and then a byte
+pub puts_word : {xs ys zs : List ℕ} (n after : ℕ) → Puts number_length xs (decimal n) ys → zs ≡ ys ++ after ∷ [] → Puts word_length xs (word_text n after) zs
+puts_word {xs} {ys} {zs} n after p e =
+    let q : Puts 1 ys (after ∷ []) zs = record { text = e; short = omega arith } in
+    puts_then p q
 
 -- the five numbers of an answer
 pub puts-answer : {xs ys₁ ys₂ ys₃ ys₄ ys₅ : List ℕ} (a : List ℕ)

@@ -4,9 +4,12 @@ use Rattle.model.specs.Rules.{Answer}
 use Rattle.model.specs.Digits.{bytes}
 use Rattle.listing_text.specs.Number.{space, newline, decimal}
 
--- the most bytes that a number of 32 bits takes with the byte after it, ten digits and one; that five of them take; and that bad takes with its newline
+-- the most bytes that a number of 32 bits takes, and with the byte after it; that five of them take; and that bad takes with its newline
+abbrev pub number_length : ℕ
+number_length = 10
+
 abbrev pub word_length : ℕ
-word_length = 10 + 1
+word_length = number_length + 1
 
 abbrev pub line_length : ℕ
 line_length = 5 * word_length

@@ -2,7 +2,6 @@
 -- proofs/LineLaws.antt), so nothing here needs to be believed.
 use Rattle.std.specs.Prelude.{ℕ, ◌+◌, ◌*◌, cond, List, [], ◌∷◌, ◌++◌, length, ltb, eqb, None, Some}
 use Rattle.std.specs.declared.option.Option.{Option}
-use Rattle.arrayvec.specs.ArrayVec.{ArrayVec}
 use Rattle.std.specs.List.{find, fold}
 use Rattle.std.specs.Option.{unwrap_or}
 use Rattle.std.specs.Str.{bytes_eq}
@@ -49,7 +48,7 @@ named w = find (λ c. bytes_eq w (name_of c)) all_commands
 
 -- a line whose first word is w so far
 abbrev pub naming : List ℕ → Line
-naming w = Naming (record { items = w })
+naming w = Naming w
 
 -- nothing read
 abbrev pub started : Line
@@ -57,7 +56,7 @@ started = naming []
 
 -- the command c, the arguments vs, and one of value v so far, or none yet
 abbrev pub arguing : named-command.Command → List ℕ → Option ℕ → Line
-arguing c vs v = Arguing c (record { items = vs }) v
+arguing c vs v = Arguing c vs v
 
 -- ---- steps
 
@@ -77,19 +76,19 @@ with_digit v b =
     let n = so_far v * ten + digit_of b in
     cond (is_digit b) (cond (ltb n code) (Some n) None) None
 
-abbrev pub counted : named-command.Command → ArrayVec ℕ → Option ℕ → Line
+abbrev pub counted : named-command.Command → List ℕ → Option ℕ → Line
 counted c vs None = Bad
 counted c vs (Some n) = Arguing c vs (Some n)
 
 -- a byte that is no space
 unfoldable pub grown : Line → ℕ → Line
 grown Bad b = Bad
-grown (Naming w) b = cond (ltb (length w.items) letters) (naming (w.items ++ b ∷ [])) Bad
+grown (Naming w) b = cond (ltb (length w) letters) (naming (w ++ b ∷ [])) Bad
 grown (Arguing c vs v) b = counted c vs (with_digit v b)
 
 -- the end of an argument
-unfoldable pub argued : named-command.Command → ArrayVec ℕ → ℕ → Line
-argued c vs n = cond (ltb (length vs.items) room) (arguing c (vs.items ++ n ∷ []) None) Bad
+unfoldable pub argued : named-command.Command → List ℕ → ℕ → Line
+argued c vs n = cond (ltb (length vs) room) (arguing c (vs ++ n ∷ []) None) Bad
 
 abbrev pub begun : Option named-command.Command → Line
 begun None = Bad
@@ -98,7 +97,7 @@ begun (Some c) = arguing c [] None
 -- the end of a word
 unfoldable pub ended : Line → Line
 ended Bad = Bad
-ended (Naming w) = begun (named w.items)
+ended (Naming w) = begun (named w)
 ended (Arguing c vs None) = Bad
 ended (Arguing c vs (Some n)) = argued c vs n
 
@@ -115,7 +114,7 @@ fed_all l bs = fold fed l bs
 unfoldable pub requested : Line → Parsed
 requested Bad = bad
 requested (Naming w) = bad
-requested (Arguing c vs v) = asked (entry c) vs.items
+requested (Arguing c vs v) = asked (entry c) vs
 
 unfoldable pub finished : Line → Parsed
 finished l = requested (ended l)

@@ -1,20 +1,33 @@
 // The text of an answer, put at the end of a text: five numbers and a newline, or bad.
 ghost use Rattle.std.specs.Prelude.{◌≡◌, ◌+◌, ◌≤◌, ◌++◌};
 ghost use Rattle.arrayvec.specs.ArrayVec.{array_vec_len};
-ghost use Rattle.listing_text.specs.Answer.{word_length, line_length, bad_length, answer_of, word_text, line_text, bad_text, Puts};
+ghost use Rattle.listing_text.specs.Number.{decimal};
+ghost use Rattle.listing_text.specs.Answer.{number_length, word_length, line_length, bad_length, answer_of, word_text, line_text, bad_text, Puts};
 
 use crate::{NEWLINE, SPACE};
 use arrayvec::ArrayVec;
 use itoa::Buffer;
 
-// A number and the byte that follows it. There is room, so all digits are put.
+// The digits of a number. There is room, so all of them are put; one alone, as most are, needs no buffer.
 // Stays: that there is room is a premise here and below, since a const parameter carries no fact.
+fn put_number<const N: usize>(out: &mut ArrayVec<u8, N>, n: u32)
+    requires { array_vec_len out.old + number_length ≤ N }
+    ensures { Puts number_length out.old.items (decimal n) out.new.items }
+{
+    if n < 10 {
+        out.push(n as u8 + b'0');
+        return;
+    }
+    let mut digits = Buffer::new();
+    let _ = out.try_extend_from_slice(digits.format(n).as_bytes());
+}
+
+// A number and the byte that follows it.
 fn put_word<const N: usize>(out: &mut ArrayVec<u8, N>, n: u32, after: u8)
     requires { array_vec_len out.old + word_length ≤ N }
     ensures { Puts word_length out.old.items (word_text n after) out.new.items }
 {
-    let mut digits = Buffer::new();
-    let _ = out.try_extend_from_slice(digits.format(n).as_bytes());
+    put_number(out, n);
     out.push(after);
 }
 

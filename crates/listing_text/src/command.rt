@@ -138,60 +138,28 @@ fn alone(arguments: &[u64], op: Op) -> Option<Call>
     }
 }
 
-// The first of the commands that has the name.
-fn first_named(commands: &[Command], name: &[u8]) -> Option<Command>
-    ensures { result ≡ find (λ c. bytes_eq name.now (name_of c)) commands.now }
-{
-    commands
-        .iter()
-        .find(|command| name == command.name())
-        .copied()
-}
-
 impl Command {
-    const ALL: [Command; 14] = [
-        Command::SetUp,
-        Command::Add,
-        Command::Replace,
-        Command::Delete,
-        Command::Begin,
-        Command::End,
-        Command::Start,
-        Command::Step,
-        Command::Pass,
-        Command::Clock,
-        Command::On,
-        Command::Off,
-        Command::HandBack,
-        Command::Awaited,
-    ];
-
-    fn name(self) -> &'static [u8]
-        ensures { result.now ≡ name_of self }
-    {
-        match self {
-            Command::SetUp => b"setup",
-            Command::Add => b"add",
-            Command::Replace => b"rep",
-            Command::Delete => b"del",
-            Command::Begin => b"begin",
-            Command::End => b"end",
-            Command::Start => b"start",
-            Command::Step => b"step",
-            Command::Pass => b"pass",
-            Command::Clock => b"clock",
-            Command::On => b"on",
-            Command::Off => b"off",
-            Command::HandBack => b"back",
-            Command::Awaited => b"awaited",
-        }
-    }
-
     // The command of a name.
     pub(crate) fn named(name: &[u8]) -> Option<Command>
         ensures { result ≡ named name.now }
     {
-        first_named(&Command::ALL, name)
+        match name {
+            b"setup" => Some(Command::SetUp),
+            b"add" => Some(Command::Add),
+            b"rep" => Some(Command::Replace),
+            b"del" => Some(Command::Delete),
+            b"begin" => Some(Command::Begin),
+            b"end" => Some(Command::End),
+            b"start" => Some(Command::Start),
+            b"step" => Some(Command::Step),
+            b"pass" => Some(Command::Pass),
+            b"clock" => Some(Command::Clock),
+            b"on" => Some(Command::On),
+            b"off" => Some(Command::Off),
+            b"back" => Some(Command::HandBack),
+            b"awaited" => Some(Command::Awaited),
+            _ => None,
+        }
     }
 
     // The call that the command asks for with its arguments.

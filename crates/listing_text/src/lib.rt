@@ -4,10 +4,12 @@
 mod answer;
 mod command;
 mod line;
+mod short;
 
 pub use answer::{put_answer, put_bad};
 pub use command::Command;
 pub use line::{Fed, Line};
+pub use short::{Blank, Short};
 
 const SPACE: u8 = b' ';
 

@@ -1,11 +1,11 @@
 // A line of a listing: what has been read of it so far, by value, and what it asks for at its end.
 ghost use Rattle.std.specs.Prelude.{◌≡◌, []};
-ghost use Rattle.listing_text.specs.Machine.{with_digit, argued, ended, grown, fed_all};
+ghost use Rattle.listing_text.specs.Machine.{with_digit, ended, grown, fed, fed_all};
 ghost use Rattle.listing_text.specs.LineReading.{Reads, Feeds, Finishes, BlockFeeds};
 
 use crate::command::Command;
+use crate::short::Short;
 use crate::{NEWLINE, SPACE};
-use arrayvec::ArrayVec;
 use calls::Call;
 
 // The most letters that a command has, and arguments that a line has room for.
@@ -17,18 +17,18 @@ const ROOM: usize = 4;
 const BASE: u64 = 10;
 
 // What has been read of a line.
-#[derive(Drop)]
+#[derive(Clone, Copy)]
 pub enum Line {
     // Whatever follows, the line is bad.
     Bad,
     // The bytes of its first word.
-    Naming(ArrayVec<u8, LETTERS>),
+    Naming(Short<u8, LETTERS>),
     // A command, the arguments that have ended, and the value of the one that is being read, once it has a digit.
-    Arguing(Command, ArrayVec<u64, ROOM>, Option<u64>),
+    Arguing(Command, Short<u64, ROOM>, Option<u64>),
 }
 
 // A part of a block, fed: the line, and what follows the newline that ended it.
-#[derive(Drop)]
+#[derive(Clone, Copy)]
 pub struct Fed<'a> {
     pub line: Line,
     pub rest: Option<&'a [u8]>,
@@ -53,25 +53,16 @@ impl Line {
     pub fn new() -> Line
         ensures { Reads result [] }
     {
-        Line::Naming(ArrayVec::new())
+        Line::Naming(Short::new())
     }
 
     // One byte more of a line. The newline is no part of it.
     pub fn feed(self, byte: u8) -> Line
         ensures { Feeds self byte result }
     {
-        if byte == SPACE {
-            self.end_word()
-        } else {
-            self.grow_word(byte)
-        }
-    }
-
-    // Several bytes more, none of them a newline.
-    fn feed_all(self, bytes: &[u8]) -> Line
-        ensures { result ≡ fed_all self bytes.now }
-    {
-        bytes.iter().fold(self, |line, byte| line.feed(*byte))
+        let mut line = self;
+        line.read(byte);
+        line
     }
 
     // The bytes of a block up to its first newline or its end.
@@ -94,54 +85,71 @@ impl Line {
     pub fn finish(self) -> Option<Call>
         ensures { Finishes self result }
     {
-        match self.end_word() {
+        let mut line = self;
+        line.end_word();
+        match line {
             Line::Arguing(command, arguments, _) => command.call(arguments.as_slice()),
             Line::Bad => None,
             Line::Naming(_) => None,
         }
     }
 
+    // Several bytes more, none of them a newline.
+    fn feed_all(self, bytes: &[u8]) -> Line
+        ensures { result ≡ fed_all self bytes.now }
+    {
+        let mut line = self;
+        for byte in bytes {
+            line.read(*byte);
+        }
+        line
+    }
+
+    // One byte more, in place: a line has as many words as six numbers, and a listing is millions of bytes.
+    fn read(&mut self, byte: u8)
+        ensures { self.new ≡ fed self.old byte }
+    {
+        if byte == SPACE {
+            self.end_word();
+        } else {
+            self.grow_word(byte);
+        }
+    }
+
     // A byte that is no space.
-    fn grow_word(self, byte: u8) -> Line
-        ensures { result ≡ grown self byte }
+    fn grow_word(&mut self, byte: u8)
+        ensures { self.new ≡ grown self.old byte }
     {
         match self {
-            Line::Bad => Line::Bad,
-            Line::Naming(mut letters) => match letters.try_push(byte) {
-                Ok(()) => Line::Naming(letters),
-                Err(_) => Line::Bad,
-            },
-            Line::Arguing(command, arguments, value) => match with_digit(value, byte) {
-                Some(more) => Line::Arguing(command, arguments, Some(more)),
-                None => Line::Bad,
+            Line::Bad => {}
+            Line::Naming(letters) => {
+                if !letters.try_push(byte) {
+                    *self = Line::Bad;
+                }
+            }
+            Line::Arguing(_, _, value) => match with_digit(*value, byte) {
+                Some(more) => *value = Some(more),
+                None => *self = Line::Bad,
             },
         }
     }
 
     // The end of a word, at a space or at the end of the line.
-    fn end_word(self) -> Line
-        ensures { result ≡ ended self }
+    fn end_word(&mut self)
+        ensures { self.new ≡ ended self.old }
     {
         match self {
-            Line::Bad => Line::Bad,
-            Line::Naming(letters) => match Command::named(letters.as_slice()) {
-                Some(command) => Line::Arguing(command, ArrayVec::new(), None),
-                None => Line::Bad,
-            },
-            Line::Arguing(command, arguments, value) => match value {
-                Some(value) => end_argument(command, arguments, value),
-                None => Line::Bad,
+            Line::Bad => {}
+            Line::Naming(letters) => {
+                *self = match Command::named(letters.as_slice()) {
+                    Some(command) => Line::Arguing(command, Short::new(), None),
+                    None => Line::Bad,
+                };
+            }
+            Line::Arguing(_, arguments, value) => match *value {
+                Some(ended) if arguments.try_push(ended) => *value = None,
+                _ => *self = Line::Bad,
             },
         }
-    }
-}
-
-// The end of an argument, which the line has room for or not.
-fn end_argument(command: Command, mut arguments: ArrayVec<u64, ROOM>, value: u64) -> Line
-    ensures { result ≡ argued command arguments value }
-{
-    match arguments.try_push(value) {
-        Ok(()) => Line::Arguing(command, arguments, None),
-        Err(_) => Line::Bad,
     }
 }

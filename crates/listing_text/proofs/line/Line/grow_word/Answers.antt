@@ -8,12 +8,11 @@ pub returns-in-Bad : goal.returns-in-Bad
 unfolding grown
 returns-in-Bad c = rw c.in-Bad.is refl
 
-pub returns-in-Ok : goal.returns-in-Ok
-unfolding grown
-returns-in-Ok c = rw c.in-Naming.is (search (rules, grown-letter))
+pub returns-then-not-try_push : goal.returns-then-not-try_push
+returns-then-not-try_push c = rw c.in-Naming.is (search (rules, grown-long))
 
-pub returns-in-Err : goal.returns-in-Err
-returns-in-Err c = rw c.in-Naming.is (search (rules, grown-long))
+pub returns-else-not-try_push : goal.returns-else-not-try_push
+returns-else-not-try_push c = rw c.in-Naming.is (search (rules, grown-letter))
 
 pub returns-in-Some : goal.returns-in-Some
 unfolding grown
