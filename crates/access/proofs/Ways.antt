@@ -8,10 +8,10 @@ use lib.ListN.{length}
 use Rattle.std.specs.Prelude.{Result, Err}
 use Rattle.std.specs.Result.{IsErrAnd}
 use Rattle.std.proofs.lemmas.Result.{err_from_is_err_and}
-use borrow.Author.Tests.{not-true, not-false}
+use borrow.Author.Tests.{not-true}
 use Rattle.model.specs.Layout.{total}
 use Rattle.model.specs.Rules.{Op, refused, refusal, answer, answer_of as answer_by, next, next_of, result, performed}
-use Rattle.model.specs.Memory.{Words, sizes, state}
+use Rattle.model.specs.Memory.{sizes, state}
 use Rattle.model.specs.Legal.{legal}
 use Rattle.model.specs.Calls.{on_state, stored}
 use Rattle.representation.proofs.Sentences.Facts.{SizesFit}

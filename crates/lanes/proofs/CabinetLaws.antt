@@ -1,6 +1,5 @@
 -- Laws of a cabinet's work: what is done to the cabinet's part, put back in its place, is done to the whole memory at the lane's address.
 use Rattle.std.proofs.Common.{◌≡◌, ℕ, zero, suc, ◌+◌, ◌-◌, ◌*◌, ◌<◌, ◌≤◌, List, ◌∷◌, ◌++◌, map, take, drop, sym, refl, ap, subst, ◌∙◌, ap₂, mul-le-mul_right, mod-lt, suc-mul, div-lt_iff_lt-mul, div-add-mod', arith}
-use lib.Arith.{digits_div, digits_mod}
 use Rattle.model.specs.Lists.{from, mask}
 use Rattle.model.specs.State.{Sizes, cabinet_count}
 use Rattle.model.specs.Layout.{lane_length, lane_address, online_bit}

@@ -13,8 +13,6 @@ use Rattle.masks.proofs.BitLaws.{with_bit-mask, without_bit-mask}
 use Rattle.lanes.proofs.Offsets.{plus-after}
 use Rattle.lanes.specs.Record.{queue_at, queue_words, lookup_words_at, lookup_words, record_at, record_with, record_words, record_length}
 use Rattle.lanes.specs.Record.{record_stored, record_of, with_snapshot, counted_record, sampled_record, dropped_record, offline_record}
-use Rattle.lanes.specs.declared.Queue.{Queue}
-use Rattle.lanes.specs.declared.Lookup.{Lookup}
 use Rattle.lanes.specs.declared.LaneRecord.{LaneRecord}
 
 -- ---- the words of a record

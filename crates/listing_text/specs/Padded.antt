@@ -1,7 +1,7 @@
 -- A list in cells of a fixed number: the first are the list, and the others are blank, so that the cells say no more than the list.
 use Prim.Native.Nat.{ℕ, ◌+◌, ◌-◌, ◌≤◌, ◌<◌}
 use mathlib.Core.List.{List, ◌++◌}
-use mathlib.Core.Path.{◌≡◌, refl, sym, ap, ◌∙◌}
+use mathlib.Core.Path.{◌≡◌, sym, ap, ◌∙◌}
 use native.Mathlib.Omega.{arith}
 use lib.ListN.{length, take, drop, set, replicate, length-set}
 use lib.Seq.{drop-drop}
@@ -31,9 +31,9 @@ module _ {T : Type 0} {N : ℕ} {blank : T} {cells : List T} {n : ℕ} (p : Padd
     fits = omega (arith, h);
     count = length-set cells n x ∙ p.count;
     rest =
-      drop-set-lt (n + 1) cells n x (omega arith)
-      ∙ sym (drop-drop 1 n cells)
-      ∙ ap (drop 1) p.rest
-      ∙ drop-replicate 1 (N - n) blank
-      ∙ ap (λ (k : ℕ). replicate k blank) (omega arith);
+        drop-set-lt (n + 1) cells n x (omega arith)
+        ∙ sym (drop-drop 1 n cells)
+        ∙ ap (drop 1) p.rest
+        ∙ drop-replicate 1 (N - n) blank
+        ∙ ap (λ (k : ℕ). replicate k blank) (omega arith);
   }

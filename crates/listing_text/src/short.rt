@@ -1,5 +1,5 @@
 // A list of at most N elements, in the value itself, so that what holds one can be copied as a number is.
-ghost use Rattle.std.specs.Prelude.{◌≡◌, ◌<◌, ◌↔◌, ◌++◌, [], ◌∷◌, length, true, cond};
+ghost use Rattle.std.specs.Prelude.{◌≡◌, ◌<◌, ◌↔◌, ◌++◌, ⊤, [], ◌∷◌, length, true, cond};
 
 use std::alloc::AllocError;
 use std::marker::Model;
@@ -37,6 +37,8 @@ impl<T: Blank, const N: usize> Copy for Short<T, N> {}
 
 impl<T: Blank, const N: usize> Clone for Short<T, N> {
     ghost is_clone = { λ a b. a ≡ b };
+
+    ghost is_infallible = { λ _. ⊤ };
 
     fn clone(&self) -> Result<Self, AllocError> {
         Ok(*self)
