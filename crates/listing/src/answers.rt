@@ -76,6 +76,7 @@ pub fn answer_block<'a, const N: usize>(
 ) -> Place<'a>
     ensures { GoesThrough N m.old out.old.items place.entry m.new out.new.items result }
 {
+    // Taken apart: the check does not follow a copied loan to the function's end.
     let Place { unended, rest } = place;
     let mut at = Place { unended, rest };
     while !at.rest.is_empty() && out.remaining_capacity() >= LONGEST {

@@ -105,7 +105,7 @@ impl Line {
         line
     }
 
-    // One byte more, in place: a line has as many words as six numbers, and a listing is millions of bytes.
+    // One byte more, in place: to move the line at each byte costs more than to read it.
     fn read(&mut self, byte: u8)
         ensures { self.new ≡ fed self.old byte }
     {
