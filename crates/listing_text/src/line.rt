@@ -69,15 +69,19 @@ impl Line {
     pub fn feed_until_newline(self, block: &[u8]) -> Fed<'_>
         ensures { BlockFeeds self block.now result }
     {
+        let mut line = self;
         match block.iter().position(|byte| *byte == NEWLINE) {
-            Some(i) => Fed {
-                line: self.feed_all(&block[..i]),
-                rest: Some(&block[i + 1..]),
-            },
-            None => Fed {
-                line: self.feed_all(block),
-                rest: None,
-            },
+            Some(i) => {
+                line.feed_all(&block[..i]);
+                Fed {
+                    line,
+                    rest: Some(&block[i + 1..]),
+                }
+            }
+            None => {
+                line.feed_all(block);
+                Fed { line, rest: None }
+            }
         }
     }
 
@@ -85,24 +89,25 @@ impl Line {
     pub fn finish(self) -> Option<Call>
         ensures { Finishes self result }
     {
-        let mut line = self;
-        line.end_word();
-        match line {
-            Line::Arguing(command, arguments, _) => command.call(arguments.as_slice()),
+        match self {
             Line::Bad => None,
-            Line::Naming(_) => None,
+            Line::Naming(letters) => Command::named(letters.as_slice())?.call(&[]),
+            Line::Arguing(command, mut arguments, value) => {
+                if !arguments.try_push(value?) {
+                    return None;
+                }
+                command.call(arguments.as_slice())
+            }
         }
     }
 
     // Several bytes more, none of them a newline.
-    fn feed_all(self, bytes: &[u8]) -> Line
-        ensures { result ≡ fed_all self bytes.now }
+    fn feed_all(&mut self, bytes: &[u8])
+        ensures { self.new ≡ fed_all self.old bytes.now }
     {
-        let mut line = self;
         for byte in bytes {
-            line.read(*byte);
+            self.read(*byte);
         }
-        line
     }
 
     // One byte more, in place: to move the line at each byte costs more than to read it.
