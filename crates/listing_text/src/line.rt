@@ -85,7 +85,8 @@ impl Line {
         }
     }
 
-    // What the line asks for, if it is not bad: all of it has been fed.
+    // What the line asks for, if it is not bad: all of it has been fed. Its last word ends as in `end_word`.
+    // Stays: `end_word` is not called, since it would make a line anew for what is only read.
     pub fn finish(self) -> Option<Call>
         ensures { Finishes self result }
     {
